@@ -89,7 +89,7 @@ none_left (suc count) = omega (arith, count_cons sessions.is_orphan None (replic
 abbrev pub held_nothing : ℕ → ℕ → Held
 held_nothing slots next = record {
   objects = record { items = []; slots = slots; order = [] };
-  sessions = record { items = no_items; next = next; order = [] };
+  sessions = record { items = no_items; next = next; order = []; saved = [] };
 }
 
 pub settled_empty : (slots : SlotState) (count next : ℕ) → slots.started ≡ true → IsSlots slots → HoldsNothing slots → IsSettled slots (held_nothing count next)
@@ -108,6 +108,7 @@ settled_empty slots count next started sound empty =
           flag_false (is_active (place_at slots number)) (none_active slots.sessions number none),
         );
         next = λ some. absurd (true≢false (sym some ∙ none_saved 64));
+        rise = tt;
       };
       gap = omega (arith, ap (gap_from slots.counter) (none_oldest slots.sessions none), flag_most (loaded_count slots.sessions == LOADED_SESSIONS));
     }
@@ -135,7 +136,7 @@ stands_begun base (Some s) new reply count next same at_base answered b slots is
     }
 
 nothing_held : (held : Held) (slots next : ℕ) → held.objects ≡ record { items = []; slots = slots; order = [] }
-    → held.sessions ≡ record { items = no_items; next = next; order = [] } → held_nothing slots next ≡ held
+    → held.sessions ≡ record { items = no_items; next = next; order = []; saved = [] } → held_nothing slots next ≡ held
 nothing_held held slots next objects sessions = λ i. record { objects = sym objects i; sessions = sym sessions i }
 
 holds_nothing : (began : ℕ) (base : Option Persist) (old : Option SlotState) (reply : List ℕ) (new : Seen) (limit count next room : ℕ)
@@ -174,7 +175,7 @@ holds_nothing began base old reply new limit count next room same at_base answer
 pub holds_begun : (began : ℕ) (base : Option Persist) (old : Option SlotState) (reply : List ℕ) (new : Seen) (limit : ℕ) (held : Held) (room : ℕ)
     → is_some old ≡ is_some base → IsAtBase base old → Answered old startup_command new.state reply → new.base ≡ base → began ≤ new.faults → IsRight (asked_of new) (last_of new)
     → limit ≤ SILENT_LIMIT → held.objects ≡ record { items = []; slots = OBJECT_SLOTS; order = [] }
-    → held.sessions ≡ record { items = no_items; next = 0; order = [] } → Holds began new [] limit [] held 0 room None
+    → held.sessions ≡ record { items = no_items; next = 0; order = []; saved = [] } → Holds began new [] limit [] held 0 room None
 holds_begun began base old reply new limit held room same at_base answered base_same risen right most objects sessions =
     subst (λ (h : Held). Holds began new [] limit [] h 0 room None) (nothing_held held OBJECT_SLOTS 0 objects sessions)
     (holds_nothing began base old reply new limit OBJECT_SLOTS 0 room same at_base answered base_same risen right most refl)

@@ -41,7 +41,7 @@ two_sessions = Some (record { client = Some 0; handle = 0x03000000; saved = None
 abbrev pub held_with : List Item → List (Option sessions.Item) → Held
 held_with items first = record {
   objects = record { items = items; slots = 3; order = [] };
-  sessions = record { items = first ++ replicate (64 - length first) None; next = 0; order = [] };
+  sessions = record { items = first ++ replicate (64 - length first) None; next = 0; order = []; saved = [] };
 }
 
 -- a device with those two sessions, and the world of the one that is a client's

@@ -16,6 +16,7 @@ use Rattle.device_spec.specs.Answers.{IsRight, takes}
 use Rattle.device_spec.specs.Slots.{SlotState, Step, slot_step}
 use Rattle.device_port.specs.Device.{Answered, Seen, asked_of, last_of}
 use Rattle.device_port.specs.Own.{AsksSome, HasCause}
+use Rattle.device_port.specs.Use.{without_one}
 use Rattle.device_port.specs.declared.own.SwapError.{SwapError}
 use Rattle.client_laws.specs.Ready.{ends_session, is_sent, named_sessions, sent_for, starts_session, tells_object, tells_session}
 use Rattle.client_laws.proofs.Commands.{command_frame, command_makes, command_object, command_session}
@@ -24,18 +25,19 @@ use Rattle.client_laws.proofs.Steps.{looked_up}
 use Rattle.object_swap.specs.Items as objects
 use Rattle.object_swap.specs.Items.{Item, Names, ObjectsView, handle_in, item_at, item_object, new_item}
 use Rattle.session_swap.specs.Items as sessions
-use Rattle.session_swap.specs.Items.{SessionsView, gap_kept, is_loaded_item, is_user, item_of, loaded_items, saved_by_client}
+use Rattle.session_swap.specs.Items.{Rise, SessionsView, gap_kept, is_loaded_item, is_user, item_of, loaded_items, numbers_along, saved_by_client}
 use Rattle.session_swap.specs.declared.TheConstants.{RENEWAL_GAP}
 use Rattle.history_spec.specs.Table.{count_held, held_under, is_full, next_handle, put_least}
 use Rattle.world_spec.specs.World.{ClientState, client_step}
 use Rattle.session_swap.proofs.Counts.{is_false}
 use Rattle.session_swap.proofs.Moved.{stands_alike}
+use Rattle.session_swap.proofs.Rising.{rise_without}
 use Rattle.history_laws.proofs.Counts.{count_one}
 use Rattle.world_laws.proofs.Histories.{each-weaker}
 use Rattle.history_laws.proofs.Tables.{held_all, mapped}
 use Rattle.client_machine.specs.declared.held.Held.{Held}
 use Rattle.client_machine.specs.Costs.{SendsUpTo, StaysIn, new_bound, places_of, renewal_bound}
-use Rattle.client_machine.specs.Moves.{Adopts, AreTaken, CarriesOut, CountsOnBy, HasRoomFor, IsAtHand, IsCalm, IsPrepared, IsSent, IsTaken, KeepsOwners, MayAdopt, MayMove, MayStart, Moves, Prepares, Ran, Serves, StaysAs, StepsAs, UsesNamed, any_client, order_after, order_made, client_reply, first_handle, loads_kept, number_taken, other_than, pick_of, saved_number, saves_one, saves_session, sessions_held_after, told_handle, SentBefore}
+use Rattle.client_machine.specs.Moves.{Adopts, AreTaken, CarriesOut, CountsOnBy, HasRoomFor, IsAtHand, IsCalm, IsPrepared, IsSent, IsTaken, KeepsOwners, MayAdopt, MayMove, MayStart, Moves, Prepares, Ran, Serves, StaysAs, StepsAs, UsesNamed, any_client, order_after, order_made, client_reply, first_handle, loads_kept, number_taken, other_than, pick_of, saved_list_after, saved_number, saves_one, saves_session, sessions_held_after, told_handle, SentBefore}
 use Rattle.client_machine.specs.Settled.{AreBelow, Sequences, Settled, orphan_count}
 use Rattle.client_machine.specs.Tables.{AreOpenOwners, IsOpenOwner, IsPlaceOf, IsPlaced, IsTable, OwnedHandle, device_handle, handle_or, held_items, is_open, objects_in, owned_handles, place_object, slot_handle, table_with, tables_seen, with_owner}
 use Rattle.client_machine.proofs.Adopting.{adopted_count, adopted_held, adopted_item, adopted_length, adopted_loads, adopted_new, adopted_others, adopted_table}
@@ -397,24 +399,48 @@ done_some slots after new held new_held client table new_table a bytes reply is 
           (runs_same slots after one other held new_held client table new_table a bytes reply (some_same slots one was) (some_same after other now) runs).step least below;
     })
 
--- the same with other orders of use
-abbrev pub in_orders : Held → (used loaded : List ℕ) → Held
-in_orders held used loaded = record { objects = record held.objects { order = used }; sessions = record held.sessions { order = loaded } }
+unsaved : (saves success : Bool) → saves ≡ false → (saves && success) ≡ false
+unsaved true success none = absurd (let no = none in cc)
+unsaved false success none = refl
 
-settled_in : (state : Option SlotState) (held : Held) (used loaded : List ℕ) → Settled state held → Settled state (in_orders held used loaded)
-settled_in None held used loaded settled = tt
-settled_in (Some slots) held used loaded settled = record {
+-- where the numbers of contexts rise along the first list, they do along the second one
+abbrev pub KeepsRise : List ℕ → List ℕ → Type 0
+KeepsRise numbers new_numbers = (items : List (Option sessions.Item)) → Rise (numbers_along items numbers) → Rise (numbers_along items new_numbers)
+
+rise_by : (starts ends saves : Bool) (number : ℕ) (numbers more : List ℕ) → saves ≡ false
+    → KeepsRise numbers (if starts then numbers else if ends then without_one number numbers else if saves then more else numbers)
+rise_by true ends saves number numbers more none items rise = rise
+rise_by false true saves number numbers more none items rise = rise_without items number numbers rise
+rise_by false false true number numbers more none items rise = absurd (let no = none in cc)
+rise_by false false false number numbers more none items rise = rise
+
+-- a command that saves no session takes at most the one that it ended from those that are saved
+rise_after : (a : Admitted) (reply : List ℕ) (numbers : List ℕ) → saves_one a ≡ false → KeepsRise numbers (saved_list_after a reply numbers)
+rise_after a reply numbers alone =
+    rise_by (tells_session a reply) (ends_session a reply) (saves_session a reply) (number_of_session (command_auth a.auths).session) numbers _
+    (unsaved (saves_one a) (code_of reply == RC_SUCCESS) alone)
+
+-- the same with other orders of use
+abbrev pub in_orders : Held → (used loaded listed : List ℕ) → Held
+in_orders held used loaded listed =
+    record { objects = record held.objects { order = used }; sessions = record held.sessions { order = loaded; saved = listed } }
+
+settled_in : (state : Option SlotState) (held : Held) (used loaded listed : List ℕ) → KeepsRise held.sessions.saved listed → Settled state held
+    → Settled state (in_orders held used loaded listed)
+settled_in None held used loaded listed rise settled = tt
+settled_in (Some slots) held used loaded listed rise settled = record {
   objects = settled.objects;
-  sessions = stands_alike slots held.sessions (record held.sessions { order = loaded }) [] refl refl settled.sessions;
+  sessions = stands_alike slots held.sessions (record held.sessions { order = loaded; saved = listed }) [] refl refl
+      (rise held.sessions.items settled.sessions.rise) settled.sessions;
   gap = settled.gap;
 }
 
 done_in : {old new : Option SlotState} {held new_held : Held} {client : ℕ} {table new_table : List (Option ℕ)} {a : Admitted} {bytes reply : List ℕ}
-    (used loaded : List ℕ) → Done old new held new_held client table new_table a bytes reply
-    → Done old new held (in_orders new_held used loaded) client table new_table a bytes reply
-done_in {new = new} {new_held = new_held} used loaded done = record {
+    (used loaded listed : List ℕ) → KeepsRise new_held.sessions.saved listed → Done old new held new_held client table new_table a bytes reply
+    → Done old new held (in_orders new_held used loaded listed) client table new_table a bytes reply
+done_in {new = new} {new_held = new_held} used loaded listed rise done = record {
   tells = done.tells;
-  settled = settled_in new new_held used loaded done.settled;
+  settled = settled_in new new_held used loaded listed rise done.settled;
   counts = done.counts;
   kept = done.kept;
   steps = done.steps;
@@ -742,7 +768,8 @@ pub ran_then : {D : Type 0} {old between new : D} {held mid : Held}
     → SentBefore seen old between → tells_object a reply ≡ true
     → (adopts : Adopts client (told_handle reply) mid.objects.items new_items table new_table) → used ≡ mid.objects.order ++ adopts.item ∷ []
     → new_reply ≡ with_response_handle reply (next_handle table) → (IsAtHand held table a bytes → between ≡ old)
-    → Ran seen client old new held (in_orders (held_after mid new_items client a reply) used (order_after a reply mid.sessions.order)) table new_table a bytes new_reply
+    → Ran seen client old new held (in_orders (held_after mid new_items client a reply) used (order_after a reply mid.sessions.order)
+    (saved_list_after a reply mid.sessions.saved)) table new_table a bytes new_reply
 ran_then {between = between} {new = new} {mid = mid} {client = client} {new_items = new_items} {table = table} {a = a} {bytes = bytes} {command = command} {reply = reply} seen used p sent own tells adopts used_is reply_is still =
     let command_is = p.ready.written ∙ ap (λ (handle : ℕ). sent_for bytes a handle) (adopted_device (first_handle a) adopts p.here) in
     record {
@@ -782,8 +809,8 @@ pub ran_else : {D : Type 0} {old between new : D} {held mid : Held}
     (seen : D → Seen)
     → Prepared seen old between held mid client table a bytes command → IsTaken seen between new mid command reply
     → SentBefore seen old between → tells_object a reply ≡ false → (IsAtHand held table a bytes → between ≡ old)
-    → Ran seen client old new held (in_orders (held_after mid mid.objects.items client a reply) mid.objects.order (order_after a reply mid.sessions.order)) table table
-    a bytes reply
+    → Ran seen client old new held (in_orders (held_after mid mid.objects.items client a reply) mid.objects.order (order_after a reply mid.sessions.order)
+    (saved_list_after a reply mid.sessions.saved)) table table a bytes reply
 ran_else {between = between} {new = new} {mid = mid} {client = client} {table = table} {a = a} {bytes = bytes} {reply = reply} seen p sent own plain still = record {
   sort = p.sort;
   before = between;
@@ -819,12 +846,16 @@ ran_else {between = between} {new = new} {mid = mid} {client = client} {table = 
 -- the sessions, once the one that a command started is held, and the one that it ended is forgotten
 abbrev pub sessions_kept : SessionsView → ℕ → Admitted → List ℕ → SessionsView
 sessions_kept view client a reply =
-    record view { items = sessions_held_after client a reply view.items; order = order_after a reply view.order }
+    record view {
+      items = sessions_held_after client a reply view.items;
+      order = order_after a reply view.order;
+      saved = saved_list_after a reply view.saved;
+    }
 
 pub held_else : (mid : Held) (new_sessions : SessionsView) (client : ℕ) (a : Admitted) (shown reply : List ℕ)
     → new_sessions ≡ sessions_kept mid.sessions client a shown → shown ≡ reply
     → in_orders (held_after mid mid.objects.items client a reply) mid.objects.order (order_after a reply mid.sessions.order)
-    ≡ record { objects = mid.objects; sessions = new_sessions }
+    (saved_list_after a reply mid.sessions.saved) ≡ record { objects = mid.objects; sessions = new_sessions }
 held_else mid new_sessions client a shown reply is same =
     λ i. record {
       objects = mid.objects;
@@ -835,7 +866,7 @@ pub held_then : (mid : Held) (new_objects : ObjectsView) (new_sessions : Session
     → new_sessions ≡ sessions_kept mid.sessions client a shown → shown ≡ reply
     → new_objects.slots ≡ mid.objects.slots
     → in_orders (held_after mid new_objects.items client a reply) new_objects.order (order_after a reply mid.sessions.order)
-    ≡ record { objects = new_objects; sessions = new_sessions }
+    (saved_list_after a reply mid.sessions.saved) ≡ record { objects = new_objects; sessions = new_sessions }
 held_then mid new_objects new_sessions client a shown reply is same slots =
     λ i. record {
       objects = record { items = new_objects.items; slots = sym slots i; order = new_objects.order };
@@ -843,10 +874,6 @@ held_then mid new_objects new_sessions client a shown reply is same slots =
     }
 
 -- ---- the outcome
-
-unsaved : (saves success : Bool) → saves ≡ false → (saves && success) ≡ false
-unsaved true success none = absurd (let no = none in cc)
-unsaved false success none = refl
 
 pub outcome_else : {D : Type 0} {seen : D → Seen} {old between new : D} {held mid : Held}
     {client : ℕ} {table : List (Option ℕ)} {a : Admitted} {bytes command shown reply : List ℕ} (new_sessions : SessionsView)
@@ -856,9 +883,10 @@ pub outcome_else : {D : Type 0} {seen : D → Seen} {old between new : D} {held 
     → new_sessions ≡ sessions_kept mid.sessions client a shown → shown ≡ reply
     → Outcome seen old new client held (record { objects = mid.objects; sessions = new_sessions }) table table a bytes reply
 outcome_else {seen = seen} {old = old} {between = between} {new = new} {held = held} {mid = mid} {client = client} {table = table} {a = a} {bytes = bytes} {command = command} {shown = shown} {reply = reply} new_sessions p sent own still alone plain is same =
-    let new_held = in_orders (held_after mid mid.objects.items client a reply) mid.objects.order (order_after a reply mid.sessions.order) in
+    let new_held = in_orders (held_after mid mid.objects.items client a reply) mid.objects.order (order_after a reply mid.sessions.order) (saved_list_after a reply mid.sessions.saved) in
     let done : Done (seen between).state (seen new).state mid new_held client table table a bytes reply =
-    done_in mid.objects.order (order_after a reply mid.sessions.order)
+    done_in mid.objects.order (order_after a reply mid.sessions.order) (saved_list_after a reply mid.sessions.saved)
+    (rise_after a reply mid.sessions.saved alone)
     (done_else (seen between).state (seen new).state mid client table a bytes command reply p.may alone p.ready.written sent.answered plain) in
     subst (λ (h : Held). Outcome seen old new client held h table table a bytes reply) (held_else mid new_sessions client a shown reply is same)
     (record {
@@ -889,9 +917,10 @@ pub outcome_then : {D : Type 0} {seen : D → Seen} {old between new : D} {held 
     → new_sessions ≡ sessions_kept mid.sessions client a shown → shown ≡ reply
     → Outcome seen old new client held (record { objects = new_objects; sessions = new_sessions }) table new_table a bytes new_reply
 outcome_then {seen = seen} {old = old} {between = between} {new = new} {held = held} {mid = mid} {client = client} {table = table} {new_table = new_table} {a = a} {bytes = bytes} {command = command} {shown = shown} {reply = reply} {new_reply = new_reply} new_objects new_sessions p sent own still alone may tells adopts used_is slots reply_is is same =
-    let new_held = in_orders (held_after mid new_objects.items client a reply) new_objects.order (order_after a reply mid.sessions.order) in
+    let new_held = in_orders (held_after mid new_objects.items client a reply) new_objects.order (order_after a reply mid.sessions.order) (saved_list_after a reply mid.sessions.saved) in
     let done : Done (seen between).state (seen new).state mid new_held client table new_table a bytes new_reply =
-    done_in new_objects.order (order_after a reply mid.sessions.order)
+    done_in new_objects.order (order_after a reply mid.sessions.order) (saved_list_after a reply mid.sessions.saved)
+    (rise_after a reply mid.sessions.saved alone)
     (done_then (seen between).state (seen new).state mid client table a bytes command reply new_reply p.may alone p.ready.written sent.answered tells adopts reply_is) in
     subst (λ (h : Held). Outcome seen old new client held h table new_table a bytes new_reply) (held_then mid new_objects new_sessions client a shown reply is same slots)
     (record {

@@ -17,6 +17,7 @@ use Rattle.session_swap.proofs.Moved.{ending, item_inside, item_stands, moved, s
 use Rattle.session_swap.proofs.Numbers.{oldest_more}
 use Rattle.session_swap.proofs.Oldest.{gap_told}
 use Rattle.session_swap.proofs.PlaceSet.{any_set}
+use Rattle.session_swap.proofs.Rising.{rise_gone}
 use Rattle.session_swap.proofs.Standing.{alike_same, stands_changed}
 use Rattle.session_swap.proofs.Told.{loaded_told}
 use Rattle.client_machine.proofs.SessionsAfter.{AreOwn, IsAuthorized, IsOwn, between_length, items_ended, one_among, operand_length, own_session, places_between}
@@ -99,8 +100,8 @@ pub without_stand : (slots : SlotState) (view : SessionsView) (others : List ℕ
     → SessionsStand (moved slots (number_of_session handle) inactive slots.counter) (record view { items = set view.items (number_of_session handle) None }) others
 without_stand slots view others client handle stand own =
     let n = number_of_session handle in
-    stands_moved slots view others n inactive slots.counter None view.next view.order stand (ending slots view others n (new_item client handle) stand own)
-    (λ some. stand.next (any_set is_saved_item view.items n None refl some))
+    stands_moved slots view others n inactive slots.counter None view.next view.order view.saved stand (ending slots view others n (new_item client handle) stand own)
+    (λ some. stand.next (any_set is_saved_item view.items n None refl some)) (rise_gone view.items n None view.saved refl stand.rise)
 
 stand_by : (slots after : SlotState) (view : SessionsView) (others : List ℕ) (client handle : ℕ) (ended : Bool) (session : Option (ℕ × Session)) (places : List SessionPlace)
     → SessionsStand slots view others → after.started ≡ true → IsSlots after → after.counter ≡ slots.counter → after.persist.seed ≡ slots.persist.seed

@@ -432,6 +432,14 @@ order_after a answer order =
     else if saves_session a answer then without_one (number_of_session (first_handle a)) order
     else order
 
+-- those that are saved: one that ended is gone, and one that it saved is the last
+abbrev pub saved_list_after : Admitted → List ℕ → List ℕ → List ℕ
+saved_list_after a answer numbers =
+    if tells_session a answer then numbers
+    else if ends_session a answer then without_one (number_of_session (command_auth a.auths).session) numbers
+    else if saves_session a answer then numbers ++ number_of_session (first_handle a) ∷ []
+    else numbers
+
 pub record UsedLast (held new_held : Held) (table : List (Option ℕ)) (a : Admitted) (bytes answer : List ℕ) (item : ℕ) : Type 0 where
   pub ready : Held
   pub named : UsesNamed held ready table a bytes

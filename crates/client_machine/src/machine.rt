@@ -24,7 +24,7 @@ ghost use Rattle.client_machine.specs.Moves.{Adopts, CarriesOut, Flushes, HasRoo
 ghost use Rattle.client_machine.specs.Moves.{IsCalm, IsTaken, IsUnflushed, IsUntaken, LeavesState};
 ghost use Rattle.client_machine.specs.Moves.{MayAdopt, MayFlush, MayMove, MayStart, Serves};
 ghost use Rattle.client_machine.specs.Moves.{moves_for, number_taken, order_after};
-ghost use Rattle.client_machine.specs.Moves.{saves_session, sessions_held_after};
+ghost use Rattle.client_machine.specs.Moves.{saved_list_after, saves_session, sessions_held_after};
 ghost use Rattle.client_machine.specs.Costs.{SendsUpTo, close_bound, residents_of};
 ghost use Rattle.client_machine.specs.Dropping.{Disowns, Drops, KeepsOthers};
 ghost use Rattle.client_machine.specs.Settled.{Settled, orphan_count};
@@ -219,6 +219,7 @@ fn keep_sessions(sessions: &mut Sessions, client: u32, admitted: &Admitted, repl
     ensures { sessions.new ≡ record sessions.old {
       items = sessions_held_after client admitted.now reply.now sessions.old.items;
       order = order_after admitted.now reply.now sessions.old.order;
+      saved = saved_list_after admitted.now reply.now sessions.old.saved;
     } }
 {
     if tells_session(admitted, reply) {

@@ -5,7 +5,6 @@ use Rattle.device_port.specs.Device.{Seen, asked_of, last_of, sent_of}
 use Rattle.device_port.specs.Own.{Asks, AsksSome, IsAnswered}
 use Rattle.device_port.proofs.Sending.{asks_some}
 use Rattle.device_port.specs.declared.own.SwapError.{SwapError}
-use Rattle.device_port.specs.declared.own.SwapError.TheVariants as errors
 use Rattle.device_spec.specs.ContextCommands.{context_load_command}
 use Rattle.session_swap.specs.Items.{Item, Saved}
 use Rattle.session_swap.proofs.Moved.{saved_item}

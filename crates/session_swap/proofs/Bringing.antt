@@ -1,45 +1,50 @@
 -- What bringing one session in comes to, and what making room for sessions does.
-use Rattle.std.proofs.Common.{◌≡◌, ◌+◌, ◌-◌, ◌<◌, ◌≤◌, ◌∙◌, [], ℕ, true, false, List, set, length, refl, ap, subst, sym, arith}
-use Rattle.std.specs.Prelude.{min, Option, Some, None, Result, Ok, Err}
+use Rattle.std.proofs.Common.{◌≡◌, ◌+◌, ◌-◌, ◌<◌, ◌≤◌, ◌∙◌, [], ◌∷◌, ℕ, true, false, List, set, length, refl, ap, subst, sym, arith}
+use Rattle.std.specs.Prelude.{◌==◌, Option, Some, None, Result, Ok, Err, min}
+use Rattle.std.specs.List.{count_by}
 use Rattle.std.proofs.lemmas.Bool.{eqb-false, false≢true}
 use Rattle.std.proofs.lemmas.Result.{on_ok_weaker}
 use Rattle.tab_spec.specs.declared.TheConstants.{LOADED_SESSIONS}
 use Rattle.tab_spec.specs.Shape.{number_of_session}
 use Rattle.device_spec.specs.Slots.{SlotState}
 use Rattle.device_port.specs.Device.{Seen, sent_of}
-use Rattle.device_port.specs.Use.{all_used, used_after, without_first}
+use Rattle.device_port.specs.Use.{all_used, used_after}
 use Rattle.device_port.specs.declared.own.SwapError.{SwapError}
 use Rattle.session_swap.specs.declared.record.Record.{Record}
-use Rattle.session_swap.specs.Items.{AreFree, AreLoaded, AreNamed, Item, Lists, MakesRoom, Names, SessionsView, Stand, evictions, is_loaded_item, item_at, loaded_items, missing, numbers_of, saved_by_client}
-use Rattle.session_swap.specs.Records.{items_of, view_with}
+use Rattle.session_swap.specs.Items.{AreFree, AreLoaded, AreNamed, Item, Lists, MakesRoom, Names, SessionsView, Stand, evictions, is_loaded_item, is_saved_item, item_at, loaded_items, missing, numbers_of, saved_by_client, without_all}
+use Rattle.session_swap.specs.Records.{OrderView, items_of, order_evicted, order_filled, order_in, order_used, view_with}
 use Rattle.session_swap.specs.Moves.{Brings, Evicts, Fills, loadedness}
 use Rattle.session_swap.proofs.Among.{named_is}
 use Rattle.session_swap.proofs.Listing.{none_if_failed}
 use Rattle.session_swap.proofs.Making.{kept_at}
 use Rattle.session_swap.proofs.Missing.{flags_same, flags_set, loaded_more, missing_same}
 use Rattle.session_swap.proofs.Told.{loaded_told}
+use Rattle.session_swap.proofs.Uses.{without_absent}
 
 -- ---- one session
 
-pub brings_idle : {D : Type 0} (seen : D → Seen) (a : D) (records : List Record) (loaded new_loaded : List ℕ) (number handle : ℕ)
+pub brings_idle : {D : Type 0} (seen : D → Seen) (a : D) (records : List Record) (before after : OrderView) (number handle : ℕ)
     → number ≡ number_of_session handle → Names (items_of records) handle → is_loaded_item (item_at (items_of records) number) ≡ true
-    → new_loaded ≡ used_after loaded number → Brings seen a a records records loaded new_loaded handle (Ok tt)
-brings_idle seen a records loaded new_loaded number handle here names is order = record {
+    → count_by (λ one. one == number) before.saved ≡ 0 → after ≡ order_used number before
+    → Brings seen a a records records before after handle (Ok tt)
+brings_idle seen a records before after number handle here names is none order = record {
   others = λ other apart. refl;
   sent = omega arith;
   loaded_is = flags_same (items_of records) (number_of_session handle) (ap (λ (n : ℕ). is_loaded_item (item_at (items_of records) n)) (sym here) ∙ is);
-  order = order ∙ ap (used_after loaded) here;
+  order =
+      let saved_is = sym (without_absent number before.saved none) in
+      order ∙ (λ i. record { loaded = used_after before.loaded number; saved = saved_is i }) ∙ ap (λ (n : ℕ). order_in n before) here;
   paid = omega arith;
   idle = λ here. (refl, refl, refl);
 }
 
-pub brings_one : {D : Type 0} (seen : D → Seen) (a b : D) (records new_records : List Record) (loaded new_loaded : List ℕ) (number handle : ℕ)
+pub brings_one : {D : Type 0} (seen : D → Seen) (a b : D) (records new_records : List Record) (before after : OrderView) (number handle : ℕ)
     → number ≡ number_of_session handle
     → number < length records → Names (items_of records) handle → is_loaded_item (item_at (items_of records) number) ≡ false
     → is_loaded_item (item_at (items_of new_records) number) ≡ true
-    → items_of new_records ≡ set (items_of records) number (item_at (items_of new_records) number) → new_loaded ≡ used_after loaded number
-    → sent_of (seen b) ≤ sent_of (seen a) + 1 → Brings seen a b records new_records loaded new_loaded handle (Ok tt)
-brings_one seen a b records new_records loaded new_loaded number handle here fits names out is items_are order sent =
+    → items_of new_records ≡ set (items_of records) number (item_at (items_of new_records) number) → after ≡ order_in number before
+    → sent_of (seen b) ≤ sent_of (seen a) + 1 → Brings seen a b records new_records before after handle (Ok tt)
+brings_one seen a b records new_records before after number handle here fits names out is items_are order sent =
     let items = items_of records in
     let flags = flags_set items (items_of new_records) number items_are is in
     let more = loaded_more records new_records number fits out flags in
@@ -48,18 +53,18 @@ brings_one seen a b records new_records loaded new_loaded number handle here fit
           (λ same. eqb-false other (number_of_session handle) apart (same ∙ here));
       sent = sent;
       loaded_is = flags ∙ ap (λ (n : ℕ). set (loadedness records) n true) here;
-      order = order ∙ ap (used_after loaded) here;
+      order = order ∙ ap (λ (n : ℕ). order_in n before) here;
       paid = omega (arith, sent, more);
       idle = λ there. absurd
           (false≢true (sym out ∙ ap (λ (n : ℕ). is_loaded_item (item_at items n)) here ∙ ap is_loaded_item (sym (named_is items handle names)) ∙ there));
     }
 
-pub brings_none : {D : Type 0} (seen : D → Seen) (a b : D) (records new_records : List Record) (loaded new_loaded : List ℕ) (number handle : ℕ)
+pub brings_none : {D : Type 0} (seen : D → Seen) (a b : D) (records new_records : List Record) (before after : OrderView) (number handle : ℕ)
     (result : Result (Unit {0}) SwapError) (e : SwapError)
     → result ≡ Err e → number ≡ number_of_session handle → Names (items_of records) handle → is_loaded_item (item_at (items_of records) number) ≡ false
     → items_of new_records ≡ items_of records → sent_of (seen b) ≤ sent_of (seen a) + 1
-    → Brings seen a b records new_records loaded new_loaded handle result
-brings_none seen a b records new_records loaded new_loaded number handle result e failed here names out same sent = record {
+    → Brings seen a b records new_records before after handle result
+brings_none seen a b records new_records before after number handle result e failed here names out same sent = record {
   others = λ other apart. ap (λ (l : List (Option Item)). item_at l other) same;
   sent = sent;
   loaded_is = none_if_failed _ result e failed;
@@ -71,16 +76,20 @@ brings_none seen a b records new_records loaded new_loaded number handle result 
 
 -- ---- a session that was saved for its client
 
-saved_unloaded : (context : List ℕ) (item : Option Item) → is_loaded_item (saved_by_client context item) ≡ false
-saved_unloaded context None = refl
-saved_unloaded context (Some item) = refl
+saved_listed : (context : List ℕ) (item : Option Item) → is_loaded_item item ≡ true → is_saved_item (saved_by_client context item) ≡ true
+saved_listed context None there = absurd cc
+saved_listed context (Some item) there = refl
 
 pub saved_apart : (items new_items : List (Option Item)) (number handle : ℕ) (context : List ℕ) → number ≡ number_of_session handle
+    → is_loaded_item (item_at items number) ≡ true
     → new_items ≡ set items (number_of_session handle) (saved_by_client context (item_at items (number_of_session handle)))
-    → (item : Option Item) × (new_items ≡ set items number item) × (is_loaded_item item ≡ false)
-saved_apart items new_items number handle context here is =
-    let item = saved_by_client context (item_at items (number_of_session handle)) in
-    (item, is ∙ ap (λ (n : ℕ). set items n item) (sym here), saved_unloaded context (item_at items (number_of_session handle)))
+    → (item : Option Item) × (new_items ≡ set items number item) × (is_saved_item item ≡ true)
+saved_apart items new_items number handle context here there is =
+    let item = saved_by_client context (item_at items (number_of_session handle)) in (
+      item,
+      is ∙ ap (λ (n : ℕ). set items n item) (sym here),
+      saved_listed context (item_at items (number_of_session handle)) (ap (λ (n : ℕ). is_loaded_item (item_at items n)) (sym here) ∙ there),
+    )
 
 -- ---- making room
 
@@ -110,12 +119,21 @@ out_of records needed new most count room =
     let old = loaded_items (items_of records) in
     ap (λ (n : ℕ). old - (most - n)) room.is ∙ out_by old (missing needed (items_of records)) new most (omega (arith, room.is, room.few)) room.fits
 
+-- the order, once all that is needed is loaded
+filled_loaded : (numbers : List ℕ) (order : OrderView) → (order_filled numbers order).loaded ≡ all_used order.loaded numbers
+filled_loaded [] order = refl
+filled_loaded (number ∷ numbers) order = filled_loaded numbers (order_in number order)
+
+filled_saved : (numbers : List ℕ) (order : OrderView) → (order_filled numbers order).saved ≡ without_all order.saved numbers
+filled_saved [] order = refl
+filled_saved (number ∷ numbers) order = filled_saved numbers (order_in number order)
+
 -- sessions are saved, and then those that are needed are loaded
 pub room_made : {D : Type 0} (seen : D → Seen) (a b c : D) (needed : List ℕ) (new most count : ℕ) (xs ys zs : List Record)
-    (next mid_next : ℕ) (first mid last : List ℕ) (result : Result (Unit {0}) SwapError)
+    (next mid_next : ℕ) (first mid last : OrderView) (result : Result (Unit {0}) SwapError)
     → Room xs needed new most count → AreNamed needed (items_of xs) → Evicts seen a b xs ys first mid needed (most - count) (Ok tt)
     → (loaded_items (items_of xs) ≤ most - count → (b ≡ a) × (ys ≡ xs) × (mid_next ≡ next) × (done ≡ Ok tt))
-    → Fills seen b c ys zs mid last needed result → Lists last (items_of zs)
+    → Fills seen b c ys zs mid last needed result → Lists last.loaded (items_of zs)
     → MakesRoom seen a c needed new (view_with xs next first) (view_with zs mid_next last) result
 room_made seen a b c needed new most count xs ys zs next mid_next first mid last result room named cleared still filled listed =
     let missing_is = missing_same needed (items_of xs) (items_of ys) named cleared.stay in
@@ -140,17 +158,24 @@ room_made seen a b c needed new most count xs ys zs next mid_next first mid last
           let after = filled.idle (subst (λ (l : List Record). AreLoaded needed (items_of l)) (sym before.1) all) in
           (after.0 ∙ before.0, ap (λ (l : List Record). items_of l) (after.1 ∙ before.1), before.2, after.2);
       order = on_ok_weaker result
-          (λ used. used ∙ ap (λ (l : List ℕ). all_used l (numbers_of needed))
-          (cleared.order ∙ ap (λ (n : ℕ). without_first n (numbers_of needed) first) out)) filled.order;
+          (λ used.
+          let cleared_is = cleared.order ∙ ap (λ (n : ℕ). order_evicted n (numbers_of needed) first) out in
+          ap (λ (o : OrderView). o.loaded) (used ∙ ap (order_filled (numbers_of needed)) cleared_is)
+          ∙ filled_loaded (numbers_of needed) (order_evicted (evictions needed new (items_of xs)) (numbers_of needed) first)) filled.order;
+      saved = on_ok_weaker result
+          (λ used.
+          let cleared_is = cleared.order ∙ ap (λ (n : ℕ). order_evicted n (numbers_of needed) first) out in
+          ap (λ (o : OrderView). o.saved) (used ∙ ap (order_filled (numbers_of needed)) cleared_is)
+          ∙ filled_saved (numbers_of needed) (order_evicted (evictions needed new (items_of xs)) (numbers_of needed) first)) filled.order;
       listed = listed;
     }
 
 -- where not all of them were saved that had to be
 pub room_failed : {D : Type 0} (seen : D → Seen) (a b : D) (needed : List ℕ) (new most count : ℕ) (xs ys : List Record)
-    (next new_next : ℕ) (first last : List ℕ) (result : Result (Unit {0}) SwapError) (e : SwapError)
+    (next new_next : ℕ) (first last : OrderView) (result : Result (Unit {0}) SwapError) (e : SwapError)
     → Room xs needed new most count → Evicts seen a b xs ys first last needed (most - count) (Err e)
     → (loaded_items (items_of xs) ≤ most - count → (b ≡ a) × (ys ≡ xs) × (new_next ≡ next) × (failing e ≡ Ok tt))
-    → result ≡ Err e → Lists last (items_of ys) → MakesRoom seen a b needed new (view_with xs next first) (view_with ys new_next last) result
+    → result ≡ Err e → Lists last.loaded (items_of ys) → MakesRoom seen a b needed new (view_with xs next first) (view_with ys new_next last) result
 room_failed seen a b needed new most count xs ys next new_next first last result e room cleared still failed listed =
     let out = out_of xs needed new most count room in
     record {
@@ -160,6 +185,7 @@ room_failed seen a b needed new most count xs ys next new_next first last result
       rest = λ none number here. ap (λ (l : List Record). item_at (items_of l) number) (still (omega (arith, none, out))).1;
       idle = λ all none. let no = (still (omega (arith, none, out))).3 in absurd cc;
       order = none_if_failed _ result e failed;
+      saved = none_if_failed _ result e failed;
       listed = listed;
     }
 

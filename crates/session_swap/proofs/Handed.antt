@@ -17,7 +17,7 @@ use Rattle.session_swap.specs.declared.record.Place.TheVariants as places
 use Rattle.session_swap.specs.declared.record.Record.{Record}
 use Rattle.session_swap.specs.Items.{HandsOut, Item, Saved, SessionsStand, SessionsView, Stand, context_number, gap_in, is_handed_to, is_loaded_item, is_saved_item, item_at, item_of, item_session, number_of_item, saved_by_client, sessions_of, taken_back}
 use Rattle.session_swap.specs.Moves.{KeepsReply, Ready, RepliesOf, with_context, with_handed}
-use Rattle.session_swap.specs.Records.{AreRecords, IsHandleOf, IsRecord, handed_by, handed_of, item_in, item_of_record, items_of, view_of, view_with}
+use Rattle.session_swap.specs.Records.{AreRecords, IsHandleOf, IsRecord, OrderView, handed_by, handed_of, item_in, item_of_record, items_of, view_of, view_with}
 use Rattle.session_swap.proofs.Among.{loaded_inside, loaded_whole, named_is}
 use Rattle.session_swap.proofs.Commands.{is_saved}
 use Rattle.session_swap.proofs.Moved.{IsSavedAt, has_item, items_set, named_inside, record_item, records_set, saved_at, saved_item}
@@ -140,7 +140,7 @@ ready_handed state items mid next n bytes r new others hands stand =
     let at = at_mid items mid n bytes r new hands in
     record {
       sound = handed_records items mid n bytes r new hands;
-      stand = subst (λ (l : List (Option Item)). Stand state (record { items = l; next = next; order = [] }) others)
+      stand = subst (λ (l : List (Option Item)). Stand state (record { items = l; next = next; order = []; saved = [] }) others)
           (sym (item_handed items mid n bytes r new hands))
           (stand_handed state (view_of mid next) others n bytes stand (omega (arith, at.inside, length-map mid item_of_record)));
     }
@@ -324,14 +324,14 @@ handed_some client bytes None is = absurd cc
 handed_some client bytes (Some item) is = refl
 
 -- the handle of a session for which these bytes were handed out, and its record
-record Gives (records : List Record) (next : ℕ) (order : List ℕ) (view : SessionsView) (client handle : ℕ) (bytes : List ℕ) (n : ℕ) (r : Record) : Type 0 where
+record Gives (records : List Record) (next : ℕ) (order : OrderView) (view : SessionsView) (client handle : ℕ) (bytes : List ℕ) (n : ℕ) (r : Record) : Type 0 where
   sound : AreRecords records
   view_is : view_with records next order ≡ view
   number_is : n ≡ number_of_session handle
   handed : is_handed_to client bytes (item_of (items_of records) handle) ≡ true
   there : r ≡ get_or records n r
 
-gives_takes : (records : List Record) (next : ℕ) (order : List ℕ) (view : SessionsView) (client handle : ℕ) (bytes : List ℕ) (n : ℕ) (r : Record)
+gives_takes : (records : List Record) (next : ℕ) (order : OrderView) (view : SessionsView) (client handle : ℕ) (bytes : List ℕ) (n : ℕ) (r : Record)
     → Gives records next order view client handle bytes n r → Takes records n r
 gives_takes records next order view client handle bytes n r gives =
     let named = handed_some client bytes (item_of (items_of records) handle) gives.handed in
@@ -344,17 +344,17 @@ gives_takes records next order view client handle bytes n r gives =
 abbrev view_after : SessionsView → ℕ → SessionsView
 view_after view number = record view { items = set view.items number (taken_back (item_at view.items number)) }
 
-taken_view : (records : List Record) (next : ℕ) (order : List ℕ) (view : SessionsView) (client handle : ℕ) (bytes : List ℕ) (n : ℕ) (r : Record)
+taken_view : (records : List Record) (next : ℕ) (order : OrderView) (view : SessionsView) (client handle : ℕ) (bytes : List ℕ) (n : ℕ) (r : Record)
     → Gives records next order view client handle bytes n r
     → view_with (set records n (used_again r)) next order ≡ view_after view (number_of_session handle)
 taken_view records next order view client handle bytes n r gives =
     let takes = gives_takes records next order view client handle bytes n r gives in
-    ap (λ (l : List (Option Item)). record { items = l; next = next; order = order }) (taken_items records n r takes)
+    ap (λ (l : List (Option Item)). record { items = l; next = next; order = order.loaded; saved = order.saved }) (taken_items records n r takes)
     ∙ ap (λ (v : SessionsView). view_after v n) gives.view_is
     ∙ ap (view_after view) gives.number_is
 
 -- what a context that is given back leaves
-pub record GivenBack (records : List Record) (next : ℕ) (order : List ℕ) (view : SessionsView) (handle n : ℕ) (r : Record) : Type 0 where
+pub record GivenBack (records : List Record) (next : ℕ) (order : OrderView) (view : SessionsView) (handle n : ℕ) (r : Record) : Type 0 where
   pub sound : AreRecords (set records n (used_again r))
   pub view_is : view_with (set records n (used_again r)) next order ≡ record view {
     items = set view.items (number_of_session handle) (taken_back (item_at view.items (number_of_session handle)));
@@ -362,14 +362,9 @@ pub record GivenBack (records : List Record) (next : ℕ) (order : List ℕ) (vi
   pub stand : (slots : SlotState) → SessionsStand slots view []
       → SessionsStand slots (view_with (set records n (used_again r)) next order) []
   pub sessions : (slots : SlotState) → map (item_session slots) (items_of (set records n (used_again r))) ≡ map (item_session slots) view.items
-  pub none : item_at (items_of records) n ≡ None → item_of_record (used_again r) ≡ None
-  pub loaded_is : is_loaded_item (item_of_record (used_again r)) ≡ is_loaded_item (item_at (items_of records) n)
+  pub item_is : item_of_record (used_again r) ≡ taken_back (item_at (items_of records) n)
 
-taken_loaded : (item : Option Item) → is_loaded_item (taken_back item) ≡ is_loaded_item item
-taken_loaded None = refl
-taken_loaded (Some item) = refl
-
-pub given_back : (records found : List Record) (next : ℕ) (order : List ℕ) (view : SessionsView) (client handle : ℕ) (bytes : List ℕ) (n : ℕ) (r : Record)
+pub given_back : (records found : List Record) (next : ℕ) (order : OrderView) (view : SessionsView) (client handle : ℕ) (bytes : List ℕ) (n : ℕ) (r : Record)
     → AreRecords records → view_with records next order ≡ view → found ≡ records
     → is_handed_to client bytes (item_of (items_of found) handle) ≡ true → n ≡ number_of_session handle → r ≡ get_or records n r
     → GivenBack records next order view handle n r
@@ -397,6 +392,5 @@ given_back records found next order view client handle bytes n r sound view_is f
       view_is = after;
       stand = back.stand;
       sessions = back.sessions;
-      none = λ none. taken_there records n r takes ∙ ap taken_back none;
-      loaded_is = ap is_loaded_item (taken_there records n r takes) ∙ taken_loaded (item_at (items_of records) n);
+      item_is = taken_there records n r takes;
     }

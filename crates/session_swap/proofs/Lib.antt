@@ -3,6 +3,7 @@ pub mod Asking
 mod Bringing
 pub mod Commands
 pub mod Counts
+mod Firsts
 pub mod Gaps
 pub mod Handed
 mod Listing
@@ -11,12 +12,16 @@ mod Missing
 pub mod Moved
 pub mod Numbers
 pub mod Oldest
+mod Ordering
 pub mod Orphans
+mod Owners
 pub mod PlaceSet
+mod Readying
 pub mod Refreshed
 pub mod Renewed
+pub mod Rising
 pub mod Sent
 pub mod Standing
+mod Threads
 pub mod Told
-pub mod Unused
 mod Uses

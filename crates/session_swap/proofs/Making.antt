@@ -1,6 +1,7 @@
 -- Sessions are saved and loaded, one after the other: what is kept, how many contexts there may be, when a place is free.
 use Rattle.std.proofs.Common.{◌≡◌, ◌≢◌, ◌+◌, ◌<◌, ◌≤◌, inl, inr, ℕ, Bool, true, false, List, [], length, get_or, set, refl, ap, subst, sym, ◌∙◌, arith}
-use Rattle.std.specs.Prelude.{◌==◌, Option, Some, None, is_some, IfSome, Result, Ok, Err, OnOk, OnErr, if◌then◌else◌}
+use Rattle.std.specs.Prelude.{◌==◌, Option, Some, None, is_some, not, IfSome, Result, Ok, Err, OnOk, OnErr, if◌then◌else◌}
+use Rattle.std.specs.List.{count_by}
 use Rattle.std.proofs.lemmas.Bool.{false≢true, cases_eq, eq-eqb, ne_eqb}
 use Rattle.std.proofs.lemmas.List.{get_or-map, get_or-set_other, length-map, length-set, map-set}
 use Rattle.std.proofs.lemmas.List.Elements.{All-set}
@@ -12,14 +13,15 @@ use Rattle.session_swap.specs.declared.TheConstants.{RENEWAL_GAP}
 use Rattle.session_swap.specs.declared.record.Place.{Place}
 use Rattle.session_swap.specs.declared.record.Place.TheVariants as places
 use Rattle.session_swap.specs.declared.record.Record.{Record}
-use Rattle.session_swap.specs.Items.{IsNarrow, Item, KeepsSessions, Moved, Names, SessionsView, Stand, counter_of, gap_in, is_loaded_item, is_saved_item, item_at, item_of, loaded_items, rest_of, with_handle}
+use Rattle.session_swap.specs.Items.{Holder, IsNarrow, Item, KeepsSessions, Moved, Names, SessionsView, Stand, counter_of, gap_in, has_owner, holder_of, holders, is_loaded_item, is_saved_item, item_at, item_of, loaded_items, owner_by, rest_of, with_handle}
 use Rattle.device_port.specs.Use.{is_among}
-use Rattle.session_swap.specs.Records.{AreRecords, IsHandleOf, IsRecord, handed_of, item_in, item_of_record, items_of, view_of, view_with}
-use Rattle.session_swap.specs.Moves.{HasContexts, HasNumber, HasPlace, Ready, Saves, Swaps, handle_at}
-use Rattle.session_swap.proofs.Counts.{count_one, count_set, flag_false, flag_true}
-use Rattle.session_swap.proofs.Among.{loaded_inside, named_inside, loaded_whole, named_is, named_some, not_loaded, saved_or, set_each}
+use Rattle.session_swap.specs.Records.{AreListed, AreRecords, IsHandleOf, IsRecord, ListsIn, OrderView, handed_of, item_in, item_of_record, items_of, view_of, view_with}
+use Rattle.session_swap.specs.Moves.{HasContexts, HasNumber, HasPlace, Ready, ReadyIn, RiseIn, Saves, Swaps, handle_at, handle_of}
+use Rattle.session_swap.proofs.Counts.{count_one, count_same, count_set, flag_false, flag_true}
+use Rattle.session_swap.proofs.Among.{holder_again, loaded_inside, loaded_whole, named_inside, named_is, named_some, not_loaded, saved_or, set_each}
 use Rattle.session_swap.proofs.Missing.{handle_by}
-use Rattle.session_swap.proofs.Moved.{stand_alike}
+use Rattle.session_swap.proofs.Moved.{stand_alike, stand_rise}
+use Rattle.session_swap.proofs.Rising.{rise_none}
 use Rattle.session_swap.proofs.Told.{loaded_told}
 
 -- ---- one move after another
@@ -69,6 +71,20 @@ pub named_record : (records : List Record) (handle : ℕ) → Names (items_of re
     → number_of_session handle < length records
 named_record records handle names = omega (arith, named_inside (items_of records) handle names, length-map records item_of_record)
 
+handle_in : (place : Place) (client : Option ℕ) (handle : ℕ) (context : List ℕ) (handed : Option (List ℕ))
+    → is_loaded_item (item_in place client handle context handed) ≡ true → handle_of (item_in place client handle context handed) ≡ handle
+handle_in places.Unused client handle context handed there = absurd cc
+handle_in places.Loaded client handle context handed there = refl
+handle_in (places.Saved last) client handle context handed there = refl
+
+-- the handle of a loaded session is its record's
+pub handle_read : (records : List Record) (number : ℕ) (r : Record) → number < length records → r ≡ get_or records number r
+    → is_loaded_item (item_at (items_of records) number) ≡ true → handle_at (items_of records) number ≡ r.handle
+handle_read records number r inside is there =
+    let here = read_there records number r inside is in
+    ap handle_of here
+    ∙ handle_in r.place r.client r.handle r.context.items (handed_of r) (ap is_loaded_item (sym here) ∙ there)
+
 if_same : (item : Option Item) (test : Bool) → test ≡ true → (if test then item else None) ≡ item
 if_same item true is = refl
 if_same item false is = absurd cc
@@ -81,7 +97,7 @@ own_by places.Loaded client handle context handed =
 own_by (places.Saved number) client handle context handed =
     if_same (item_in (places.Saved number) client handle context handed) (handle == handle) (eq-eqb handle handle refl)
 
-own_number : (place : Place) (client : Option ℕ) (handle : ℕ) (context : List ℕ) (handed : Option (List ℕ)) (number : ℕ)
+pub own_number : (place : Place) (client : Option ℕ) (handle : ℕ) (context : List ℕ) (handed : Option (List ℕ)) (number : ℕ)
     → is_some (item_in place client handle context handed) ≡ true
     → IfSome (item_in place client handle context handed) (λ item. IsHandleOf number item) → number_of_session handle ≡ number
 own_number places.Unused client handle context handed number there is = absurd cc
@@ -231,22 +247,36 @@ same_then items mid new handle first second is = second (ap is_loaded_item first
 -- ---- making
 
 -- records that were lent out of a swapper
-pub ready_lent : (state : Option SlotState) (records lent : List Record) (next : ℕ) (loaded : List ℕ) (view : SessionsView) (others : List ℕ)
-    → lent ≡ records → AreRecords records → view_with records next loaded ≡ view → Stand state view others → Ready state lent next others
-ready_lent state records lent next loaded view others same sound view_is stand =
+pub ready_lent : (state : Option SlotState) (records lent : List Record) (next : ℕ) (order : OrderView) (view : SessionsView) (others : List ℕ)
+    → lent ≡ records → AreRecords records → view_with records next order ≡ view → Stand state view others → Ready state lent next others
+ready_lent state records lent next order view others same sound view_is stand =
     let items = ap (λ (l : List Record). items_of l) same ∙ ap (λ (v : SessionsView). v.items) view_is in
     let next_is = ap (λ (v : SessionsView). v.next) view_is in
     record {
       sound = subst (λ (l : List Record). AreRecords l) (sym same) sound;
-      stand = stand_alike state view (view_of lent next) others (sym items) (sym next_is) stand;
+      stand = stand_alike state view (view_of lent next) others (sym items) (sym next_is) (rise_none state (items_of lent)) stand;
     }
+
+pub rise_lent : (state : Option SlotState) (records lent : List Record) (next : ℕ) (order : OrderView) (view : SessionsView) (others : List ℕ)
+    → lent ≡ records → view_with records next order ≡ view → Stand state view others → RiseIn state (items_of lent) order.saved
+rise_lent state records lent next order view others same view_is stand =
+    subst (λ (l : List Record). RiseIn state (items_of l) order.saved) (sym same)
+    (subst (λ (v : SessionsView). RiseIn state v.items v.saved) (sym view_is) (stand_rise state view others stand))
+
+pub lent_in : (state : Option SlotState) (records lent : List Record) (next owned : ℕ) (order : OrderView) (view : SessionsView)
+    → lent ≡ records → AreListed records order owned → view_with records next order ≡ view → Stand state view [] → ReadyIn state lent next order
+lent_in state records lent next owned order view same kept view_is stand = record {
+  ready = ready_lent state records lent next order view [] same kept.sound view_is stand;
+  listed = subst (λ (l : List Record). ListsIn l order) (sym same) kept.listed;
+  rise = rise_lent state records lent next order view [] same view_is stand;
+}
 
 -- what moves of the lent records leave of the swapper
 pub moved_lent : {D : Type 0} (seen : D → Seen) (old new : D) (records lent new_records whole : List Record) (next new_next : ℕ)
-    (loaded new_loaded : List ℕ) (view : SessionsView) → lent ≡ records → view_with records next loaded ≡ view → whole ≡ new_records
-    → Swaps seen old new lent new_records → Stand (seen new).state (view_of new_records new_next) []
-    → Moved seen old new view (view_with whole new_next new_loaded)
-moved_lent seen old new records lent new_records whole next new_next loaded new_loaded view same view_is back swaps stand =
+    (order new_order : OrderView) (view : SessionsView) → lent ≡ records → view_with records next order ≡ view → whole ≡ new_records
+    → Swaps seen old new lent new_records → ReadyIn (seen new).state new_records new_next new_order
+    → Moved seen old new view (view_with whole new_next new_order)
+moved_lent seen old new records lent new_records whole next new_next order new_order view same view_is back swaps held =
     let start = (seen old).state in
     let state = (seen new).state in
     let before = ap (λ (l : List Record). items_of l) same ∙ ap (λ (v : SessionsView). v.items) view_is in
@@ -254,9 +284,39 @@ moved_lent seen old new records lent new_records whole next new_next loaded new_
     record {
       sessions = subst (λ (l : List (Option Item)). KeepsSessions start state view.items l) after
           (subst (λ (l : List (Option Item)). KeepsSessions start state l (items_of new_records)) before swaps.sessions);
-      stand = stand_alike state (view_of new_records new_next) (view_with whole new_next new_loaded) [] after refl stand;
+      stand = stand_alike state (view_of new_records new_next) (view_with whole new_next new_order) [] after refl
+          (subst (λ (l : List (Option Item)). RiseIn state l new_order.saved) after held.rise) held.ready.stand;
       rest = record { base_is = swaps.base_is; rest = swaps.rest; rises = swaps.rises; count = swaps.count };
     }
+
+-- how many of the sessions are clients'
+holder_owned : Option Holder → Bool
+holder_owned None = false
+holder_owned (Some holder) = is_some (owner_by (not (is_some holder.handed)) holder.client)
+
+owned_of : (item : Option Item) → has_owner item ≡ holder_owned (holder_of item)
+unfolding holder_owned
+owned_of None = refl
+owned_of (Some item) = refl
+
+pub owned_moved : (items new_items : List (Option Item)) → holders new_items ≡ holders items
+    → count_by has_owner new_items ≡ count_by has_owner items
+owned_moved items new_items same =
+    let long : length new_items ≡ length items = sym (length-map new_items holder_of) ∙ ap length same ∙ length-map items holder_of in
+    count_same has_owner has_owner new_items items None None long
+    (λ i inside. owned_of (item_at new_items i) ∙ ap holder_owned (holder_again items new_items i same) ∙ sym (owned_of (item_at items i)))
+
+-- what holds of all that is kept, after moves of lent records
+pub kept_lent : (records lent new_records whole : List Record) (order new_order : OrderView) (owned : ℕ) → AreListed records order owned → lent ≡ records
+    → whole ≡ new_records → AreRecords new_records → ListsIn new_records new_order
+    → holders (items_of new_records) ≡ holders (items_of lent) → AreListed whole new_order owned
+kept_lent records lent new_records whole order new_order owned kept same back sound listed held =
+    subst (λ (l : List Record). AreListed l new_order owned) (sym back) (record {
+      sound = sound;
+      listed = listed;
+      owned_is = kept.owned_is ∙ sym (owned_moved (items_of records) (items_of new_records)
+          (held ∙ ap (λ (l : List Record). holders (items_of l)) same));
+    })
 
 pub gap_below : (state new_state : Option SlotState) → IsNarrow state → rest_of new_state ≡ rest_of state
     → gap_in new_state + counter_of state ≤ gap_in state + counter_of new_state

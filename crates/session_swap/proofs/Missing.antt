@@ -1,20 +1,22 @@
 -- How many of the sessions that are needed aren't loaded, over the numbers that they have and over flags.
 use Rattle.std.proofs.Common.{◌≡◌, ◌≢◌, ◌+◌, ◌<◌, ◌≤◌, inl, inr, ℕ, zero, suc, Bool, true, false, List, [], ◌∷◌, length, get_or, set, drop, map, refl, ap, subst, sym, ◌∙◌, arith}
-use Rattle.std.specs.Prelude.{◌==◌, ◌||◌, Option, Some, None, is_some, IfSome, MatchOption, if◌then◌else◌}
-use Rattle.std.specs.List.{count_by, remove}
+use Rattle.std.proofs.lemmas.Bool.{false≢true}
+use Rattle.std.proofs.lemmas.Option.{get_or_from_slice_get, slice_get_within}
+use Rattle.std.specs.Prelude.{◌==◌, ◌||◌, Option, Some, None, is_some, IfSome, MatchOption, if◌then◌else◌, slice_get}
+use Rattle.std.specs.List.{count_by}
 use Rattle.std.proofs.lemmas.Bool.{cases_eq, cases_lt, eq-eqb, eqb-true, false_from_ne_true, ne_eqb}
 use Rattle.std.proofs.lemmas.List.{drop_all, get_or-map, get_or-set_same, get_or-set_other, get_or_past, length-map, map-set, set-get_or, set_past}
 use Rattle.std.proofs.lemmas.List.Elements.{All-from_recursion}
 use Rattle.tab_spec.specs.Shape.{number_of_session}
 use Rattle.session_swap.specs.declared.record.Record.{Record}
-use Rattle.device_port.specs.Use.{is_among, without_unneeded}
+use Rattle.device_port.specs.Use.{is_among, next_unneeded, without_one, without_unneeded}
 use Rattle.session_swap.specs.Items.{AreLoaded, AreNamed, Item, Lists, Names, flag, holders, is_loaded_item, item_at, item_of, loaded_items, missing, numbers_of, with_handle}
 use Rattle.session_swap.specs.Records.{AreRecords, IsHandleOf, item_of_record, items_of}
-use Rattle.session_swap.specs.Moves.{handle_at, handle_of, loadedness}
+use Rattle.session_swap.specs.Moves.{AllNeeded, handle_at, handle_of, loadedness}
 use Rattle.session_swap.proofs.Among.{named_again, named_is, some_by}
 use Rattle.session_swap.proofs.Counts.{count_cons, count_set, flag_false, flag_true}
 use Rattle.session_swap.proofs.Listing.{listed_loaded}
-use Rattle.session_swap.proofs.Uses.{unneeded_at}
+use Rattle.session_swap.proofs.Uses.{unneeded_at, unneeded_one, without_at}
 
 abbrev trues : List Bool → ℕ
 trues flags = count_by (λ flag. flag) flags
@@ -385,31 +387,53 @@ none_past needed k flags past =
 -- ---- the one that is chosen to be saved
 
 abbrev pub Chooses : List ℕ → List (Option Item) → List ℕ → Option ℕ → Type 0
-Chooses needed items loaded result = MatchOption result
-    ((k : ℕ) → k < length loaded → is_among needed (handle_at items (get_or loaded k 0)) ≡ true)
-    (λ at. (at < length loaded) × (is_among needed (handle_at items (get_or loaded at 0)) ≡ false)
-    × ((k : ℕ) → k < at → is_among needed (handle_at items (get_or loaded k 0)) ≡ true))
+Chooses needed items loaded result = MatchOption result (AllNeeded items loaded needed (length loaded))
+    (λ number. (at : ℕ) × (slice_get loaded at ≡ Some number) × (is_among needed (handle_at items number) ≡ false) × AllNeeded items loaded needed at)
 
-pub some_chosen : (needed : List ℕ) (items : List (Option Item)) (indices : List ℕ) (result : Option ℕ) (lent : List ℕ) → lent ≡ indices
-    → Chooses needed items lent result
-    → (((k : ℕ) → k < length indices → is_among needed (handle_at items (get_or indices k 0)) ≡ true) → ⊥) → is_some result ≡ true
-some_chosen needed items indices None lent same all never =
-    absurd (never (subst (λ (l : List ℕ). (k : ℕ) → k < length l → is_among needed (handle_at items (get_or l k 0)) ≡ true) same all))
-some_chosen needed items indices (Some at) lent same is never = refl
-
-pub chosen : (needed : List ℕ) (items : List (Option Item)) (indices : List ℕ) (result : Option ℕ) (lent : List ℕ) (at : ℕ) → lent ≡ indices
-    → Chooses needed items lent result → result ≡ Some at
-    → (at < length indices) × (is_among needed (handle_at items (get_or indices at 0)) ≡ false)
-    × ((k : ℕ) → k < at → is_among needed (handle_at items (get_or indices k 0)) ≡ true)
-chosen needed items indices result lent at same is some =
-    subst (λ (l : List ℕ). Chooses needed items l (Some at)) same (subst (λ (r : Option ℕ). Chooses needed items lent r) some is)
+pub some_chosen : (needed : List ℕ) (items : List (Option Item)) (indices : List ℕ) (result : Option ℕ) → Chooses needed items indices result
+    → (AllNeeded items indices needed (length indices) → ⊥) → is_some result ≡ true
+some_chosen needed items indices None all never = absurd (never all)
+some_chosen needed items indices (Some number) is never = refl
 
 -- it is the first in the list that isn't needed
-pub chosen_gone : (needed : List ℕ) (records : List Record) (indices : List ℕ) (at : ℕ) → AreRecords records → AreNamed needed (items_of records)
-    → Lists indices (items_of records) → at < length indices → is_among needed (handle_at (items_of records) (get_or indices at 0)) ≡ false
-    → ((k : ℕ) → k < at → is_among needed (handle_at (items_of records) (get_or indices k 0)) ≡ true)
-    → without_unneeded (numbers_of needed) indices ≡ remove indices at
-chosen_gone needed records indices at sound named lists inside out before =
-    unneeded_at (numbers_of needed) indices at inside
-    (λ k below. sym (among_listed needed records indices k sound named lists (omega (arith, below, inside))) ∙ before k below)
-    (sym (among_listed needed records indices at sound named lists inside) ∙ out)
+pub record Chosen (needed : List ℕ) (items : List (Option Item)) (loaded : List ℕ) (number : ℕ) : Type 0 where
+  pub at : ℕ
+  pub inside : at < length loaded
+  pub here : get_or loaded at 0 ≡ number
+  pub out : is_among needed (handle_at items number) ≡ false
+  pub before : AllNeeded items loaded needed at
+
+pub chosen : (needed : List ℕ) (items : List (Option Item)) (indices : List ℕ) (result : Option ℕ) (number : ℕ)
+    → Chooses needed items indices result → result ≡ Some number → Chosen needed items indices number
+chosen needed items indices result number is some =
+    let its = subst (λ (r : Option ℕ). Chooses needed items indices r) some is in
+    record {
+      at = its.0;
+      inside = slice_get_within indices its.0 number its.1;
+      here = get_or_from_slice_get indices its.0 number 0 its.1;
+      out = its.2;
+      before = its.3;
+    }
+
+pub chosen_gone : (needed : List ℕ) (records : List Record) (indices : List ℕ) (number : ℕ) → AreRecords records → AreNamed needed (items_of records)
+    → Lists indices (items_of records) → Chosen needed (items_of records) indices number
+    → without_unneeded (numbers_of needed) indices ≡ without_one number indices
+chosen_gone needed records indices number sound named lists is =
+    let items = items_of records in
+    let out : is_among needed (handle_at items (get_or indices is.at 0)) ≡ false = ap (λ (n : ℕ). is_among needed (handle_at items n)) is.here ∙ is.out in
+    unneeded_at (numbers_of needed) indices is.at is.inside
+    (λ k below. sym (among_listed needed records indices k sound named lists (omega (arith, below, is.inside))) ∙ is.before k below)
+    (sym (among_listed needed records indices is.at sound named lists is.inside) ∙ out)
+    ∙ sym (without_at number indices is.at is.inside
+    (λ k below same. false≢true (sym is.out ∙ ap (λ (n : ℕ). is_among needed (handle_at items n)) (sym same) ∙ is.before k below)) is.here)
+
+pub chosen_one : (needed : List ℕ) (records : List Record) (indices : List ℕ) (number : ℕ) → AreRecords records → AreNamed needed (items_of records)
+    → Lists indices (items_of records) → Chosen needed (items_of records) indices number
+    → next_unneeded (numbers_of needed) indices ≡ number ∷ []
+chosen_one needed records indices number sound named lists is =
+    let items = items_of records in
+    let out : is_among needed (handle_at items (get_or indices is.at 0)) ≡ false = ap (λ (n : ℕ). is_among needed (handle_at items n)) is.here ∙ is.out in
+    unneeded_one (numbers_of needed) indices is.at is.inside
+    (λ k below. sym (among_listed needed records indices k sound named lists (omega (arith, below, is.inside))) ∙ is.before k below)
+    (sym (among_listed needed records indices is.at sound named lists is.inside) ∙ out)
+    ∙ ap (λ (n : ℕ). n ∷ []) is.here

@@ -18,8 +18,8 @@ use Rattle.device_port.specs.Device.{Seen}
 use Rattle.device_laws.proofs.FreshContexts.{place_saved, session_at_is}
 use Rattle.device_laws.proofs.Places.{ArePlaces, loaded_new, made_inactive, saved_next}
 use Rattle.device_port.specs.Own.{IsAnswered, Succeeds}
-use Rattle.session_swap.specs.Items.{AreFree, HasGapRoom, HandsOut, IsLastContext, IsPlaceOf, IsSentOut, Item, ItemStands, KeepsSessions, Names, Saved, SessionsStand, SessionsView, Stand, context_number, context_of, counter_of, flag, gap_in, holder_of, is_loaded_item, is_saved_item, item_at, item_session, number_after, number_of_item, place_at, rest_of, sessions_of, with_handle, without_session}
-use Rattle.session_swap.specs.Moves.{HasNumber, HasPlace, IsOut, KeepsReply, Loads, MaySave, RepliesOf, Saves, Swaps, brought_in, ended, loaded_place, put_out, with_context}
+use Rattle.session_swap.specs.Items.{AreFree, HandsOut, HasGapRoom, IsLastContext, IsPlaceOf, IsSentOut, Item, ItemStands, KeepsSessions, Names, Rise, Saved, SessionsStand, SessionsView, Stand, context_number, context_of, counter_of, flag, gap_in, holder_of, is_loaded_item, is_saved_item, item_at, item_session, number_after, number_of_item, numbers_along, place_at, rest_of, sessions_of, with_handle, without_session}
+use Rattle.session_swap.specs.Moves.{HasNumber, HasPlace, IsOut, KeepsReply, Loads, MaySave, RepliesOf, RiseIn, Saves, Swaps, brought_in, ended, loaded_place, put_out, with_context}
 use Rattle.session_swap.specs.Records.{AreRecords, IsContext, IsHandleOf, IsRecord, KeepsContext, handed_by, handed_of, item_in, item_of_record, items_of}
 use Rattle.session_swap.specs.declared.record.Place.{Place}
 use Rattle.session_swap.specs.declared.record.Place.TheVariants as places
@@ -134,17 +134,18 @@ owned_moved slots view others n place counter item stand moves m =
     ]
 
 pub stands_moved : (slots : SlotState) (view : SessionsView) (others : List ℕ) (n : ℕ) (place : SessionPlace) (counter : ℕ)
-    (item : Option Item) (next : ℕ) (order : List ℕ)
+    (item : Option Item) (next : ℕ) (order listed : List ℕ)
     → SessionsStand slots view others → Moves slots view.items n place counter item
-    → (list_any is_saved_item (set view.items n item) ≡ true → next ≡ counter)
-    → SessionsStand (moved slots n place counter) (record { items = set view.items n item; next = next; order = order }) others
-stands_moved slots view others n place counter item next order stand moves next_is = record {
+    → (list_any is_saved_item (set view.items n item) ≡ true → next ≡ counter) → Rise (numbers_along (set view.items n item) listed)
+    → SessionsStand (moved slots n place counter) (record { items = set view.items n item; next = next; order = order; saved = listed }) others
+stands_moved slots view others n place counter item next order listed stand moves next_is rise = record {
   started = stand.started;
   sound = moved_sound slots n counter place stand.sound moves.places moves.limit;
   count = length-set view.items n item ∙ stand.count;
   each = each_moved slots view others n place counter item stand moves;
   owned = owned_moved slots view others n place counter item stand moves;
   next = next_is;
+  rise = rise;
 }
 
 pub sessions_moved : (slots : SlotState) (view : SessionsView) (others : List ℕ) (n : ℕ) (place : SessionPlace) (counter : ℕ)
@@ -239,7 +240,7 @@ pub record Keeps (old_state new_state : Option SlotState) (items new_items : Lis
     (others : List ℕ) : Type 0 where
   pub rest : rest_of new_state ≡ rest_of old_state
   pub sessions : KeepsSessions old_state new_state items new_items
-  pub stand : Stand new_state (record { items = new_items; next = next; order = [] }) others
+  pub stand : Stand new_state (record { items = new_items; next = next; order = []; saved = [] }) others
   pub gap : gap_in new_state + counter_of old_state ≤ gap_in old_state + counter_of new_state
   pub rises : counter_of old_state ≤ counter_of new_state
 
@@ -365,7 +366,7 @@ saved_told slots view others client handed handle next context stand was may sam
             );
         holders = map_kept holder_of view.items n item inside (sym (ap holder_of was));
       };
-      stand = stands_moved slots view others n place (slots.counter + 1) item next [] stand moves.1 (λ some. next_is);
+      stand = stands_moved slots view others n place (slots.counter + 1) item next [] [] stand moves.1 (λ some. next_is) tt;
       gap = omega (
         arith,
         gap_saved slots.counter slots.sessions n place (omega (arith, moves.1.fits, stand.sound.numbers))
@@ -400,8 +401,8 @@ loaded_told slots view others client handed handle number context s stand was ro
             );
         holders = map_kept holder_of view.items n item inside (sym (ap holder_of was));
       };
-      stand = stands_moved slots view others n place slots.counter item view.next [] stand moves.1
-          (λ some. stand.next (any_set is_saved_item view.items n item refl some));
+      stand = stands_moved slots view others n place slots.counter item view.next [] [] stand moves.1
+          (λ some. stand.next (any_set is_saved_item view.items n item refl some)) tt;
       gap = omega (arith, gap_unsaved slots.counter slots.sessions n place refl);
       rises = omega arith;
     }
@@ -481,7 +482,7 @@ pub record Drops (old_state new_state : Option SlotState) (items new_items : Lis
     (others : List ℕ) : Type 0 where
   pub rest : rest_of new_state ≡ rest_of old_state
   pub sessions : sessions_of new_state new_items ≡ without_session n (sessions_of old_state items)
-  pub stand : Stand new_state (record { items = new_items; next = next; order = [] }) others
+  pub stand : Stand new_state (record { items = new_items; next = next; order = []; saved = [] }) others
   pub counter : counter_of new_state ≡ counter_of old_state
   pub gap : gap_in new_state ≤ gap_in old_state
 
@@ -498,9 +499,9 @@ ended_drops (Some slots) view others handle item stand was =
       rest = refl;
       sessions = ap (λ (sessions : List (Option Session)). Some sessions)
           (sessions_moved slots view others n inactive slots.counter None stand);
-      stand = stands_moved slots view others n inactive slots.counter None view.next [] stand
+      stand = stands_moved slots view others n inactive slots.counter None view.next [] [] stand
           (ending slots view others n item stand was)
-          (λ some. stand.next (any_set is_saved_item view.items n None refl some));
+          (λ some. stand.next (any_set is_saved_item view.items n None refl some)) tt;
       counter = refl;
       gap = gap_unsaved slots.counter slots.sessions n inactive refl;
     }
@@ -558,14 +559,14 @@ pub record_item : (records : List Record) (n : ℕ) (d : Record) → n < length 
     → item_at (items_of records) n ≡ item_of_record (get_or records n d)
 record_item records n d inside = get_or-map item_of_record records n d None inside
 
-record_inside : (records : List Record) (n : ℕ) → is_some (item_at (items_of records) n) ≡ true → n < length records
+pub record_inside : (records : List Record) (n : ℕ) → is_some (item_at (items_of records) n) ≡ true → n < length records
 record_inside records n is = omega (arith, some_inside (items_of records) n is, length-map records item_of_record)
 
 loaded_some : (item : Option Item) → is_loaded_item item ≡ true → is_some item ≡ true
 loaded_some None is = is
 loaded_some (Some item) is = refl
 
-saved_some : (item : Option Item) → is_saved_item item ≡ true → is_some item ≡ true
+pub saved_some : (item : Option Item) → is_saved_item item ≡ true → is_some item ≡ true
 saved_some None is = is
 saved_some (Some item) is = refl
 
@@ -729,7 +730,7 @@ swaps_from seen old new records new_records new_next others keeps base_is count 
 
 -- nothing is left changed where a command fails
 pub keeps_same : (state new_state : Option SlotState) (items new_items : List (Option Item)) (next : ℕ) (others : List ℕ)
-    → Stand state (record { items = items; next = next; order = [] }) others → new_state ≡ state → new_items ≡ items
+    → Stand state (record { items = items; next = next; order = []; saved = [] }) others → new_state ≡ state → new_items ≡ items
     → Keeps state new_state items new_items next others
 keeps_same state new_state items new_items next others stand state_is items_are =
     let at_rest : Keeps state state items items next others =
@@ -745,19 +746,32 @@ keeps_by state moved new_state items moved_items new_items next others state_is 
     subst (λ (st : Option SlotState). Keeps state st items new_items next others) (sym state_is)
     (subst (λ (list : List (Option Item)). Keeps state moved items list next others) (sym items_are) keeps)
 
--- what stands doesn't depend on the order of the loaded sessions
+-- what stands doesn't depend on the order of the loaded sessions, and on that of the saved ones by their numbers alone
 pub stands_alike : (slots : SlotState) (view new_view : SessionsView) (others : List ℕ) → view.items ≡ new_view.items → view.next ≡ new_view.next
-    → SessionsStand slots view others → SessionsStand slots new_view others
-stands_alike slots view new_view others items next stand =
-    let same : record { items = view.items; next = view.next; order = new_view.order } ≡ new_view =
-    λ i. record { items = items i; next = next i; order = new_view.order } in
-    subst (λ (v : SessionsView). SessionsStand slots v others) same
-    (record { started = stand.started; sound = stand.sound; count = stand.count; each = stand.each; owned = stand.owned; next = stand.next })
+    → Rise (numbers_along new_view.items new_view.saved) → SessionsStand slots view others → SessionsStand slots new_view others
+stands_alike slots view new_view others items next rise stand =
+    let same : record { items = view.items; next = view.next; order = new_view.order; saved = new_view.saved } ≡ new_view =
+    λ i. record { items = items i; next = next i; order = new_view.order; saved = new_view.saved } in
+    subst (λ (v : SessionsView). SessionsStand slots v others) same (record {
+      started = stand.started;
+      sound = stand.sound;
+      count = stand.count;
+      each = stand.each;
+      owned = stand.owned;
+      next = stand.next;
+      rise = subst (λ (l : List (Option Item)). Rise (numbers_along l new_view.saved)) (sym items) rise;
+    })
 
 pub stand_alike : (state : Option SlotState) (view new_view : SessionsView) (others : List ℕ) → view.items ≡ new_view.items → view.next ≡ new_view.next
-    → Stand state view others → Stand state new_view others
-stand_alike None view new_view others items next stand = tt
-stand_alike (Some slots) view new_view others items next stand = stands_alike slots view new_view others items next stand
+    → RiseIn state new_view.items new_view.saved → Stand state view others → Stand state new_view others
+stand_alike None view new_view others items next rise stand = tt
+stand_alike (Some slots) view new_view others items next rise stand = stands_alike slots view new_view others items next rise stand
+
+-- they rise where sessions stand
+pub stand_rise : (state : Option SlotState) (view : SessionsView) (others : List ℕ) → Stand state view others
+    → RiseIn state view.items view.saved
+stand_rise None view others stand = tt
+stand_rise (Some slots) view others stand = stand.rise
 
 -- the number of the next context, after this one
 pub next_is : (state : Option SlotState) (number next : ℕ) → HasNumber state → IfSome state (λ slots. number ≡ slots.counter)

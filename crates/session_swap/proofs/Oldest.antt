@@ -24,7 +24,7 @@ unused inactive is = refl
 unused (loaded octet s) is = refl
 unused (saved octet number) is = absurd (omega arith)
 
-by_saved : (handle : ℕ) (last : Option Saved) (place : SessionPlace) → IsPlaceOf handle last place → number_saved place ≡ saved_number last
+pub by_saved : (handle : ℕ) (last : Option Saved) (place : SessionPlace) → IsPlaceOf handle last place → number_saved place ≡ saved_number last
 by_saved handle None place is = unsaved place is
 by_saved handle (Some last) place is = ap number_saved is
 
@@ -52,6 +52,15 @@ is_saved_last (Some last) n is = refl
 pub is_saved_with : (item : Option Item) (n : ℕ) → number_of_item item ≡ Some n → is_saved_item item ≡ true
 is_saved_with None n is = absurd (none-some n is)
 is_saved_with (Some item) n is = is_saved_last item.saved n is
+
+number_kept : (last : Option Saved) → is_some last ≡ true → (n : ℕ) × (saved_number last ≡ Some n)
+number_kept None is = absurd cc
+number_kept (Some last) is = (last.number, refl)
+
+-- a saved session has a number
+pub has_last : (item : Option Item) → is_saved_item item ≡ true → (n : ℕ) × (number_of_item item ≡ Some n)
+has_last None is = absurd cc
+has_last (Some item) is = number_kept item.saved is
 
 pub number_inside : (items : List (Option Item)) (number n : ℕ) → number_of_item (item_at items number) ≡ Some n → number < length items
 number_inside items number n is =
@@ -88,7 +97,7 @@ place_inside places number n is =
       | inr past ↦ absurd (none-some n (sym (ap number_saved (get_or_past places number inactive past)) ∙ is))
     ]
 
-below_place : (slots : SlotState) → IsSlots slots → (number n : ℕ) → number_saved (place_at slots number) ≡ Some n → n < slots.counter
+pub below_place : (slots : SlotState) → IsSlots slots → (number n : ℕ) → number_saved (place_at slots number) ≡ Some n → n < slots.counter
 below_place slots sound number n is =
     below_by slots.counter (place_at slots number) n
     (All-from_recursion (λ (place : SessionPlace). IsPlace slots.counter place) slots.sessions sound.places number inactive

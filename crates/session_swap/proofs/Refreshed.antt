@@ -1,7 +1,7 @@
 -- The oldest contexts are renewed, until the gap is small: each renewal leaves one fewer with a number below the one that
 -- came next at the start.
 use Rattle.std.proofs.Common.{◌≡◌, ◌≢◌, ◌+◌, ◌-◌, ◌*◌, ◌<◌, ◌≤◌, inl, inr, ℕ, zero, suc, Bool, true, false, ltb, List, [], ◌∷◌, length, get_or, refl, ap, sym, ◌∙◌, arith}
-use Rattle.std.specs.Prelude.{◌==◌, min, Option, Some, None, is_some, IfSome}
+use Rattle.std.specs.Prelude.{◌==◌, min, Option, Some, None, is_some, IfSome, Result, Ok, Err}
 use Rattle.std.specs.List.{count_by}
 use Rattle.std.proofs.lemmas.Bool.{cases_lt, le-ltb, lt-ltb, ltb-true, ne_eqb}
 use Rattle.std.proofs.lemmas.List.{length-map}
@@ -9,14 +9,16 @@ use Rattle.std.proofs.lemmas.List.Sums.{count_by-le-length, sum_by-le-sum_by}
 use Rattle.tab_spec.specs.Shape.{number_of_session}
 use Rattle.tab_spec.specs.declared.TheConstants.{ACTIVE_SESSIONS, LOADED_SESSIONS}
 use Rattle.device_spec.specs.Slots.{SlotState, gap_from, gap_of, loaded_count}
+use Rattle.device_port.specs.declared.own.SwapError.{SwapError}
 use Rattle.session_swap.specs.declared.TheConstants.{RENEWAL_GAP}
-use Rattle.session_swap.specs.Items.{AreFree, AreKept, IsFresh, IsNarrow, IsOldest, IsRenewed, Item, KeepsRecent, Saved, SessionsView, Stand, counter_of, flag, full_flag, full_kept, gap_kept, holder_of, holders, is_saved_item, item_at, loaded_items, number_of_item, oldest_number, rest_of, saved_items, saved_number}
+use Rattle.session_swap.specs.Items.{AreFree, AreKept, IsFirst, IsFresh, IsNarrow, IsRenewed, Item, KeepsRecent, Saved, SessionsView, Stand, Visited, counter_of, flag, full_flag, full_kept, gap_first, gap_kept, holder_of, holders, is_saved_item, item_at, loaded_items, number_of_item, oldest_number, rest_of, saved_items, saved_number}
 use Rattle.session_swap.specs.Records.{IsSoundView}
 use Rattle.session_swap.proofs.Counts.{count_cons, count_one, flag_false, flag_most, flag_true}
 use Rattle.session_swap.proofs.Among.{named_is}
+use Rattle.session_swap.proofs.Firsts.{first_risen, oldest_of}
 use Rattle.session_swap.proofs.Gaps.{items_least}
-use Rattle.session_swap.proofs.Oldest.{gap_told, is_saved_with, number_inside, oldest_told}
-use Rattle.session_swap.proofs.Renewed.{has_last, kept_free}
+use Rattle.session_swap.proofs.Oldest.{gap_told, has_last, is_saved_with, number_inside, oldest_told}
+use Rattle.session_swap.proofs.Renewed.{kept_free}
 
 -- ---- counts
 
@@ -115,16 +117,17 @@ begins (Some slots) view most stand is = record {
 
 pub goes_on : (state new_state : Option SlotState) (view new_view : SessionsView) (handle start most done : ℕ) → Stand state view []
     → Stand new_state new_view [] → rest_of new_state ≡ rest_of state → IfSome state (λ slots. Progress slots view.items start most done)
-    → done < most → RENEWAL_GAP ≤ gap_kept view → counter_of state ≤ start + done + 1 → IsOldest view.items handle
+    → done < most → RENEWAL_GAP ≤ gap_kept view → counter_of state ≤ start + done + 1 → IsSoundView view → IsFirst view handle
     → IfSome new_state (λ slots. IsRenewed slots new_view.items (number_of_session handle))
     → IsFresh (counter_of state) view.items new_view.items (number_of_session handle)
     → IfSome new_state (λ slots. Progress slots new_view.items start most (done + 1))
-goes_on state None view new_view handle start most done stand new_stand rest progress more wide few oldest renewed fresh = tt
-goes_on None (Some new) view new_view handle start most done stand new_stand rest progress more wide few oldest renewed fresh = absurd cc
-goes_on (Some slots) (Some new) view new_view handle start most done stand new_stand rest progress more wide few oldest renewed fresh =
+goes_on state None view new_view handle start most done stand new_stand rest progress more wide few safe first renewed fresh = tt
+goes_on None (Some new) view new_view handle start most done stand new_stand rest progress more wide few safe first renewed fresh = absurd cc
+goes_on (Some slots) (Some new) view new_view handle start most done stand new_stand rest progress more wide few safe first renewed fresh =
     let items = view.items in
     let new_items = new_view.items in
     let number = number_of_session handle in
+    let oldest = oldest_of slots view handle safe stand first in
     let this = named_is items handle oldest.named in
     let saved = ap is_saved_item (sym this) ∙ oldest.saved in
     let had = has_last (item_at items number) saved in
@@ -154,22 +157,23 @@ goes_on (Some slots) (Some new) view new_view handle start most done stand new_s
 -- only a session with a context far below the next one is renewed
 pub stays_recent : (state new_state : Option SlotState) (first : List (Option Item)) (view new_view : SessionsView) (handle : ℕ)
     → Stand state view [] → rest_of new_state ≡ rest_of state → IfSome state (λ slots. KeepsRecent slots first view.items) → RENEWAL_GAP ≤ gap_kept view
-    → IsOldest view.items handle → AreKept (number_of_session handle) view.items new_view.items → counter_of state ≤ counter_of new_state
+    → IsSoundView view → IsFirst view handle → AreKept (number_of_session handle) view.items new_view.items → counter_of state ≤ counter_of new_state
     → IfSome new_state (λ slots. KeepsRecent slots first new_view.items)
-stays_recent state None first view new_view handle stand rest held wide oldest others rises = tt
-stays_recent None (Some new) first view new_view handle stand rest held wide oldest others rises = absurd cc
-stays_recent (Some slots) (Some new) first view new_view handle stand rest held wide oldest others rises = λ number last was near.
+stays_recent state None first view new_view handle stand rest held wide safe due others rises = tt
+stays_recent None (Some new) first view new_view handle stand rest held wide safe due others rises = absurd cc
+stays_recent (Some slots) (Some new) first view new_view handle stand rest held wide safe due others rises = λ number last was near.
     let items = view.items in
-    let due = number_of_session handle in
+    let oldest = oldest_of slots view handle safe stand due in
+    let at = number_of_session handle in
     let here : item_at items number ≡ item_at first number = held number last was (omega (arith, rises, near)) in
     let is : number_of_item (item_at items number) ≡ Some last = ap number_of_item here ∙ was in
-    let this : number_of_item (item_at items due) ≡ oldest_number items =
+    let this : number_of_item (item_at items at) ≡ oldest_number items =
     ap number_of_item (sym (named_is items handle oldest.named)) ∙ oldest.oldest in
-    let apart : number ≢ due = λ same.
+    let apart : number ≢ at = λ same.
     let least : oldest_number items ≡ Some last = sym this ∙ ap (λ (n : ℕ). number_of_item (item_at items n)) (sym same) ∙ is in
     let gap : gap_of slots ≡ slots.counter - last = ap (gap_from slots.counter) (oldest_told slots view stand ∙ least) in
     absurd (omega (arith, near, rises, wide, gap, gap_told slots view stand)) in
-    others number (ne_eqb number due apart) (is_saved_with (item_at items number) last is) ∙ here
+    others number (ne_eqb number at apart) (is_saved_with (item_at items number) last is) ∙ here
 
 -- ---- the numbers of contexts
 
@@ -241,9 +245,11 @@ few_all most saved (suc done) is all few = few (omega arith)
 
 -- ---- the gap
 
-pub narrow_kept : (state : Option SlotState) (view : SessionsView) → Stand state view [] → gap_kept view < RENEWAL_GAP → IsNarrow state
-narrow_kept None view stand narrow = tt
-narrow_kept (Some slots) view stand narrow = omega (arith, narrow, gap_told slots view stand)
+pub narrow_kept : (state : Option SlotState) (view : SessionsView) → Stand state view [] → IsSoundView view → gap_first view < RENEWAL_GAP
+    → IsNarrow state
+narrow_kept None view stand sound narrow = tt
+narrow_kept (Some slots) view stand sound narrow =
+    omega (arith, narrow, first_risen view sound.saved stand.rise, gap_told slots view stand)
 
 gap_most : (counter start : ℕ) (oldest : Option ℕ) → ((n : ℕ) → oldest ≡ Some n → start ≤ n) → gap_from counter oldest ≤ counter - start
 gap_most counter start None above = omega arith
@@ -277,8 +283,19 @@ narrow_all (Some slots) view start most done stand progress all few =
       gap_most slots.counter start (oldest_number view.items) (none_old start view.items none),
     )
 
--- nothing is saved, and so there is no gap
-pub gap_none : (view : SessionsView) → saved_items view.items ≡ 0 → gap_kept view < RENEWAL_GAP
-gap_none view none =
-    let still : old_items view.next view.items ≡ 0 = omega (arith, none, few_old view.next view.items) in
-    omega (arith, gap_most view.next view.next (oldest_number view.items) (none_old view.next view.items still))
+-- ---- the records that are visited
+
+-- one for the first of the saved sessions, ten for its renewal, and six more for the first renewal
+pub steps_next : (start now mid new done kept : ℕ) → now ≤ start + 11 * done + 6 * min done 1 → mid ≤ now + 1 → new ≤ mid + 10 + 6 * kept → kept ≤ 1
+    → (1 ≤ done → kept ≡ 0) → new ≤ start + 11 * (done + 1) + 6 * min (done + 1) 1
+steps_next start now mid new zero kept few one more most none = omega (arith, few, one, more, most)
+steps_next start now mid new (suc done) kept few one more most none = omega (arith, few, one, more, none (omega arith))
+
+pub steps_last : (start now mid done : ℕ) → now ≤ start + 11 * done + 6 * min done 1 → mid ≤ now + 1 → mid ≤ start + 12 * done + 6
+steps_last start now mid zero few one = omega (arith, few, one)
+steps_last start now mid (suc done) few one = omega (arith, few, one)
+
+pub visited_failed : (old new most : ℕ) (result : Result ℕ SwapError) (e : SwapError) → result ≡ Err e → new ≤ old + 12 * most + 6
+    → Visited old new most result
+visited_failed old new most (Ok renewed) e failed few = absurd cc
+visited_failed old new most (Err x) e failed few = few

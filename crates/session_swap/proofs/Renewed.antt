@@ -20,7 +20,7 @@ use Rattle.session_swap.proofs.Among.{loaded_inside, named_again, named_is, not_
 use Rattle.session_swap.proofs.Gaps.{IsLeast, gap_falls, items_least, least_same, least_stays}
 use Rattle.session_swap.proofs.Moved.{has_item}
 use Rattle.session_swap.proofs.Told.{loaded_told}
-use Rattle.session_swap.proofs.Oldest.{number_below, number_once, oldest_told}
+use Rattle.session_swap.proofs.Oldest.{has_last, number_below, number_once, oldest_told}
 
 -- what holds after a call that was answered, and after one that failed
 pub either_way : {T E P Q R : Type 0} (r : Result T E) → OnOk r P → OnErr r Q → (P → R) → (Q → R) → R
@@ -45,15 +45,6 @@ unsaved_number (Some last) is = absurd cc
 loaded_number : (item : Option Item) → is_loaded_item item ≡ true → number_of_item item ≡ None
 loaded_number None is = refl
 loaded_number (Some item) is = unsaved_number item.saved is
-
-number_kept : (last : Option Saved) → is_some last ≡ true → (n : ℕ) × (saved_number last ≡ Some n)
-number_kept None is = absurd cc
-number_kept (Some last) is = (last.number, refl)
-
--- a saved session has a number
-pub has_last : (item : Option Item) → is_saved_item item ≡ true → (n : ℕ) × (number_of_item item ≡ Some n)
-has_last None is = absurd cc
-has_last (Some item) is = number_kept item.saved is
 
 -- ---- the others
 
@@ -265,7 +256,8 @@ fresh_saved (Some slots) new_state items new_items number saves other last is be
 -- ---- the oldest session is loaded
 
 pub oldest_still : (state new_state : Option SlotState) (oldest new_oldest : Option ℕ) (n : ℕ) → rest_of new_state ≡ rest_of state
-    → IfSome state (λ slots. (n : ℕ) → oldest ≡ Some n → new_oldest ≡ Some n) → oldest ≡ Some n → IfSome new_state (λ slots. new_oldest ≡ Some n)
+    → IfSome state (λ slots. (n : ℕ) → oldest ≡ Some n → new_oldest ≡ Some n) → IfSome state (λ slots. oldest ≡ Some n)
+    → IfSome new_state (λ slots. new_oldest ≡ Some n)
 oldest_still state None oldest new_oldest n rest same is = tt
 oldest_still None (Some new) oldest new_oldest n rest same is = absurd cc
 oldest_still (Some slots) (Some new) oldest new_oldest n rest same is = same n is
@@ -296,8 +288,15 @@ gap_left (Some slots) (Some new) records next new_records new_next number n move
     omega (arith, falls, room, was, is_now)
 
 -- so that one context more fits in again
+oldest_had : (state : Option SlotState) (items : List (Option Item)) (number n : ℕ)
+    → IfSome state (λ slots. number_of_item (item_at items number) ≡ oldest_number items) → number_of_item (item_at items number) ≡ Some n
+    → IfSome state (λ slots. oldest_number items ≡ Some n)
+oldest_had None items number n oldest is = tt {0}
+oldest_had (Some slots) items number n oldest is = sym oldest ∙ is
+
 pub brought_fits : (start state new_state : Option SlotState) (items : List (Option Item)) (records : List Record) (next : ℕ) (new_records : List Record)
-    (new_next number : ℕ) → is_saved_item (item_at items number) ≡ true → number_of_item (item_at items number) ≡ oldest_number items
+    (new_next number : ℕ) → is_saved_item (item_at items number) ≡ true
+    → IfSome start (λ slots. number_of_item (item_at items number) ≡ oldest_number items)
     → rest_of state ≡ rest_of start → item_at (items_of records) number ≡ item_at items number
     → IfSome start (λ slots. (n : ℕ) → oldest_number items ≡ Some n → oldest_number (items_of records) ≡ Some n)
     → Moved state new_state records next new_records new_next → Loads state new_state (items_of records) (items_of new_records) number
@@ -305,7 +304,8 @@ pub brought_fits : (start state new_state : Option SlotState) (items : List (Opt
 brought_fits start state new_state items records next new_records new_next number saved oldest rest same still moved loads room =
     let had = has_last (item_at items number) saved in
     gap_left state new_state records next new_records new_next number had.0 moved loads (ap number_of_item same ∙ had.1)
-    (oldest_still start state (oldest_number items) (oldest_number (items_of records)) had.0 rest still (sym oldest ∙ had.1)) room
+    (oldest_still start state (oldest_number items) (oldest_number (items_of records)) had.0 rest still
+    (oldest_had start items number had.0 oldest had.1)) room
 
 -- ---- the session is saved again
 

@@ -10,9 +10,10 @@ use Rattle.tab_spec.specs.Session.{Session}
 use Rattle.tab_spec.specs.Shape.{number_of_session, octet_of}
 use Rattle.device_spec.specs.Slots.{SessionPlace, SlotState, IsSlots, inactive, loaded, saved, is_active, is_active_with, is_loaded, session_in_place}
 use Rattle.device_laws.proofs.Places.{ArePlaces}
-use Rattle.session_swap.specs.Items.{AreAlike, IsPlaceOf, Item, ItemStands, Names, Saved, SessionsStand, SessionsView, context_of, disowned, flag, is_saved_item, item_at, item_session, new_item, place_at, taken_back}
+use Rattle.session_swap.specs.Items.{AreAlike, IsPlaceOf, Item, ItemStands, Names, Saved, SessionsStand, SessionsView, context_of, disowned, flag, is_saved_item, item_at, item_session, new_item, number_of_item, place_at, taken_back}
 use Rattle.session_swap.specs.Moves.{with_handed}
 use Rattle.session_swap.proofs.Moved.{Moves, are_places, ending, has_item, item_inside, moved, session_loaded, stands_moved}
+use Rattle.session_swap.proofs.Rising.{rise_gone, rise_set, unsaved_none}
 use Rattle.session_swap.proofs.PlaceSet.{any_set, place_here, session_here}
 
 -- ---- a place like another
@@ -101,6 +102,7 @@ stands_changed slots new view others stand started sound counter seed alike = re
   owned = λ number.
       stand.owned number ∙ sym (ap flag (alike_active (place_at slots number) (place_at new number) (alike number)));
   next = λ some. stand.next some ∙ sym counter;
+  rise = stand.rise;
 }
 
 -- ---- one session begins or ends
@@ -113,8 +115,9 @@ stands_by : (slots new : SlotState) (view : SessionsView) (others : List ℕ) (n
     → SessionsStand new (record view { items = set view.items n item }) others
 stands_by slots new view others n place item stand started sound counter seed sessions moves unsaved =
     stands_changed (moved slots n place slots.counter) new (record view { items = set view.items n item }) others
-    (stands_moved slots view others n place slots.counter item view.next view.order stand moves
-    (λ some. stand.next (any_set is_saved_item view.items n item unsaved some)))
+    (stands_moved slots view others n place slots.counter item view.next view.order view.saved stand moves
+    (λ some. stand.next (any_set is_saved_item view.items n item unsaved some))
+    (rise_gone view.items n item view.saved (unsaved_none item unsaved) stand.rise))
     started sound counter seed
     (λ number.
     subst (λ (l : List SessionPlace). AreAlike (get_or (set slots.sessions n place) number inactive) (get_or l number inactive))
@@ -221,6 +224,11 @@ held_saved : (client : Option ℕ) (handed : Option (List ℕ)) (item : Option I
 held_saved client handed None = refl
 held_saved client handed (Some item) = refl
 
+held_number : (client : Option ℕ) (handed : Option (List ℕ)) (item : Option Item)
+    → number_of_item (held_as client handed item) ≡ number_of_item item
+held_number client handed None = refl
+held_number client handed (Some item) = refl
+
 held_session : (slots : SlotState) (client : Option ℕ) (handed : Option (List ℕ)) (item : Option Item)
     → item_session slots (held_as client handed item) ≡ item_session slots item
 held_session slots client handed None = refl
@@ -285,6 +293,7 @@ stands_held_as slots view others n client handed stand inside =
           (stand.owned m);
       next = λ some.
           stand.next (sym (any_same is_saved_item view.items n other None inside (held_saved client handed was)) ∙ some);
+      rise = rise_set view.items n other view.saved (λ m is. sym (held_number client handed was) ∙ is) stand.rise;
     }
 
 -- and it stands on

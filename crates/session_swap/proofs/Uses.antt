@@ -3,9 +3,10 @@ use Rattle.std.proofs.Common.{◌≡◌, ◌+◌, ◌<◌, ◌≤◌, ◌⊎◌,
 use Rattle.std.specs.Prelude.{◌==◌, if◌then◌else◌}
 use Rattle.std.specs.List.{count_by, remove}
 use Rattle.std.proofs.lemmas.Bool.{eq-eqb, eqb-true, ne_eqb}
-use Rattle.std.proofs.lemmas.List.{drop_all}
+use Rattle.std.proofs.lemmas.List.{append-nil, append_assoc, drop_all}
 use Rattle.std.proofs.lemmas.List.Edits.{length-remove}
-use Rattle.device_port.specs.Use.{all_used, is_among, used_after, without_first, without_one, without_unneeded}
+use Rattle.device_port.specs.Use.{first_unneeded, is_among, next_unneeded, used_after, without_first, without_one, without_unneeded}
+use Rattle.session_swap.specs.Records.{OrderView, order_evicted, order_filled, order_in, order_out}
 use Rattle.session_swap.proofs.Counts.{count_cons, flag_false, is_false}
 
 -- ---- without one of them
@@ -46,7 +47,7 @@ stands number [] = inl (refl, refl)
 stands number (x ∷ xs) = stands_by number x xs (x == number) refl (stands number xs)
 
 -- nothing is taken out where it doesn't stand
-not_first : (number x : ℕ) (xs : List ℕ) → count_by (λ one. one == number) (x ∷ xs) ≡ 0
+pub not_first : (number x : ℕ) (xs : List ℕ) → count_by (λ one. one == number) (x ∷ xs) ≡ 0
     → ((x == number) ≡ false) × (count_by (λ one. one == number) xs ≡ 0)
 not_first number x xs none =
     let counted = count_cons (λ (one : ℕ). one == number) x xs in
@@ -70,11 +71,6 @@ pub used_gone : (number : ℕ) (xs : List ℕ) → count_by (λ one. one == numb
 used_gone number xs none =
     ap (λ (l : List ℕ). without_one number (l ++ number ∷ [])) (without_absent number xs none) ∙ last_gone number xs none
 
--- the first one
-pub first_gone : (xs : List ℕ) (number : ℕ) → 0 < length xs → number ≡ get_or xs 0 number → without_one number xs ≡ drop 1 xs
-first_gone [] number some is = absurd (omega (arith, some))
-first_gone (x ∷ xs) number some is = ap (λ (b : Bool). if b then xs else x ∷ without_one number xs) (eq-eqb x number (sym is))
-
 pub without_less : (number : ℕ) (xs : List ℕ) → length (without_one number xs) ≤ length xs
 without_less number xs =
     elim (stands number xs) [
@@ -92,21 +88,38 @@ unneeded_at needed (x ∷ xs) (suc at) inside before here =
     ap (λ (b : Bool). if b then x ∷ without_unneeded needed xs else xs) (before 0 (omega arith))
     ∙ ap (λ (l : List ℕ). x ∷ l) (unneeded_at needed xs at (omega (arith, inside)) (λ k below. before (suc k) (omega (arith, below))) here)
 
+pub unneeded_one : (needed xs : List ℕ) (at : ℕ) → at < length xs → ((k : ℕ) → k < at → is_among needed (get_or xs k 0) ≡ true)
+    → is_among needed (get_or xs at 0) ≡ false → next_unneeded needed xs ≡ get_or xs at 0 ∷ []
+unneeded_one needed [] at inside before here = absurd (omega (arith, inside))
+unneeded_one needed (x ∷ xs) zero inside before here = ap (λ (b : Bool). if b then next_unneeded needed xs else x ∷ []) here
+unneeded_one needed (x ∷ xs) (suc at) inside before here =
+    ap (λ (b : Bool). if b then next_unneeded needed xs else x ∷ []) (before 0 (omega arith))
+    ∙ unneeded_one needed xs at (omega (arith, inside)) (λ k below. before (suc k) (omega (arith, below))) here
+
+-- none of them
+pub none_evicted : (needed : List ℕ) (order : OrderView) → order_evicted 0 needed order ≡ order
+none_evicted needed order = λ i. record { loaded = order.loaded; saved = append-nil order.saved i }
+
 -- one more of them
-pub one_more_gone : (needed xs : List ℕ) (count next : ℕ) → next ≡ count + 1
-    → without_first next needed xs ≡ without_unneeded needed (without_first count needed xs)
-one_more_gone needed xs count next is =
+pub one_more_gone : (needed : List ℕ) (order mid new : OrderView) (count next number : ℕ) → next ≡ count + 1 → mid ≡ order_evicted count needed order
+    → without_unneeded needed mid.loaded ≡ without_one number mid.loaded → next_unneeded needed mid.loaded ≡ number ∷ []
+    → new ≡ order_out number mid → new ≡ order_evicted next needed order
+one_more_gone needed order mid new count next number is so_far gone one out =
     let step : next ≡ suc count = omega (arith, is) in
-    ap (λ (n : ℕ). without_first n needed xs) step
+    let loaded_is = sym gone ∙ ap (λ (o : OrderView). without_unneeded needed o.loaded) so_far in
+    let saved_is = ap (λ (l : List ℕ). mid.saved ++ l) (sym one) ∙ ap (λ (o : OrderView). o.saved ++ next_unneeded needed o.loaded) so_far
+    ∙ append_assoc order.saved (first_unneeded count needed order.loaded) (next_unneeded needed (without_first count needed order.loaded)) in
+    let both : order_out number mid ≡ order_evicted (suc count) needed order = λ i. record { loaded = loaded_is i; saved = saved_is i } in
+    out ∙ both ∙ ap (λ (n : ℕ). order_evicted n needed order) (sym step)
 
 -- ---- several are used
 
-pub used_next : (numbers order : List ℕ) (k : ℕ) → k < length numbers
-    → all_used order (drop k numbers) ≡ all_used (used_after order (get_or numbers k 0)) (drop (k + 1) numbers)
-used_next numbers order k inside =
+pub filled_next : (numbers : List ℕ) (order : OrderView) (k : ℕ) → k < length numbers
+    → order_filled (drop k numbers) order ≡ order_filled (drop (k + 1) numbers) (order_in (get_or numbers k 0) order)
+filled_next numbers order k inside =
     let one : suc k ≡ k + 1 = omega arith in
-    ap (all_used order) (drop-cons numbers k 0 inside)
-    ∙ ap (λ (n : ℕ). all_used (used_after order (get_or numbers k 0)) (drop n numbers)) one
+    ap (λ (l : List ℕ). order_filled l order) (drop-cons numbers k 0 inside)
+    ∙ ap (λ (n : ℕ). order_filled (drop n numbers) (order_in (get_or numbers k 0) order)) one
 
-pub used_all : (numbers order : List ℕ) (k : ℕ) → length numbers ≤ k → all_used order (drop k numbers) ≡ order
-used_all numbers order k past = ap (all_used order) (drop_all k numbers past)
+pub filled_all : (numbers : List ℕ) (order : OrderView) (k : ℕ) → length numbers ≤ k → order_filled (drop k numbers) order ≡ order
+filled_all numbers order k past = ap (λ (l : List ℕ). order_filled l order) (drop_all k numbers past)

@@ -1,7 +1,7 @@
 -- The sessions that a swapper holds for its clients, each under its number: loaded in the device, or saved in a context beside it
 -- (Part 1, "Session Context Management"). A client may have saved one itself: that isn't in use until it gives the context back that
 -- was handed out for it. What a device that tells its state has of them is said over that state.
-use Rattle.std.specs.Prelude.{◌≡◌, ◌<◌, ◌≤◌, ◌⊎◌, ℕ, ◌+◌, ◌-◌, ◌*◌, ◌^◌, ◌==◌, ◌&&◌, ◌||◌, min, not, bytes_eq, Bool, true, false, List, [], ◌∷◌, length, map, get_or, set, replicate, Option, Some, None, is_some, IfSome, IsSomeAnd, Result, Ok, OnOk, take, drop, if◌then◌else◌}
+use Rattle.std.specs.Prelude.{◌≡◌, ◌<◌, ◌≤◌, ◌⊎◌, ℕ, ◌+◌, ◌-◌, ◌*◌, ◌^◌, ◌==◌, ◌&&◌, ◌||◌, min, not, bytes_eq, Bool, true, false, List, [], ◌∷◌, ◌++◌, length, map, get_or, set, replicate, slice_get, Option, Some, None, is_some, IfSome, IsSomeAnd, Result, Ok, Err, OnOk, take, drop, if◌then◌else◌}
 use Rattle.std.specs.Int.{w64, from_be_bytes}
 use Rattle.std.specs.List.{AllByRecursion, count_by, list_any}
 use Rattle.tab_spec.specs.declared.TheConstants.{ACTIVE_SESSIONS, CONTEXT_LIMIT, HEADER_BYTES, LOADED_SESSIONS, RC_SUCCESS, ST_NO_SESSIONS}
@@ -11,7 +11,7 @@ use Rattle.tab_spec.specs.Reply.{response}
 use Rattle.tab_spec.specs.Session.{Session}
 use Rattle.tab_spec.specs.Shape.{number_of_session, octet_of}
 use Rattle.device_port.specs.Device.{Seen, asked_of, last_of, sent_of}
-use Rattle.device_port.specs.Use.{all_used, is_among, without_first, without_one}
+use Rattle.device_port.specs.Use.{all_used, first_unneeded, is_among, used_after, without_first, without_one}
 use Rattle.device_port.specs.declared.own.SwapError.{SwapError}
 use Rattle.session_swap.specs.declared.TheConstants.{RENEWAL_GAP}
 use Rattle.effect_spec.specs.Contexts.{session_context}
@@ -33,12 +33,13 @@ pub record Item : Type 0 where
   pub saved : Option Saved
   pub handed : Option (List ℕ)
 
--- what is seen of a swapper: its sessions, by number, the number that the next context gets, and the numbers of the loaded sessions,
--- the least recently used first
+-- what is seen of a swapper: its sessions, by number, the number that the next context gets, the numbers of the loaded sessions,
+-- the least recently used first, and those of the saved ones, in the order in which they were saved
 pub record SessionsView : Type 0 where
   pub items : List (Option Item)
   pub next : ℕ
   pub order : List ℕ
+  pub saved : List ℕ
 
 -- ---- items
 
@@ -196,6 +197,35 @@ abbrev pub oldest_number : List (Option Item) → Option ℕ
 oldest_number [] = None
 oldest_number (item ∷ items) = older (number_of_item item) (oldest_number items)
 
+-- the number of the context of the first of these sessions; nothing where there is none
+abbrev pub first_number : List (Option Item) → List ℕ → Option ℕ
+first_number items [] = None
+first_number items (number ∷ numbers) = number_of_item (item_at items number)
+
+-- that of the session of a number, if there is one
+abbrev pub number_at : List (Option Item) → Option ℕ → Option ℕ
+number_at items None = None
+number_at items (Some number) = number_of_item (item_at items number)
+
+-- the numbers of the contexts of these sessions, in this order
+abbrev pub numbers_along : List (Option Item) → List ℕ → List (Option ℕ)
+numbers_along items numbers = map (λ number. number_of_item (item_at items number)) numbers
+
+-- one number is below another, where there are both
+abbrev pub IsBelow : Option ℕ → Option ℕ → Type 0
+IsBelow number other = IfSome number (λ n. IfSome other (λ m. n < m))
+
+-- each of these numbers is below those after it
+abbrev pub Rise : List (Option ℕ) → Type 0
+Rise [] = Unit {0}
+Rise (number ∷ later) = AllByRecursion (λ other. IsBelow number other) later × Rise later
+
+-- the handle of the session that is the first of the saved ones
+pub record IsFirst (view : SessionsView) (handle : ℕ) : Type 0 where
+  pub named : Names view.items handle
+  pub saved : is_saved_item (item_of view.items handle) ≡ true
+  pub first : slice_get view.saved 0 ≡ Some (number_of_session handle)
+
 -- a saved session whose context has the least number
 pub record IsOldest (items : List (Option Item)) (handle : ℕ) : Type 0 where
   pub named : Names items handle
@@ -228,6 +258,10 @@ pub record IsFresh (counter : ℕ) (items new_items : List (Option Item)) (numbe
 -- how far the next context's number is above the oldest, by what is kept
 abbrev pub gap_kept : SessionsView → ℕ
 gap_kept view = gap_from view.next (oldest_number view.items)
+
+-- the same by the session that was saved first
+abbrev pub gap_first : SessionsView → ℕ
+gap_first view = gap_from view.next (first_number view.items view.saved)
 
 -- ---- what stands for the sessions, in the state of a device
 
@@ -298,6 +332,8 @@ pub record SessionsStand (slots : SlotState) (view : SessionsView) (others : Lis
   pub each : (number : ℕ) → IfSome (item_at view.items number) (λ item. ItemStands slots number item)
   pub owned : IsOwned slots view.items others
   pub next : list_any is_saved_item view.items ≡ true → view.next ≡ slots.counter
+  -- in the order in which sessions were saved the numbers of their contexts rise
+  pub rise : Rise (numbers_along view.items view.saved)
 
 abbrev pub Stand : Option SlotState → SessionsView → List ℕ → Type 0
 Stand state view others = IfSome state (λ slots. SessionsStand slots view others)
@@ -365,6 +401,7 @@ pub record SavesForClient (last : Option (List ℕ)) (reply : List ℕ) (handle 
         (saved_by_client (drop HEADER_BYTES reply) (item_at old.items (number_of_session handle)));
     next = number_after (context_number (drop HEADER_BYTES reply));
     order = without_one (number_of_session handle) old.order;
+    saved = old.saved ++ number_of_session handle ∷ [];
   }
 
 -- and over a device that tells its state: the reply hands out the context which the device makes of this session, under the number
@@ -416,10 +453,19 @@ evictions needed new_places items = loaded_items items + missing needed items + 
 abbrev pub moves_of : List ℕ → ℕ → List (Option Item) → ℕ
 moves_of needed new_places items = evictions needed new_places items + missing needed items
 
+-- these are the numbers of the sessions of this sort, each once
+pub record ListsThose (is : Option Item → Bool) (numbers : List ℕ) (items : List (Option Item)) : Type 0 where
+  pub each : (number : ℕ) → count_by (λ one. one == number) numbers ≡ flag (is (item_at items number))
+  pub count : length numbers ≡ count_by is items
+
 -- the order lists the loaded sessions, each once
-pub record Lists (order : List ℕ) (items : List (Option Item)) : Type 0 where
-  pub each : (number : ℕ) → count_by (λ one. one == number) order ≡ flag (is_loaded_item (item_at items number))
-  pub count : length order ≡ loaded_items items
+abbrev pub Lists : List ℕ → List (Option Item) → Type 0
+Lists order items = ListsThose is_loaded_item order items
+
+-- without each of these
+abbrev pub without_all : List ℕ → List ℕ → List ℕ
+without_all listed [] = listed
+without_all listed (one ∷ needed) = without_all (without_one one listed) needed
 
 -- Sessions are saved for room alone, the least recently used first: no more than have to, and none where there is room. What is needed
 -- is used
@@ -436,6 +482,9 @@ pub record MakesRoom {D : Type 0} (seen : D → Seen) (old new : D) (needed : Li
       → (new ≡ old) × (new_view.items ≡ view.items) × (new_view.next ≡ view.next) × (result ≡ Ok tt)
   pub order : OnOk result (new_view.order
       ≡ all_used (without_first (evictions needed new_places view.items) (numbers_of needed) view.order) (numbers_of needed))
+  -- those that leave come after the saved ones
+  pub saved : OnOk result (new_view.saved
+      ≡ without_all (view.saved ++ first_unneeded (evictions needed new_places view.items) (numbers_of needed) view.order) (numbers_of needed))
   pub listed : Lists new_view.order new_view.items
 
 -- ---- clients
@@ -451,6 +500,7 @@ pub record Ends (state new_state : Option SlotState) (handle : ℕ) (view new_vi
   pub view_is : new_view ≡ record view {
     items = set view.items (number_of_session handle) None;
     order = without_one (number_of_session handle) view.order;
+    saved = without_one (number_of_session handle) view.saved;
   }
   pub sessions : sessions_of new_state new_view.items ≡ without_session (number_of_session handle) (sessions_of state view.items)
 
@@ -478,6 +528,12 @@ pub record Renews (old new : Seen) (handle : ℕ) (items new_items : List (Optio
 abbrev pub full_kept : List (Option Item) → ℕ
 full_kept items = flag (loaded_items items == LOADED_SESSIONS)
 
+-- in which order sessions were used and saved after the session of a handle was renewed: where no place was free, the least recently
+-- used one was saved before
+pub record IsSavedAgain (view new_view : SessionsView) (handle : ℕ) : Type 0 where
+  pub order : new_view.order ≡ drop (full_kept view.items) view.order
+  pub saved : new_view.saved ≡ used_after (view.saved ++ take (full_kept view.items) view.order) (number_of_session handle)
+
 -- how far a renewal raises the number that comes next at the most, also one that failed; the gap leaves room afterwards. It sends a
 -- ContextLoad and a ContextSave, and another ContextSave first where every place is taken
 pub record RenewalCounts {D : Type 0} (seen : D → Seen) (old new : D) (items : List (Option Item)) : Type 0 where
@@ -499,5 +555,10 @@ pub record Refreshes (state new_state : Option SlotState) (view new_view : Sessi
   pub most : renewed ≤ saved_items view.items
   -- the number that comes next rises by one for each, and by one more where another session had to be saved before the first
   pub counted : IfSome new_state (λ slots. slots.counter ≡ counter_of state + renewed + min renewed (full_flag state))
-  -- over every device: the gap that is kept is small, or each session that was saved was renewed
-  pub done : (gap_kept new_view < RENEWAL_GAP) ⊎ (renewed ≡ saved_items view.items)
+  -- over every device: the gap above the session that was saved first is small, or each session that was saved was renewed
+  pub done : (gap_first new_view < RENEWAL_GAP) ⊎ (renewed ≡ saved_items view.items)
+
+-- how many records of the lists a refresh visits at the most, where so many sessions were saved before
+abbrev pub Visited : ℕ → ℕ → ℕ → Result ℕ SwapError → Type 0
+Visited old new most (Ok renewed) = new ≤ old + 12 * renewed + 6
+Visited old new most (Err failed) = new ≤ old + 12 * most + 6

@@ -1,6 +1,6 @@
 -- What the three commands that move sessions do to the state of a device, where it tells it (Part 3, "TPM2_ContextSave",
 -- "TPM2_ContextLoad", "TPM2_FlushContext").
-use Rattle.std.specs.Prelude.{◌≡◌, ◌<◌, ◌≤◌, ℕ, ◌+◌, ◌-◌, min, ◌==◌, Bool, true, false, List, [], length, map, set, Option, Some, None, is_some, IfSome, IsSomeAnd, Result, Ok, OnOk, drop}
+use Rattle.std.specs.Prelude.{◌≡◌, ◌<◌, ◌≤◌, ℕ, ◌+◌, ◌-◌, min, ◌==◌, Bool, true, false, List, [], length, map, set, get_or, Option, Some, None, is_some, IfSome, IsSomeAnd, Result, Ok, OnOk, drop}
 use Rattle.tab_spec.specs.declared.TheConstants.{CONTEXT_GAP, CONTEXT_LIMIT, HEADER_BYTES, LOADED_SESSIONS}
 use Rattle.tab_spec.specs.Frame.{is_frame}
 use Rattle.tab_spec.specs.Session.{Session}
@@ -9,12 +9,12 @@ use Rattle.device_spec.specs.ContextCommands.{context_save_command}
 use Rattle.device_port.specs.Device.{Seen, asked_of, last_of, sent_of}
 use Rattle.device_port.specs.declared.own.SwapError.{SwapError}
 use Rattle.device_port.specs.Own.{IsAnswered, Succeeds}
-use Rattle.device_port.specs.Use.{all_used, is_among, used_after, without_first}
+use Rattle.device_port.specs.Use.{is_among}
 use Rattle.device_spec.specs.Slots.{SessionPlace, SlotState, IsSlots, inactive, loaded, saved, gap_of, loaded_count, loaded_session, place_of, session_at, session_of_context, with_place}
 use Rattle.session_swap.specs.declared.TheConstants.{RENEWAL_GAP}
 use Rattle.session_swap.specs.declared.record.Record.{Record}
-use Rattle.session_swap.specs.Items.{AreFree, AreLoaded, AreNamed, HandsOut, HasGapRoom, IsFresh, IsRenewed, IsSentOut, Item, KeepsSessions, Names, Stand, context_number, counter_of, full_flag, full_kept, gap_in, is_loaded_item, is_saved_item, item_at, item_of, item_session, loaded_items, missing, number_after, number_of_item, numbers_of, oldest_number, rest_of, saved_items}
-use Rattle.session_swap.specs.Records.{AreRecords, IsContext, ListsIn, items_of, view_of}
+use Rattle.session_swap.specs.Items.{AreFree, AreLoaded, AreNamed, HandsOut, HasGapRoom, IsFresh, IsRenewed, IsSentOut, Item, KeepsSessions, Names, Rise, Stand, context_number, counter_of, full_flag, full_kept, gap_in, is_loaded_item, is_saved_item, item_at, item_of, item_session, loaded_items, missing, number_after, number_of_item, numbers_along, numbers_of, oldest_number, rest_of, saved_items}
+use Rattle.session_swap.specs.Records.{AreRecords, IsContext, ListsIn, OrderView, items_of, order_evicted, order_filled, order_freed, order_in, view_of}
 
 -- ---- the state after each
 
@@ -168,18 +168,18 @@ pub record KeepsSaved (state : Option SlotState) (items new_items : List (Option
   pub fresh : (number last : ℕ) → number_of_item (item_at new_items number) ≡ Some last → last < counter_of state
       → number_of_item (item_at items number) ≡ Some last
 
--- the saved session of this number has the oldest context
-pub record IsOldestAt (items : List (Option Item)) (number : ℕ) : Type 0 where
+-- the saved session of this number has the oldest context, where the device tells
+pub record IsOldestAt (state : Option SlotState) (items : List (Option Item)) (number : ℕ) : Type 0 where
   pub saved : is_saved_item (item_at items number) ≡ true
-  pub oldest : number_of_item (item_at items number) ≡ oldest_number items
+  pub oldest : IfSome state (λ slots. number_of_item (item_at items number) ≡ oldest_number items)
 
 -- a place was made free: the oldest context is the same one, and the number that comes next rose by one where none was free. Where
 -- every place was taken, the least recently used session left
-pub record Frees (state new_state : Option SlotState) (items new_items : List (Option Item)) (loaded new_loaded : List ℕ) : Type 0 where
+pub record Frees (state new_state : Option SlotState) (items new_items : List (Option Item)) (before after : OrderView) : Type 0 where
   pub free : AreFree new_state 1
   pub oldest : IfSome state (λ slots. (number : ℕ) → oldest_number items ≡ Some number → oldest_number new_items ≡ Some number)
   pub exact : counter_of new_state ≡ counter_of state + full_flag state
-  pub order : new_loaded ≡ drop (full_kept items) loaded
+  pub order : after ≡ order_freed (full_kept items) before
 
 -- how far that raises the number that comes next at the most, and that one command is sent where every place is taken; the gap leaves
 -- room afterwards
@@ -209,14 +209,23 @@ handle_of (Some item) = item.handle
 abbrev pub handle_at : List (Option Item) → ℕ → ℕ
 handle_at items number = handle_of (item_at items number)
 
+-- so many sessions from the first one on are needed
+abbrev pub AllNeeded : List (Option Item) → List ℕ → List ℕ → ℕ → Type 0
+AllNeeded items numbers needed count = (k : ℕ) → k < count → is_among needed (handle_at items (get_or numbers k 0)) ≡ true
+
 -- whether each session is loaded
 abbrev pub loadedness : List Record → List Bool
 loadedness records = map is_loaded_item (items_of records)
 
--- records that moves may begin with, and the list of the loaded sessions
-pub record ReadyIn (state : Option SlotState) (records : List Record) (next : ℕ) (loaded : List ℕ) (room : ℕ) : Type 0 where
+-- along the saved sessions the numbers of their contexts rise, where the device tells
+abbrev pub RiseIn : Option SlotState → List (Option Item) → List ℕ → Type 0
+RiseIn state items numbers = IfSome state (λ slots. Rise (numbers_along items numbers))
+
+-- records that moves may begin with, and the lists of their sessions
+pub record ReadyIn (state : Option SlotState) (records : List Record) (next : ℕ) (order : OrderView) : Type 0 where
   pub ready : Ready state records next []
-  pub listed : ListsIn records loaded room
+  pub listed : ListsIn records order
+  pub rise : RiseIn state (items_of records) order.saved
 
 -- sessions that are to be loaded: they are there, and they fit beside those that are loaded
 pub record CanFill (records : List Record) (needed : List ℕ) : Type 0 where
@@ -229,34 +238,34 @@ pub record CanClear (records : List Record) (needed : List ℕ) (most : ℕ) : T
   pub fits : length needed ≤ most + missing needed (items_of records)
 
 -- loaded sessions are saved until so many are left, the least recently used first, and none that is needed
-pub record Evicts {D : Type 0} (seen : D → Seen) (old new : D) (records new_records : List Record) (loaded new_loaded : List ℕ)
+pub record Evicts {D : Type 0} (seen : D → Seen) (old new : D) (records new_records : List Record) (before after : OrderView)
     (needed : List ℕ) (most : ℕ) (result : Result (Unit {0}) SwapError) : Type 0 where
   pub stay : (handle : ℕ) → Names (items_of records) handle → is_among needed handle ≡ true
       → item_of (items_of new_records) handle ≡ item_of (items_of records) handle
   pub left : OnOk result (loaded_items (items_of new_records) ≡ min (loaded_items (items_of records)) most)
-  pub order : OnOk result (new_loaded ≡ without_first (loaded_items (items_of records) - most) (numbers_of needed) loaded)
+  pub order : OnOk result (after ≡ order_evicted (loaded_items (items_of records) - most) (numbers_of needed) before)
   pub sent : sent_of (seen new) ≤ sent_of (seen old) + (loaded_items (items_of records) - most)
   pub counter : counter_of (seen new).state ≤ counter_of (seen old).state + LOADED_SESSIONS
 
 -- one session is loaded, by one command at most, and used
-pub record Brings {D : Type 0} (seen : D → Seen) (old new : D) (records new_records : List Record) (loaded new_loaded : List ℕ) (handle : ℕ)
+pub record Brings {D : Type 0} (seen : D → Seen) (old new : D) (records new_records : List Record) (before after : OrderView) (handle : ℕ)
     (result : Result (Unit {0}) SwapError) : Type 0 where
   pub others : (other : ℕ) → (other == number_of_session handle) ≡ false
       → item_at (items_of new_records) other ≡ item_at (items_of records) other
   pub sent : sent_of (seen new) ≤ sent_of (seen old) + 1
   pub loaded_is : OnOk result (loadedness new_records ≡ set (loadedness records) (number_of_session handle) true)
-  pub order : OnOk result (new_loaded ≡ used_after loaded (number_of_session handle))
+  pub order : OnOk result (after ≡ order_in (number_of_session handle) before)
   pub paid : OnOk result (sent_of (seen new) + loaded_items (items_of records) ≤ sent_of (seen old) + loaded_items (items_of new_records))
   pub idle : is_loaded_item (item_of (items_of records) handle) ≡ true → (new ≡ old) × (new_records ≡ records) × (result ≡ Ok tt)
 
 -- all that is needed is loaded, and used
-pub record Fills {D : Type 0} (seen : D → Seen) (old new : D) (records new_records : List Record) (loaded new_loaded : List ℕ)
+pub record Fills {D : Type 0} (seen : D → Seen) (old new : D) (records new_records : List Record) (before after : OrderView)
     (needed : List ℕ) (result : Result (Unit {0}) SwapError) : Type 0 where
   pub stay : (number : ℕ) → is_loaded_item (item_at (items_of records) number) ≡ true
       → item_at (items_of new_records) number ≡ item_at (items_of records) number
   pub loaded_is : OnOk result (AreLoaded needed (items_of new_records))
   pub count : OnOk result (loaded_items (items_of new_records) ≡ loaded_items (items_of records) + missing needed (items_of records))
-  pub order : OnOk result (new_loaded ≡ all_used loaded (numbers_of needed))
+  pub order : OnOk result (after ≡ order_filled (numbers_of needed) before)
   pub sent : sent_of (seen new) ≤ sent_of (seen old) + missing needed (items_of records)
   pub idle : AreLoaded needed (items_of records) → (new ≡ old) × (new_records ≡ records) × (result ≡ Ok tt)
 

@@ -1,6 +1,8 @@
 -- What the code keeps of the sessions, and what holds of it.
-use Rattle.std.specs.Prelude.{◌≡◌, ◌≤◌, ℕ, Bool, true, List, [], map, length, vec_capacity, Option, Some, None, Ok, Err, IfSome, if◌then◌else◌}
-use Rattle.std.specs.List.{All}
+use Rattle.std.specs.Prelude.{◌≡◌, ◌≤◌, ◌==◌, ℕ, Bool, true, ltb, List, [], ◌∷◌, ◌++◌, map, get_or, length, take, drop, vec_capacity, Option, Some, None, Ok, Err, IfSome, if◌then◌else◌}
+use Rattle.std.specs.List.{All, count_by, sum_by}
+use Rattle.device_port.specs.Use.{first_unneeded, used_after, without_first, without_one}
+use Rattle.linked_records.specs.View.{record_count}
 use Rattle.tab_spec.specs.Shape.{number_of_session}
 use Rattle.tab_spec.specs.declared.TheConstants.{ACTIVE_SESSIONS, LOADED_SESSIONS}
 use Rattle.tab_spec.specs.Admission.{is_session_handle}
@@ -12,7 +14,7 @@ use Rattle.device_spec.specs.Answers.{is_context_of}
 use Rattle.session_swap.specs.declared.record.Place.{Place}
 use Rattle.session_swap.specs.declared.record.Place.TheVariants as places
 use Rattle.session_swap.specs.declared.record.Record.{Record}
-use Rattle.session_swap.specs.Items.{Item, Lists, SessionsView, item_at, loaded_items}
+use Rattle.session_swap.specs.Items.{Item, Lists, ListsThose, SessionsView, flag, has_owner, is_saved_item, item_at, loaded_items}
 
 -- the context that was handed out, where the session isn't in use
 abbrev pub handed_by : Bool → List ℕ → Option (List ℕ)
@@ -35,13 +37,21 @@ item_of_record r = item_in r.place r.client r.handle r.context.items (handed_of 
 abbrev pub items_of : List Record → List (Option Item)
 items_of records = map item_of_record records
 
--- what is seen of the records, where these numbers are listed as loaded
-abbrev pub view_with : List Record → ℕ → List ℕ → SessionsView
-view_with records next loaded = record { items = items_of records; next = next; order = loaded }
+-- the numbers of the loaded sessions, the least recently used first, and those of the saved ones, in the order of the saves
+pub record OrderView : Type 0 where
+  pub loaded : List ℕ
+  pub saved : List ℕ
 
--- the same where the order of the loaded sessions doesn't count
+abbrev pub no_order : OrderView
+no_order = record { loaded = []; saved = [] }
+
+-- what is seen of the records, where these numbers are listed
+abbrev pub view_with : List Record → ℕ → OrderView → SessionsView
+view_with records next order = record { items = items_of records; next = next; order = order.loaded; saved = order.saved }
+
+-- the same where the order of the sessions doesn't count
 abbrev pub view_of : List Record → ℕ → SessionsView
-view_of records next = view_with records next []
+view_of records next = view_with records next no_order
 
 -- the number of a context
 abbrev pub sequence_of : Reading Context → ℕ
@@ -75,29 +85,87 @@ pub record AreRecords (records : List Record) : Type 0 where
   pub each : All (λ r. IsRecord r) records
   pub handles : (number : ℕ) → IfSome (item_at (items_of records) number) (λ item. IsHandleOf number item)
 
--- no number from this one on has a session
-abbrev pub AreUnusedFrom : ℕ → List (Option Item) → Type 0
-AreUnusedFrom used items = (number : ℕ) → used ≤ number → item_at items number ≡ None
+-- each loaded session is listed, no more of them than there are places, and each saved one
+pub record ListsIn (records : List Record) (order : OrderView) : Type 0 where
+  pub lists : Lists order.loaded (items_of records)
+  pub most : length order.loaded ≤ LOADED_SESSIONS
+  pub saved : ListsThose is_saved_item order.saved (items_of records)
 
--- what holds of the records and of the first number that hasn't had a session yet
-pub record AreHeld (records : List Record) (used : ℕ) : Type 0 where
+-- what holds of all that is kept: so many sessions are clients'
+pub record AreListed (records : List Record) (order : OrderView) (owned : ℕ) : Type 0 where
   pub sound : AreRecords records
-  pub unused : AreUnusedFrom used (items_of records)
-  pub most : used ≤ ACTIVE_SESSIONS
-
--- the list has the number of each loaded session: no more of them than there are places, and it has room for so many
-pub record ListsIn (records : List Record) (numbers : List ℕ) (room : ℕ) : Type 0 where
-  pub lists : Lists numbers (items_of records)
-  pub most : length numbers ≤ LOADED_SESSIONS
-  pub room_is : LOADED_SESSIONS ≤ room
-
--- what holds of all that is kept
-pub record AreListed (records : List Record) (used : ℕ) (loaded : List ℕ) (room : ℕ) : Type 0 where
-  pub held : AreHeld records used
-  pub listed : ListsIn records loaded room
+  pub listed : ListsIn records order
+  pub owned_is : owned ≡ count_by has_owner (items_of records)
 
 -- and of what is seen of it
 pub record IsSoundView (view : SessionsView) : Type 0 where
   pub count : length view.items ≡ ACTIVE_SESSIONS
   pub lists : Lists view.order view.items
   pub most : loaded_items view.items ≤ LOADED_SESSIONS
+  pub saved : ListsThose is_saved_item view.saved view.items
+
+-- ---- the lists
+
+-- the numbers in a list: those of its indices
+abbrev pub names_of : List (ℕ × Unit {0}) → List ℕ
+names_of list = map (λ p. p.0) list
+
+abbrev pub names_in : List (List (ℕ × Unit {0})) → ℕ → List ℕ
+names_in lists list = names_of (get_or lists list [])
+
+-- list 0 has the unused numbers, list 1 the loaded sessions, list 2 the saved ones
+abbrev pub order_of : List (List (ℕ × Unit {0})) → OrderView
+order_of lists = record { loaded = names_in lists 1; saved = names_in lists 2 }
+
+-- how often a number stands in a list
+abbrev pub stands_in : ℕ → List (ℕ × Unit {0}) → ℕ
+stands_in number list = count_by (λ one. one == number) (names_of list)
+
+-- there are three lists, and each number below this one stands in one of them, and once
+pub record HasFirst (count : ℕ) (lists : List (List (ℕ × Unit {0}))) : Type 0 where
+  pub three : length lists ≡ 3
+  pub once : (number : ℕ) → sum_by (stands_in number) lists ≡ flag (ltb number count)
+  pub total : record_count lists ≡ count
+
+-- the number of each session stands in a list; so many sessions are loaded, and so many saved
+pub record AreOrdered (lists : List (List (ℕ × Unit {0}))) (loaded saved : ℕ) : Type 0 where
+  pub all : HasFirst ACTIVE_SESSIONS lists
+  pub loaded_is : loaded ≡ length (order_of lists).loaded
+  pub saved_is : saved ≡ length (order_of lists).saved
+
+-- ---- what becomes of the order
+
+-- a session is used
+abbrev pub order_used : ℕ → OrderView → OrderView
+order_used number order = record order { loaded = used_after order.loaded number }
+
+-- it is saved
+abbrev pub order_out : ℕ → OrderView → OrderView
+order_out number order = record { loaded = without_one number order.loaded; saved = order.saved ++ number ∷ [] }
+
+-- it is loaded, and used
+abbrev pub order_in : ℕ → OrderView → OrderView
+order_in number order = record { loaded = used_after order.loaded number; saved = without_one number order.saved }
+
+-- it is gone
+abbrev pub order_without : ℕ → OrderView → OrderView
+order_without number order = record { loaded = without_one number order.loaded; saved = without_one number order.saved }
+
+-- so many that aren't needed are saved, the least recently used first
+abbrev pub order_evicted : ℕ → List ℕ → OrderView → OrderView
+order_evicted count needed order =
+    record { loaded = without_first count needed order.loaded; saved = order.saved ++ first_unneeded count needed order.loaded }
+
+-- those that are needed are loaded, and used
+abbrev pub order_filled : List ℕ → OrderView → OrderView
+order_filled [] order = order
+order_filled (number ∷ needed) order = order_filled needed (order_in number order)
+
+-- so many sessions are saved, the least recently used first
+abbrev pub order_freed : ℕ → OrderView → OrderView
+order_freed count order = record { loaded = drop count order.loaded; saved = order.saved ++ take count order.loaded }
+
+-- and another one is loaded and saved
+abbrev pub order_renewed : ℕ → ℕ → OrderView → OrderView
+order_renewed count number order =
+    record { loaded = drop count order.loaded; saved = used_after (order.saved ++ take count order.loaded) number }

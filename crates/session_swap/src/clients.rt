@@ -3,8 +3,9 @@ ghost use Rattle.device_spec.specs.ContextCommands.{context_save_command};
 ghost use Rattle.device_port.specs.Device.{last_of};
 ghost use Rattle.session_swap.specs.Items.{HasGapRoom, KeepsRest, MayHandOut, SavesForClient};
 ghost use Rattle.session_swap.specs.Items.{SavesTold, sessions_of};
-ghost use Rattle.session_swap.specs.Records.{items_of, view_of};
+ghost use Rattle.session_swap.specs.Records.{items_of, no_order, order_out, view_of, view_with};
 ghost use Rattle.device_port.specs.Own.{Asks};
+ghost use Rattle.tab_spec.specs.Shape.{number_of_session};
 ghost use Rattle.session_swap.specs.Moves.{Ready};
 
 use crate::items::put_out;
@@ -25,7 +26,8 @@ pub fn save_for_client<D: Device>(
     requires ready { (others : List ℕ)
         × Ready (D.seen device.old).state records.old next.old others }
     ensures ok { OnOk result (SavesForClient (last_of (D.seen device.new)) reply.new handle
-        (view_of records.old next.old) (view_of records.new next.new)
+        (view_of records.old next.old)
+        (view_with records.new next.new (order_out (number_of_session handle) no_order))
         × SavesTold (D.seen device.old).state (D.seen device.new).state reply.new handle
         (items_of records.old)) }
     ensures err { OnErr result ((items_of records.new ≡ items_of records.old)

@@ -2,11 +2,15 @@ ghost use Rattle.std.specs.Prelude.{◌≡◌, ◌≤◌, ◌<◌, ◌+◌, [], 
 ghost use Rattle.tab_spec.specs.declared.TheConstants.{CONTEXT_LIMIT};
 ghost use Rattle.session_swap.specs.declared.TheConstants.{RENEWAL_GAP};
 ghost use Rattle.session_swap.specs.Items.{HasGapRoom, KeepsRecent, Moved, RefreshCounts};
-ghost use Rattle.session_swap.specs.Items.{Refreshes, Stand, counter_of, gap_kept};
+ghost use Rattle.session_swap.specs.Items.{Refreshes, Stand, Visited, counter_of, gap_kept};
+ghost use Rattle.session_swap.specs.Items.{saved_items};
 ghost use Rattle.device_port.specs.Own.{AsksSome};
 
+use crate::order::{Uncounted, Visits};
 use crate::sessions::Sessions;
 use device_port::{Device, SwapError};
+use linked_records::Steps;
+use std::sync::ledger::Ledger;
 use tab_bytes::Buffer;
 
 /// Renews the oldest session contexts, until the number of the next context is less than 247 above
@@ -33,12 +37,60 @@ pub fn refresh<D: Device>(
     ensures counts { RefreshCounts D.seen device.old device.new sessions.old.items }
     ensures asks { AsksSome D.seen device.old device.new result }
 {
+    refresh_by(sessions, device, scratch, &mut Uncounted)
+}
+
+/// `refresh`, which visits at most twelve records of the lists for each session that is renewed,
+/// and six more; where it fails, twelve for each session that was saved before, and six more.
+pub fn refresh_counted<D: Device, L: Ledger>(
+    sessions: &mut Sessions,
+    device: &mut D,
+    scratch: &mut Buffer,
+    steps: &mut Steps<L>,
+) -> Result<u32, SwapError>
+    requires stand { Stand (D.seen device.old).state sessions.old [] }
+    requires may { HasGapRoom (D.seen device.old).state
+        × (counter_of (D.seen device.old).state + 1000 ≤ CONTEXT_LIMIT) }
+    ensures ok { IfOk result (λ renewed. Refreshes (D.seen device.old).state
+        (D.seen device.new).state sessions.old sessions.new renewed) }
+    ensures still { gap_kept sessions.old < RENEWAL_GAP
+        → (device.new ≡ device.old) × (sessions.new ≡ sessions.old) × (result ≡ Ok 0) }
+    ensures recent { IfSome (D.seen device.new).state
+        (λ slots. KeepsRecent slots sessions.old.items sessions.new.items) }
+    ensures moved { Moved D.seen device.old device.new sessions.old sessions.new }
+    ensures counts { RefreshCounts D.seen device.old device.new sessions.old.items
+        × Visited steps.old steps.new (saved_items sessions.old.items) result }
+    ensures asks { AsksSome D.seen device.old device.new result }
+{
+    refresh_by(sessions, device, scratch, steps)
+}
+
+fn refresh_by<D: Device, C: Visits>(
+    sessions: &mut Sessions,
+    device: &mut D,
+    scratch: &mut Buffer,
+    steps: &mut C,
+) -> Result<u32, SwapError>
+    requires stand { Stand (D.seen device.old).state sessions.old [] }
+    requires may { HasGapRoom (D.seen device.old).state
+        × (counter_of (D.seen device.old).state + 1000 ≤ CONTEXT_LIMIT) }
+    ensures ok { IfOk result (λ renewed. Refreshes (D.seen device.old).state
+        (D.seen device.new).state sessions.old sessions.new renewed) }
+    ensures still { gap_kept sessions.old < RENEWAL_GAP
+        → (device.new ≡ device.old) × (sessions.new ≡ sessions.old) × (result ≡ Ok 0) }
+    ensures recent { IfSome (D.seen device.new).state
+        (λ slots. KeepsRecent slots sessions.old.items sessions.new.items) }
+    ensures moved { Moved D.seen device.old device.new sessions.old sessions.new }
+    ensures counts { RefreshCounts D.seen device.old device.new sessions.old.items
+        × Visited (C.count steps.old) (C.count steps.new) (saved_items sessions.old.items) result }
+    ensures asks { AsksSome D.seen device.old device.new result }
+{
     let most = u32::from(sessions.saved());
     for renewed in 0..most {
-        let Some(handle) = sessions.due() else {
+        let Some(handle) = sessions.due(steps) else {
             return Ok(renewed);
         };
-        sessions.renew(device, handle, scratch)?;
+        sessions.renew_by(device, handle, scratch, steps)?;
     }
     Ok(most)
 }

@@ -1,15 +1,15 @@
-ghost use Rattle.std.specs.Prelude.{◌≡◌, ◌≤◌, length, vec_capacity, is_some, IfOk};
+ghost use Rattle.std.specs.Prelude.{◌≡◌, ◌≤◌, ◌<◌, length, vec_capacity, is_some, IfOk, IfSome};
 ghost use Rattle.std.specs.Prelude.{MatchOption, Some, false, true};
 ghost use Rattle.std.specs.List.{count_by, list_any};
 ghost use Rattle.tab_spec.specs.Shape.{number_of_session};
 ghost use Rattle.device_spec.specs.Answers.{word_at};
-ghost use Rattle.device_spec.specs.Slots.{older};
-ghost use Rattle.session_swap.specs.Items.{IsOldest, Names, equals_handed};
+ghost use Rattle.device_spec.specs.Slots.{gap_from};
+ghost use Rattle.session_swap.specs.Items.{Names, equals_handed};
 ghost use Rattle.session_swap.specs.Items.{has_owner, is_handed_to, is_loaded_item, is_orphan};
-ghost use Rattle.session_swap.specs.Items.{is_owned, is_saved_item, item_at, item_of};
+ghost use Rattle.session_swap.specs.Items.{is_owned, item_at, item_of};
 ghost use Rattle.session_swap.specs.Items.{may_take_back, no_items, number_of_item, is_owner};
-ghost use Rattle.session_swap.specs.Items.{oldest_number, owner_in, owner_of_item, saved_items};
-ghost use Rattle.session_swap.specs.Records.{AreHeld, AreRecords, handed_by, item_of_record};
+ghost use Rattle.session_swap.specs.Items.{number_at, owner_in, owner_of_item};
+ghost use Rattle.session_swap.specs.Records.{AreRecords, handed_by, item_of_record};
 ghost use Rattle.session_swap.specs.Records.{items_of};
 
 use crate::record::{Place, Record};
@@ -35,16 +35,6 @@ impl Record {
     {
         match self.place {
             Place::Loaded => true,
-            _ => false,
-        }
-    }
-
-    /// Whether its session is saved.
-    pub fn is_saved(&self) -> bool
-        ensures { result ≡ is_saved_item (item_of_record self.now) }
-    {
-        match self.place {
-            Place::Saved(_) => true,
             _ => false,
         }
     }
@@ -189,15 +179,14 @@ pub fn find_owned(records: &[Record], client: u32) -> Option<u32>
     None
 }
 
-/// The handle of a session of nobody; nothing where there is none. No number from `used` on has a
-/// session.
-pub fn find_orphan(records: &[Record], used: usize) -> Option<u32>
-    requires { AreHeld records.now used }
+/// The handle of a session of nobody; nothing where there is none.
+pub fn find_orphan(records: &[Record]) -> Option<u32>
+    requires { AreRecords records.now }
     ensures { MatchOption result (list_any is_orphan (items_of records.now) ≡ false)
         (λ handle. Names (items_of records.now) handle
         × (is_orphan (item_at (items_of records.now) (number_of_session handle)) ≡ true)) }
 {
-    for record in &records[..used] {
+    for record in records {
         if record.is_orphan() {
             return Some(record.handle);
         }
@@ -233,70 +222,17 @@ pub fn find_handed(records: &[Record], client: u32, context: &[u8]) -> Option<u3
     Some(handle)
 }
 
-/// How many sessions clients have.
-pub fn count_active(records: &[Record]) -> usize
-    ensures count { result ≡ count_by has_owner (items_of records.now) }
-    ensures most { result ≤ length records.now }
-{
-    records.iter().filter(|record| record.has_owner()).count()
-}
-
-/// How many sessions are nobody's.
-pub fn count_orphans(records: &[Record]) -> usize
-    ensures count { result ≡ count_by is_orphan (items_of records.now) }
-    ensures most { result ≤ length records.now }
-{
-    records.iter().filter(|record| record.is_orphan()).count()
-}
-
-/// How many sessions are saved.
-pub fn count_saved(records: &[Record]) -> usize
-    ensures count { result ≡ saved_items (items_of records.now) }
-    ensures most { result ≤ length records.now }
-{
-    records.iter().filter(|record| record.is_saved()).count()
-}
-
-/// The least number of a context that a session is saved in.
-pub fn least_number(records: &[Record]) -> Option<u64>
-    ensures { result ≡ oldest_number (items_of records.now) }
-{
-    let mut least = None;
-    for record in records {
-        least = older_of(least, record.saved_number());
-    }
-    least
-}
-
-// The less of two numbers, where there are two.
-fn older_of(least: Option<u64>, number: Option<u64>) -> Option<u64>
-    ensures { result ≡ older least number }
+/// How far the number of the next context is above that of a session, if there is one that is
+/// saved.
+pub fn gap_above(records: &[Record], next: u64, number: Option<usize>) -> u64
+    requires { IfSome number (λ n. n < length records.now) }
+    ensures { result ≡ gap_from next (number_at (items_of records.now) number) }
 {
     let Some(number) = number else {
-        return least;
+        return 0;
     };
-    match least {
-        Some(least) => Some(least.min(number)),
-        None => Some(number),
+    match records[number].saved_number() {
+        Some(last) => next.saturating_sub(last),
+        None => 0,
     }
-}
-
-/// A saved session whose context has the least number; nothing where none is saved.
-pub fn oldest_of(records: &[Record]) -> Option<u32>
-    requires { AreRecords records.now }
-    ensures { MatchOption result (saved_items (items_of records.now) ≡ 0)
-        (λ handle. IsOldest (items_of records.now) handle) }
-{
-    let Some(least) = least_number(records) else {
-        return None;
-    };
-    for record in records {
-        let Some(number) = record.saved_number() else {
-            continue;
-        };
-        if number == least {
-            return Some(record.handle);
-        }
-    }
-    None
 }

@@ -16,7 +16,7 @@ mod renewal;
 mod sessions;
 
 pub use device_port::SwapError;
-pub use gap::refresh;
+pub use gap::{refresh, refresh_counted};
 pub use laws::sessions_stand_on;
 pub use sessions::Sessions;
 

@@ -1,17 +1,17 @@
-ghost use Rattle.std.specs.Prelude.{◌≡◌, ◌≤◌, ◌<◌, ◌||◌, not, ℕ, length, get_or, true, false};
-ghost use Rattle.std.specs.Prelude.{vec_capacity, OnOk, MatchOption};
-ghost use Rattle.session_swap.specs.Items.{AreNamed, AreNeeded, HavePlaces, Lists, MakesRoom};
+ghost use Rattle.std.specs.Prelude.{◌≡◌, ◌≤◌, ◌<◌, ◌||◌, not, ℕ, length, true, false};
+ghost use Rattle.std.specs.Prelude.{slice_get, Some, OnOk, MatchOption};
+ghost use Rattle.session_swap.specs.Items.{AreNamed, AreNeeded, HavePlaces, MakesRoom};
 ghost use Rattle.session_swap.specs.Items.{Names, counter_of, is_loaded_item, item_of};
 ghost use Rattle.session_swap.specs.Items.{loaded_items, missing};
-ghost use Rattle.session_swap.specs.Records.{AreRecords, items_of, view_with};
-ghost use Rattle.session_swap.specs.Moves.{Brings, CanClear, CanFill, Evicts, Fills, HasContexts};
-ghost use Rattle.session_swap.specs.Moves.{ReadyIn, Swaps, SwapsFor, handle_at};
+ghost use Rattle.session_swap.specs.Records.{AreRecords, ListsIn, items_of, view_with};
+ghost use Rattle.session_swap.specs.Moves.{AllNeeded, Brings, CanClear, CanFill, Evicts, Fills};
+ghost use Rattle.session_swap.specs.Moves.{HasContexts, ReadyIn, Swaps, SwapsFor, handle_at};
 ghost use Rattle.device_port.specs.Own.{AsksSome};
 ghost use Rattle.device_port.specs.Use.{is_among};
 ghost use Rattle.tab_spec.specs.declared.TheConstants.{LOADED_SESSIONS};
 
 use crate::items::{bring_in, put_out};
-use crate::order::list_last;
+use crate::order::{Order, Uncounted};
 use crate::record::Record;
 use crate::sessions::number_of;
 use device_port::{Device, SwapError};
@@ -45,22 +45,30 @@ fn count_missing(records: &[Record], needed: &[u32]) -> usize
     count
 }
 
-// The place of the loaded session that was used least recently, of those that aren't needed.
-fn unneeded(records: &[Record], loaded: &[usize], needed: &[u32]) -> Option<usize>
-    requires sound { AreRecords records.now }
-    requires listed { Lists loaded.now (items_of records.now) }
-    ensures { MatchOption result
-        ((k : ℕ) → k < length loaded.now
-        → is_among needed.now (handle_at (items_of records.now) (get_or loaded.now k 0)) ≡ true)
-        (λ at. (at < length loaded.now)
-        × (is_among needed.now (handle_at (items_of records.now) (get_or loaded.now at 0)) ≡ false)
-        × ((k : ℕ) → k < at
-        → is_among needed.now (handle_at (items_of records.now) (get_or loaded.now k 0)) ≡ true)) }
+// Whether a session is one of those that are needed.
+fn is_needed(record: &Record, needed: &[u32]) -> bool
+    ensures { result ≡ is_among needed.now record.now.handle }
 {
-    for (at, number) in loaded.iter().enumerate() {
-        if !needed.contains(&records[*number].handle) {
-            return Some(at);
+    needed.contains(&record.handle)
+}
+
+// The loaded session that was used least recently, of those that aren't needed.
+fn unneeded(records: &[Record], order: &Order, needed: &[u32]) -> Option<usize>
+    requires sound { AreRecords records.now }
+    requires listed { ListsIn records.now order.now }
+    ensures { MatchOption result
+        (AllNeeded (items_of records.now) order.now.loaded needed.now (length order.now.loaded))
+        (λ number. (at : ℕ) × (slice_get order.now.loaded at ≡ Some number)
+        × (is_among needed.now (handle_at (items_of records.now) number) ≡ false)
+        × AllNeeded (items_of records.now) order.now.loaded needed.now at) }
+{
+    let mut here = order.first_loaded(&mut Uncounted);
+    for _ in 0..LOADED_SESSIONS {
+        let number = here?;
+        if !is_needed(&records[number], needed) {
+            return Some(number);
         }
+        here = order.next_loaded(number);
     }
     None
 }
@@ -70,30 +78,28 @@ fn unneeded(records: &[Record], loaded: &[usize], needed: &[u32]) -> Option<usiz
 fn clear_places<D: Device>(
     records: &mut [Record],
     next: &mut u64,
-    loaded: &mut Vec<usize>,
+    order: &mut Order,
     needed: &[u32],
     most: usize,
     device: &mut D,
     scratch: &mut Buffer,
 ) -> Result<(), SwapError>
     requires needed { CanClear records.old needed.now most }
-    requires ready { ReadyIn (D.seen device.old).state records.old next.old
-        loaded.old.items (vec_capacity loaded.old) }
+    requires ready { ReadyIn (D.seen device.old).state records.old next.old order.old }
     requires may { HasContexts (D.seen device.old).state }
     ensures swaps { Swaps D.seen device.old device.new records.old records.new }
-    ensures ready { ReadyIn (D.seen device.new).state records.new next.new
-        loaded.new.items (vec_capacity loaded.new) }
+    ensures ready { ReadyIn (D.seen device.new).state records.new next.new order.new }
     ensures evicts { Evicts D.seen device.old device.new records.old records.new
-        loaded.old.items loaded.new.items needed.now most result }
+        order.old order.new needed.now most result }
     ensures idle { loaded_items (items_of records.old) ≤ most → (device.new ≡ device.old)
         × (records.new ≡ records.old) × (next.new ≡ next.old) × (result ≡ Ok tt) }
     ensures asks { AsksSome D.seen device.old device.new result }
 {
-    while loaded.len() > most {
+    while order.loaded() > most {
         // What is needed alone would fit.
-        let at = unneeded(records, loaded, needed).unwrap();
-        put_out(records, next, loaded[at], device, scratch)?;
-        loaded.remove(at);
+        let number = unneeded(records, order, needed).unwrap();
+        put_out(records, next, number, device, scratch)?;
+        order.move_out(number, &mut Uncounted);
     }
     Ok(())
 }
@@ -102,31 +108,29 @@ fn clear_places<D: Device>(
 fn make_loaded<D: Device>(
     records: &mut [Record],
     next: u64,
-    loaded: &mut Vec<usize>,
+    order: &mut Order,
     handle: u32,
     device: &mut D,
     scratch: &mut Buffer,
 ) -> Result<(), SwapError>
     requires named { Names (items_of records.old) handle }
-    requires ready { ReadyIn (D.seen device.old).state records.old next
-        loaded.old.items (vec_capacity loaded.old) }
+    requires ready { ReadyIn (D.seen device.old).state records.old next order.old }
     requires place { is_loaded_item (item_of (items_of records.old) handle) ≡ false
         → loaded_items (items_of records.old) < LOADED_SESSIONS }
     ensures swaps { Swaps D.seen device.old device.new records.old records.new }
-    ensures ready { ReadyIn (D.seen device.new).state records.new next
-        loaded.new.items (vec_capacity loaded.new) }
+    ensures ready { ReadyIn (D.seen device.new).state records.new next order.new }
     ensures counter { counter_of (D.seen device.new).state ≡ counter_of (D.seen device.old).state }
     ensures brings { Brings D.seen device.old device.new records.old records.new
-        loaded.old.items loaded.new.items handle result }
+        order.old order.new handle result }
     ensures asks { AsksSome D.seen device.old device.new result }
 {
     let number = number_of(handle);
     if records[number].is_loaded() {
-        list_last(loaded, number);
+        order.use_again(number);
         return Ok(());
     }
     bring_in(records, next, number, device, scratch)?;
-    list_last(loaded, number);
+    order.move_in(number, &mut Uncounted);
     Ok(())
 }
 
@@ -134,24 +138,22 @@ fn make_loaded<D: Device>(
 fn fill_places<D: Device>(
     records: &mut [Record],
     next: u64,
-    loaded: &mut Vec<usize>,
+    order: &mut Order,
     needed: &[u32],
     device: &mut D,
     scratch: &mut Buffer,
 ) -> Result<(), SwapError>
     requires needed { CanFill records.old needed.now }
-    requires ready { ReadyIn (D.seen device.old).state records.old next
-        loaded.old.items (vec_capacity loaded.old) }
+    requires ready { ReadyIn (D.seen device.old).state records.old next order.old }
     ensures swaps { Swaps D.seen device.old device.new records.old records.new }
-    ensures ready { ReadyIn (D.seen device.new).state records.new next
-        loaded.new.items (vec_capacity loaded.new) }
+    ensures ready { ReadyIn (D.seen device.new).state records.new next order.new }
     ensures counter { counter_of (D.seen device.new).state ≡ counter_of (D.seen device.old).state }
     ensures fills { Fills D.seen device.old device.new records.old records.new
-        loaded.old.items loaded.new.items needed.now result }
+        order.old order.new needed.now result }
     ensures asks { AsksSome D.seen device.old device.new result }
 {
     for handle in needed {
-        make_loaded(records, next, loaded, *handle, device, scratch)?;
+        make_loaded(records, next, order, *handle, device, scratch)?;
     }
     Ok(())
 }
@@ -161,24 +163,22 @@ fn fill_places<D: Device>(
 pub fn swap_sessions<D: Device>(
     records: &mut [Record],
     next: &mut u64,
-    loaded: &mut Vec<usize>,
+    order: &mut Order,
     needed: &[u32],
     new_places: u8,
     device: &mut D,
     scratch: &mut Buffer,
 ) -> Result<(), SwapError>
     requires needed { AreNeeded needed.now new_places (items_of records.old) }
-    requires ready { ReadyIn (D.seen device.old).state records.old next.old
-        loaded.old.items (vec_capacity loaded.old) }
+    requires ready { ReadyIn (D.seen device.old).state records.old next.old order.old }
     requires may { HasContexts (D.seen device.old).state }
     ensures swaps { SwapsFor D.seen device.old device.new records.old records.new needed.now }
-    ensures ready { ReadyIn (D.seen device.new).state records.new next.new
-        loaded.new.items (vec_capacity loaded.new) }
+    ensures ready { ReadyIn (D.seen device.new).state records.new next.new order.new }
     ensures ok { OnOk result
         (HavePlaces needed.now new_places (D.seen device.new).state (items_of records.new)) }
     ensures room { MakesRoom D.seen device.old device.new needed.now new_places
-        (view_with records.old next.old loaded.old.items)
-        (view_with records.new next.new loaded.new.items) result }
+        (view_with records.old next.old order.old)
+        (view_with records.new next.new order.new) result }
     ensures asks { AsksSome D.seen device.old device.new result }
 {
     let most = LOADED_SESSIONS as usize - usize::from(new_places);
@@ -186,11 +186,11 @@ pub fn swap_sessions<D: Device>(
     clear_places(
         records,
         next,
-        loaded,
+        order,
         needed,
         most - missing,
         device,
         scratch,
     )?;
-    fill_places(records, *next, loaded, needed, device, scratch)
+    fill_places(records, *next, order, needed, device, scratch)
 }

@@ -1,6 +1,6 @@
 ghost use Rattle.std.specs.Prelude.{◌≡◌, ◌≤◌, ◌<◌, ◌+◌, ◌==◌, ◌++◌, ◌∷◌, [], ℕ, List, map, set};
-ghost use Rattle.std.specs.Prelude.{true, false, is_some, drop, length, None, Some, IfOk};
-ghost use Rattle.std.specs.Prelude.{IfErr, MatchOption, OnOk, OnErr};
+ghost use Rattle.std.specs.Prelude.{true, false, is_some, ◌*◌, length, None, Some, IfOk};
+ghost use Rattle.std.specs.Prelude.{◌-◌, IfErr, MatchOption, OnOk, OnErr};
 ghost use Rattle.std.specs.List.{count_by, list_any};
 ghost use Rattle.tab_spec.specs.Shape.{number_of_session};
 ghost use Rattle.tab_spec.specs.declared.TheConstants.{ACTIVE_SESSIONS, CONTEXT_LIMIT};
@@ -13,10 +13,12 @@ ghost use Rattle.device_spec.specs.Answers.{word_at};
 ghost use Rattle.device_spec.specs.Slots.{SlotState};
 ghost use Rattle.device_spec.specs.ContextCommands.{context_save_command, flush_context_command};
 ghost use Rattle.session_swap.specs.Items.{AreKept, AreNeeded, Ends, HavePlaces, full_kept};
-ghost use Rattle.session_swap.specs.Items.{HasGapRoom, IsNarrow, IsOldest, MakesNoContext};
+ghost use Rattle.session_swap.specs.Items.{HasGapRoom, IsFirst, IsNarrow, IsSavedAgain};
+ghost use Rattle.session_swap.specs.Items.{MakesNoContext};
 ghost use Rattle.session_swap.specs.Items.{MakesRoom, MayHandOut, Moved, Names, RenewalCounts};
-ghost use Rattle.session_swap.specs.Items.{Renews, SavesForClient, SavesTold, SessionsStand, Stand};
-ghost use Rattle.session_swap.specs.Items.{StillStand, counter_of, disowned, gap_in, gap_kept};
+ghost use Rattle.session_swap.specs.Items.{Renews, Rise, SavesForClient, SavesTold, SessionsStand};
+ghost use Rattle.session_swap.specs.Items.{Stand, StillStand, counter_of, disowned, gap_first};
+ghost use Rattle.session_swap.specs.Items.{flag, gap_in, gap_kept, numbers_along};
 ghost use Rattle.session_swap.specs.Items.{has_owner, is_handed_to, is_loaded_item, is_orphan};
 ghost use Rattle.session_swap.specs.Items.{is_owned, is_owner, item_at, item_of, item_session};
 ghost use Rattle.session_swap.specs.Items.{loaded_items, may_take_back, new_item, no_items};
@@ -27,19 +29,20 @@ ghost use Rattle.device_port.specs.Own.{Asks, AsksSome};
 use crate::RENEWAL_GAP;
 use crate::clients::save_for_client;
 use crate::kept::{
-    count_active, count_orphans, count_saved, find_handed, find_orphan, find_owned, has_number,
-    least_number, oldest_of, owner_of, unused_records,
+    find_handed, find_orphan, find_owned, gap_above, has_number, owner_of, unused_records,
 };
 use crate::moves::flush;
-use crate::order::{list_last, unlist, unlist_saved};
+use crate::order::{Order, Uncounted, Visits, list_saved};
 use crate::places::swap_sessions;
 use crate::record::{Place, Record};
 use crate::renewal::renew_session;
 use device_port::{Device, SwapError};
+use linked_records::Steps;
 use std::alloc::{AllocError, Global};
 use std::marker::Model;
+use std::sync::ledger::Ledger;
 use tab_bytes::Buffer;
-use tab_spec::{LOADED_SESSIONS, RC_1, RC_HANDLE, RC_P};
+use tab_spec::{RC_1, RC_HANDLE, RC_P};
 
 /// The number of a session handle (Part 2, "TPM_HC").
 pub(crate) fn number_of(handle: u32) -> usize
@@ -48,50 +51,52 @@ pub(crate) fn number_of(handle: u32) -> usize
     (handle % (1 << 24)) as usize
 }
 
+// A count, less one of them.
+fn less_one(count: u8, one: bool) -> u8
+    requires { flag one ≤ count }
+    ensures { result ≡ count - flag one }
+{
+    if one { count - 1 } else { count }
+}
+
 /// The sessions of all clients, under at most 64 numbers: more of them than the device has places
 /// for loaded ones. Each is loaded, or saved in a context that the device made of it. It is seen as
-/// its items, by number, the number that the next context gets, and the numbers of the loaded
-/// sessions, the least recently used first.
+/// its items, by number, the number that the next context gets, the numbers of the loaded sessions,
+/// the least recently used first, and those of the saved ones, in the order in which they were
+/// saved.
 #[derive(Drop)]
 pub struct Sessions {
     records: Vec<Record>,
-    // No number from this one on has had a session yet: so nothing is looked for there.
-    used: usize,
-    // The numbers of the loaded sessions, the least recently used first: so no call goes over all
-    // records to find it.
-    loaded: Vec<usize>,
+    order: Order,
     next: u64,
+    // How many of them clients have. The others are nobody's.
+    owned: u8,
 }
 
 impl Model for Sessions {
-    ghost use Rattle.std.specs.Prelude.{vec_capacity};
     ghost use Rattle.session_swap.specs.Items.{SessionsView};
-    ghost use Rattle.session_swap.specs.Records.{AreListed, items_of};
+    ghost use Rattle.session_swap.specs.Records.{AreListed, view_with};
 
     ghost Value = { SessionsView };
 
-    ghost view = { λ s. record {
-      items = items_of s.records.items;
-      next = s.next;
-      order = s.loaded.items;
-    } };
+    ghost view = { λ s. view_with s.records.items s.next s.order };
 
-    ghost invariant = { λ s. AreListed s.records.items s.used s.loaded.items
-        (vec_capacity s.loaded) };
+    ghost invariant = { λ s. AreListed s.records.items s.order s.owned };
 }
 
 impl Sessions {
     /// No sessions. It takes the memory of all 64 numbers.
     pub fn new(alloc: Global) -> Result<Sessions, AllocError>
-        ensures { IfOk result (λ s. s ≡ record { items = no_items; next = 0; order = [] }) }
+        ensures { IfOk result (λ s. s
+            ≡ record { items = no_items; next = 0; order = []; saved = [] }) }
     {
         let records = unused_records(alloc)?;
-        let loaded = Vec::with_capacity(alloc, LOADED_SESSIONS as usize)?;
+        let order = Order::new(alloc)?;
         Ok(Sessions {
             records,
-            used: 0,
-            loaded,
+            order,
             next: 0,
+            owned: 0,
         })
     }
 
@@ -125,7 +130,10 @@ impl Sessions {
             (λ handle. Names self.now.items handle
             × (is_orphan (item_at self.now.items (number_of_session handle)) ≡ true)) }
     {
-        find_orphan(&self.records, self.used)
+        if self.orphans() == 0 {
+            return None;
+        }
+        find_orphan(&self.records)
     }
 
     /// How many sessions clients have, in use or saved by them. Those of nobody don't count.
@@ -135,54 +143,79 @@ impl Sessions {
         // There is an item for each number.
         ensures numbers { length self.now.items ≡ ACTIVE_SESSIONS }
     {
-        count_active(&self.records) as u8
+        // So what holds of the fields is known here.
+        let _ = &self.records;
+        self.owned
     }
 
     /// How many sessions are nobody's.
     pub fn orphans(&self) -> u8
         ensures { result ≡ count_by is_orphan self.now.items }
     {
-        count_orphans(&self.records) as u8
+        // Each session is loaded or saved.
+        self.order.loaded() as u8 + self.order.saved() - self.owned
     }
 
     /// How many sessions are saved.
     pub fn saved(&self) -> u8
         ensures { result ≡ saved_items self.now.items }
     {
-        count_saved(&self.records[..self.used]) as u8
+        self.order.saved()
     }
 
-    /// A saved session whose context has the least number; nothing where none is saved.
+    /// The session that was saved first; nothing where none is saved. Over a device that tells its
+    /// state its context has the least number.
     pub fn oldest(&self) -> Option<u32>
-        ensures { MatchOption result
-            (saved_items self.now.items ≡ 0) (λ handle. IsOldest self.now.items handle) }
+        ensures { MatchOption result (self.now.saved ≡ []) (λ handle. IsFirst self.now handle) }
     {
-        oldest_of(&self.records)
+        self.oldest_by(&mut Uncounted)
     }
 
-    /// How far the number of the next context is above the oldest one; 0 where none is saved.
+    /// `oldest`, which visits one record of the lists at most.
+    pub fn oldest_counted<L: Ledger>(&self, steps: &mut Steps<L>) -> Option<u32>
+        ensures oldest { MatchOption result
+            (self.now.saved ≡ []) (λ handle. IsFirst self.now handle) }
+        ensures steps { steps.new ≤ steps.old + 1 }
+    {
+        self.oldest_by(steps)
+    }
+
+    fn oldest_by<C: Visits>(&self, steps: &mut C) -> Option<u32>
+        ensures oldest { MatchOption result
+            (self.now.saved ≡ []) (λ handle. IsFirst self.now handle) }
+        ensures steps { C.count steps.new ≤ C.count steps.old + 1 }
+    {
+        let number = self.order.first_saved(steps)?;
+        Some(self.records[number].handle)
+    }
+
+    /// How far the number of the next context is above that of the session that was saved first; 0
+    /// where none is saved. Where the numbers rise in this order, that is the oldest context.
     pub fn gap(&self) -> u64
-        ensures { result ≡ gap_kept self.now }
+        ensures first { result ≡ gap_first self.now }
+        ensures most { result ≤ gap_kept self.now }
+        ensures rise { Rise (numbers_along self.now.items self.now.saved)
+            → result ≡ gap_kept self.now }
     {
-        match least_number(&self.records[..self.used]) {
-            Some(number) => self.next.saturating_sub(number),
-            None => 0,
-        }
+        let first = self.order.first_saved(&mut Uncounted);
+        gap_above(&self.records, self.next, first)
     }
 
-    /// The session with the oldest context, where it is to be renewed; nothing where the gap is
-    /// small enough.
-    pub(crate) fn due(&self) -> Option<u32>
-        ensures due { MatchOption result (gap_kept self.now < RENEWAL_GAP)
-            (λ handle. IsOldest self.now.items handle × (RENEWAL_GAP ≤ gap_kept self.now)) }
+    /// The session that was saved first, where it is to be renewed; nothing where the gap is small
+    /// enough.
+    pub(crate) fn due<C: Visits>(&self, steps: &mut C) -> Option<u32>
+        ensures due { MatchOption result (gap_first self.now < RENEWAL_GAP)
+            (λ handle. IsFirst self.now handle × (RENEWAL_GAP ≤ gap_kept self.now)) }
         ensures sound { IsSoundView self.now }
+        ensures steps { C.count steps.new ≤ C.count steps.old + 1 }
     {
         // So what holds of the fields is known here.
         let _ = &self.records;
-        if self.gap() < RENEWAL_GAP {
+        let handle = self.oldest_by(steps)?;
+        if gap_above(&self.records, self.next, Some(number_of(handle))) < RENEWAL_GAP {
             return None;
         }
-        self.oldest()
+        Some(handle)
     }
 
     /// Sees to it that all of these sessions are loaded, and that so many places are free. Where
@@ -217,7 +250,7 @@ impl Sessions {
         swap_sessions(
             &mut self.records,
             &mut self.next,
-            &mut self.loaded,
+            &mut self.order,
             needed,
             new_places,
             device,
@@ -242,8 +275,8 @@ impl Sessions {
         record.handle = handle;
         record.place = Place::Loaded;
         record.in_use = true;
-        self.used = self.used.max(number + 1);
-        list_last(&mut self.loaded, number);
+        self.order.start(number);
+        self.owned += 1;
     }
 
     /// Leaves a session to nobody: its client is closed, and its flush failed.
@@ -254,7 +287,10 @@ impl Sessions {
               (disowned (item_at self.old.items (number_of_session handle)));
         } }
     {
-        self.records[number_of(handle)].client = None;
+        let record = &mut self.records[number_of(handle)];
+        let had_owner = record.has_owner();
+        record.client = None;
+        self.owned = less_one(self.owned, had_owner);
     }
 
     /// Forgets a session, and sends nothing: the device ended it.
@@ -263,11 +299,27 @@ impl Sessions {
         ensures { self.new ≡ record self.old {
           items = set self.old.items (number_of_session handle) None;
           order = without_one (number_of_session handle) self.old.order;
+          saved = without_one (number_of_session handle) self.old.saved;
         } }
     {
-        let number = number_of(handle);
-        self.records[number].place = Place::Unused;
-        unlist(&mut self.loaded, number);
+        self.forget(number_of(handle));
+    }
+
+    // There is no session with this number any more.
+    fn forget(&mut self, number: usize)
+        requires { is_some (item_at self.old.items number) ≡ true }
+        ensures { self.new ≡ record self.old {
+          items = set self.old.items number None;
+          order = without_one number self.old.order;
+          saved = without_one number self.old.saved;
+        } }
+    {
+        let record = &mut self.records[number];
+        let is_loaded = record.is_loaded();
+        let had_owner = record.has_owner();
+        record.place = Place::Unused;
+        self.order.end(number, is_loaded);
+        self.owned = less_one(self.owned, had_owner);
     }
 
     /// Ends a session on the device, loaded or saved, and forgets it (Part 3, "TPM2_FlushContext").
@@ -288,11 +340,10 @@ impl Sessions {
         // Exactly one FlushContext is sent.
         ensures asks { Asks D.seen device.old device.new (flush_context_command handle) result }
     {
-        let number = number_of(handle);
-        let record = &mut self.records[number];
+        // So what holds of the fields is known here.
+        let _ = &self.records;
         flush(device, handle, scratch)?;
-        record.place = Place::Unused;
-        unlist(&mut self.loaded, number);
+        self.forget(number_of(handle));
         Ok(())
     }
 
@@ -321,7 +372,7 @@ impl Sessions {
         ensures asks { Asks D.seen device.old device.new (context_save_command handle) result }
     {
         let saved = save_for_client(&mut self.records, &mut self.next, handle, device, reply);
-        unlist_saved(&mut self.loaded, number_of(handle), &saved);
+        list_saved(&mut self.order, number_of(handle), &saved, &mut Uncounted);
         saved
     }
 
@@ -354,35 +405,80 @@ impl Sessions {
         Ok(handle)
     }
 
-    /// Loads the session with the oldest context and saves it again, so that its context gets the
-    /// next number. Where no place is free, the loaded session that was used least recently is
-    /// saved first. After an error the same sessions stand.
+    /// Loads the session that was saved first and saves it again, so that its context gets the next
+    /// number. Where no place is free, the loaded session that was used least recently is saved
+    /// before. After an error the same sessions stand.
     pub fn renew<D: Device>(
         &mut self,
         device: &mut D,
         handle: u32,
         scratch: &mut Buffer,
     ) -> Result<(), SwapError>
-        requires oldest { IsOldest self.old.items handle }
+        requires oldest { IsFirst self.old handle }
         requires stand { Stand (D.seen device.old).state self.old [] }
         requires may { HasGapRoom (D.seen device.old).state
             × (counter_of (D.seen device.old).state + 900 ≤ CONTEXT_LIMIT) }
         ensures ok { OnOk result (Renews (D.seen device.old) (D.seen device.new) handle
-            self.old.items self.new.items
-            × (self.new.order ≡ drop (full_kept self.old.items) self.old.order)) }
+            self.old.items self.new.items × IsSavedAgain self.old self.new handle) }
         // Every other session that was saved stays where it was.
         ensures others { AreKept (number_of_session handle) self.old.items self.new.items }
         ensures moved { Moved D.seen device.old device.new self.old self.new }
         ensures counts { RenewalCounts D.seen device.old device.new self.old.items }
         ensures asks { AsksSome D.seen device.old device.new result }
     {
+        self.renew_by(device, handle, scratch, &mut Uncounted)
+    }
+
+    /// `renew`, which visits ten records of the lists at most, and six more where no place is free.
+    pub fn renew_counted<D: Device, L: Ledger>(
+        &mut self,
+        device: &mut D,
+        handle: u32,
+        scratch: &mut Buffer,
+        steps: &mut Steps<L>,
+    ) -> Result<(), SwapError>
+        requires oldest { IsFirst self.old handle }
+        requires stand { Stand (D.seen device.old).state self.old [] }
+        requires may { HasGapRoom (D.seen device.old).state
+            × (counter_of (D.seen device.old).state + 900 ≤ CONTEXT_LIMIT) }
+        ensures ok { OnOk result (Renews (D.seen device.old) (D.seen device.new) handle
+            self.old.items self.new.items × IsSavedAgain self.old self.new handle) }
+        ensures others { AreKept (number_of_session handle) self.old.items self.new.items }
+        ensures moved { Moved D.seen device.old device.new self.old self.new }
+        ensures counts { RenewalCounts D.seen device.old device.new self.old.items
+            × (steps.new ≤ steps.old + 10 + 6 * full_kept self.old.items) }
+        ensures asks { AsksSome D.seen device.old device.new result }
+    {
+        self.renew_by(device, handle, scratch, steps)
+    }
+
+    pub(crate) fn renew_by<D: Device, C: Visits>(
+        &mut self,
+        device: &mut D,
+        handle: u32,
+        scratch: &mut Buffer,
+        steps: &mut C,
+    ) -> Result<(), SwapError>
+        requires oldest { IsFirst self.old handle }
+        requires stand { Stand (D.seen device.old).state self.old [] }
+        requires may { HasGapRoom (D.seen device.old).state
+            × (counter_of (D.seen device.old).state + 900 ≤ CONTEXT_LIMIT) }
+        ensures ok { OnOk result (Renews (D.seen device.old) (D.seen device.new) handle
+            self.old.items self.new.items × IsSavedAgain self.old self.new handle) }
+        ensures others { AreKept (number_of_session handle) self.old.items self.new.items }
+        ensures moved { Moved D.seen device.old device.new self.old self.new }
+        ensures counts { RenewalCounts D.seen device.old device.new self.old.items
+            × (C.count steps.new ≤ C.count steps.old + 10 + 6 * full_kept self.old.items) }
+        ensures asks { AsksSome D.seen device.old device.new result }
+    {
         renew_session(
             &mut self.records,
             &mut self.next,
-            &mut self.loaded,
+            &mut self.order,
             number_of(handle),
             device,
             scratch,
+            steps,
         )
     }
 }

@@ -66,7 +66,7 @@ owned (suc (suc number)) =
 settled : IsSettled two_session_device (held_with [] two_sessions)
 settled = record {
   objects = record { started = refl; sound = sound; each = tt; owned = owned_nothing two_session_device refl };
-  sessions = record { started = refl; sound = sound; count = refl; each = each; owned = owned; next = λ saved. absurd cc };
+  sessions = record { started = refl; sound = sound; count = refl; each = each; owned = owned; next = λ saved. absurd cc; rise = tt };
   gap = omega arith;
 }
 

@@ -1,4 +1,5 @@
-use Rattle.std.proofs.Common.{ℕ, arith, ap, drop, get_or, refl, set, ◌∙◌, []}
+use Rattle.std.proofs.Common.{◌∙◌, ◌∷◌, [], ℕ, arith, ap, drop, get_or, refl, set}
+use Rattle.tab_spec.specs.Shape.{number_of_session}
 use Rattle.std.proofs.lemmas.List.{length-map}
 use Rattle.std.specs.Prelude.{Ok, Err}
 use Rattle.std.proofs.lemmas.Result.{err_from_is_err_and}
@@ -68,7 +69,7 @@ returns-clause-ok g c =
         last_is = out.reply_is.last_is;
         frame = out.reply_is.frame;
         success = told.0;
-        view_is = λ i. record { items = items_are i; next = out.reply_is.next_is i; order = [] };
+        view_is = λ i. record { items = items_are i; next = out.reply_is.next_is i; order = []; saved = number_of_session c.args.handle ∷ [] };
       },
       record {
         context = told.1;

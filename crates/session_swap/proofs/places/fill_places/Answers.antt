@@ -5,17 +5,16 @@ use Rattle.std.proofs.lemmas.Bool.{false_from_ne_true}
 use Rattle.std.proofs.lemmas.List.{length-map}
 use Rattle.std.proofs.lemmas.Result.{err_from_is_err_and}
 use Rattle.tab_spec.specs.Shape.{number_of_session}
-use Rattle.device_port.specs.Use.{all_used, used_after}
 use Rattle.session_swap.specs.declared.record.Record.{Record}
 use Rattle.session_swap.specs.Items.{is_loaded_item, item_at, item_of, numbers_of}
-use Rattle.session_swap.specs.Records.{items_of}
+use Rattle.session_swap.specs.Records.{items_of, order_filled, order_in}
 use Rattle.session_swap.specs.Moves.{loadedness}
 use Rattle.session_swap.proofs.Among.{all_loaded, named_again, named_is, needed_named}
 use Rattle.device_port.proofs.Sending.{asks_none, asks_then, some_failed}
 use Rattle.session_swap.proofs.Listing.{none_if_failed}
 use Rattle.session_swap.proofs.Making.{named_record, stay_brought, stay_named, stay_then, swaps_start, swaps_then}
 use Rattle.session_swap.proofs.Missing.{brought_loaded, brought_next, loaded_needed, missing_numbers, none_past, number_at, some_missing}
-use Rattle.session_swap.proofs.Uses.{used_all, used_next}
+use Rattle.session_swap.proofs.Uses.{filled_all, filled_next}
 use Rattle.session_swap.proofs.places.fill_places.Goals as goal
 
 pub loop-handle-init : goal.loop-handle-init
@@ -92,9 +91,9 @@ loop-handle-preserved g c =
       order =
           let numbers = numbers_of needed in
           let within : index < length numbers = omega (arith, inside, length-map needed number_of_session) in
-          let used : c.make_loaded.new.loaded.items ≡ used_after c.loop-handle.loaded.items (get_or numbers index 0) =
-          brings.order ∙ ap (used_after c.loop-handle.loaded.items) (sym (number_at needed index inside)) in
-          ap (λ (l : List ℕ). all_used l (drop (index + 1) numbers)) used ∙ sym (used_next numbers c.loop-handle.loaded.items index within)
+          let used : c.make_loaded.new.order ≡ order_in (get_or numbers index 0) c.loop-handle.order =
+          brings.order ∙ ap (λ (n : ℕ). order_in n c.loop-handle.order) (sym (number_at needed index inside)) in
+          ap (order_filled (drop (index + 1) numbers)) used ∙ sym (filled_next numbers c.loop-handle.order index within)
           ∙ held.order;
       asks = asks_then g.D.Device.seen c.args.device.now c.loop-handle.device c.make_loaded.new.device tt (Ok tt) held.asks next.asks;
     }
@@ -111,7 +110,7 @@ returns-clause-fills g c =
       idle = λ all. ((held.idle all).0, (held.idle all).1, refl);
       order =
           let past : length (numbers_of c.args.needed.now) ≤ c.loop-handle.handle-index = omega (arith, length-map c.args.needed.now number_of_session) in
-          sym (used_all (numbers_of c.args.needed.now) c.loop-handle.loaded.items c.loop-handle.handle-index past) ∙ held.order;
+          sym (filled_all (numbers_of c.args.needed.now) c.loop-handle.order c.loop-handle.handle-index past) ∙ held.order;
     }
 
 pub returns-in_err-make_loaded-clause-fills : goal.returns-in_err-make_loaded-clause-fills

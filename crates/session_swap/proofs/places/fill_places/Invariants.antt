@@ -1,10 +1,9 @@
 use Rattle.std.proofs.Common.{◌≡◌, ◌+◌, ◌≤◌, ℕ, ◌<◌, true, get_or, drop}
-use Rattle.std.specs.Prelude.{Ok, vec_capacity}
+use Rattle.std.specs.Prelude.{Ok}
 use Rattle.device_port.specs.Device.{sent_of}
 use Rattle.device_port.specs.Own.{AsksSome}
-use Rattle.device_port.specs.Use.{all_used}
 use Rattle.session_swap.specs.Items.{AreLoaded, counter_of, is_loaded_item, item_at, item_of, loaded_items, missing, numbers_of}
-use Rattle.session_swap.specs.Records.{items_of}
+use Rattle.session_swap.specs.Records.{items_of, order_filled}
 use Rattle.session_swap.specs.Moves.{ReadyIn, Swaps, loadedness}
 use Rattle.session_swap.proofs.Missing.{missing_in}
 use Rattle.session_swap.proofs.places.fill_places.Given as goal
@@ -16,7 +15,7 @@ invariant-loop-handle g l =
     let new_items = items_of l.records in
     record {
       swaps : Swaps D.seen l.fn.device l.device l.fn.records l.records;
-      ready : ReadyIn (D.seen l.device).state l.records l.next l.loaded.items (vec_capacity l.loaded);
+      ready : ReadyIn (D.seen l.device).state l.records l.next l.order;
       counter : counter_of (D.seen l.device).state ≡ counter_of (D.seen l.fn.device).state;
       filled : (k : ℕ) → k < l.handle-index → is_loaded_item (item_of new_items (get_or l.needed k 0)) ≡ true;
       stay : (number : ℕ) → is_loaded_item (item_at items number) ≡ true → item_at new_items number ≡ item_at items number;
@@ -24,6 +23,6 @@ invariant-loop-handle g l =
           ≡ missing l.needed items + loaded_items items;
       paid : sent_of (D.seen l.device) + loaded_items items ≤ sent_of (D.seen l.fn.device) + loaded_items new_items;
       idle : AreLoaded l.needed items → (l.device ≡ l.fn.device) × (l.records ≡ l.fn.records);
-      order : all_used l.loaded.items (drop l.handle-index (numbers_of l.needed)) ≡ all_used l.fn.loaded.items (numbers_of l.needed);
+      order : order_filled (drop l.handle-index (numbers_of l.needed)) l.order ≡ order_filled (numbers_of l.needed) l.fn.order;
       asks : AsksSome {A = Unit {0}} D.seen l.fn.device l.device (Ok tt);
     }

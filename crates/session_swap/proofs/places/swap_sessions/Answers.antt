@@ -83,7 +83,7 @@ returns-clause-room g c =
     } in
     room_made g.D.Device.seen c.args.device.now c.clear_places.new.device c.fill_places.new.device c.args.needed.now c.args.new_places most
     c.count_missing-missing.result c.args.records.now c.clear_places.new.records c.fill_places.new.records c.args.next.now c.clear_places.new.next
-    c.args.loaded.now.items c.clear_places.new.loaded.items c.fill_places.new.loaded.items c.fill_places.result
+    c.args.order.now c.clear_places.new.order c.fill_places.new.order c.fill_places.result
     room c.requires.needed.named cleared.evicts cleared.idle c.fill_places.ensures.fills c.fill_places.ensures.ready.listed.lists
 
 pub returns-in_err-clear_places-clause-room : goal.returns-in_err-clear_places-clause-room
@@ -101,7 +101,7 @@ returns-in_err-clear_places-clause-room g c =
     } in
     let failed = err_from_is_err_and c.from_residual.result c.from_residual.ensures.1 in
     room_failed g.D.Device.seen c.args.device.now c.clear_places.new.device c.args.needed.now c.args.new_places most c.count_missing-missing.result
-    c.args.records.now c.clear_places.new.records c.args.next.now c.clear_places.new.next c.args.loaded.now.items c.clear_places.new.loaded.items
+    c.args.records.now c.clear_places.new.records c.args.next.now c.clear_places.new.next c.args.order.now c.clear_places.new.order
     c.from_residual.result _ room cleared.evicts cleared.idle (failed.1 ∙ ap (λ (e : SwapError). Err e) failed.2) cleared.ready.listed.lists
 
 pub returns-clause-asks : goal.returns-clause-asks

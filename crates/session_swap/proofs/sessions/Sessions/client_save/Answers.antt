@@ -1,19 +1,22 @@
-use Rattle.std.proofs.Common.{◌≡◌, ◌∙◌, ◌++◌, ℕ, List, length, take, drop, set, ap, sym, subst, arith, refl}
-use Rattle.std.specs.Prelude.{Option, vec_capacity}
+use Rattle.std.proofs.Common.{◌≡◌, ◌∙◌, ◌++◌, ◌∷◌, [], true, ℕ, List, length, take, drop, set, ap, sym, subst, arith, refl}
+use Rattle.std.specs.Prelude.{Option}
+use Rattle.std.specs.List.{count_by}
 use Rattle.std.proofs.lemmas.List.{take_at}
 use Rattle.std.proofs.lemmas.Result.{on_ok_weaker}
 use Rattle.tab_spec.specs.Shape.{number_of_session}
 use Rattle.tab_spec.specs.declared.TheConstants.{HEADER_BYTES}
 use Rattle.device_port.specs.Use.{without_one}
 use Rattle.session_swap.specs.declared.record.Record.{Record}
-use Rattle.session_swap.specs.Items.{Item, MayHandOut, SavesTold, SessionsView, item_at, saved_by_client}
-use Rattle.session_swap.specs.Records.{AreHeld, AreListed, ListsIn, items_of, view_of, view_with}
+use Rattle.session_swap.specs.Items.{Item, ListsThose, MayHandOut, SavesTold, SessionsView, has_owner, is_loaded_item, is_saved_item, item_at, saved_by_client}
+use Rattle.session_swap.specs.Records.{AreListed, ListsIn, OrderView, items_of, view_of, view_with}
+use Rattle.session_swap.specs.Moves.{RiseIn}
 use Rattle.session_swap.proofs.Asking.{on_ok_both}
 use Rattle.session_swap.proofs.Bringing.{saved_apart}
-use Rattle.session_swap.proofs.Listing.{listed_saved, on_err_both, on_err_weaker}
+use Rattle.session_swap.proofs.Among.{loaded_whole}
+use Rattle.session_swap.proofs.Listing.{listed_once, listed_saved, on_err_both, on_err_weaker}
+use Rattle.session_swap.proofs.Owners.{Handed, count_unchanged, owner_saved, rise_handed, rise_kept}
 use Rattle.session_swap.proofs.Making.{either_way, ready_lent}
 use Rattle.session_swap.proofs.Moved.{stand_alike}
-use Rattle.session_swap.proofs.Unused.{held_again, held_saved}
 use Rattle.session_swap.proofs.sessions.Sessions.client_save.Goals as goal
 
 pub save_for_client-saved-requires-clause-may : goal.save_for_client-saved-requires-clause-may
@@ -25,39 +28,59 @@ pub save_for_client-saved-requires-clause-ready : goal.save_for_client-saved-req
 save_for_client-saved-requires-clause-ready g c = (
   c.requires.stand.0,
   ready_lent (g.D.Device.seen c.args.device.now).state c.self.inside.records.items c.deref_mut.result.now c.self.inside.next
-      c.self.inside.loaded.items c.args.self.now c.requires.stand.0 c.deref_mut.ensures.value c.self.invariant.held.sound c.self.view_is
+      c.self.inside.order c.args.self.now c.requires.stand.0 c.deref_mut.ensures.value c.self.invariant.sound c.self.view_is
       c.requires.stand.1,
 )
+
+pub list_saved-requires : goal.list_saved-requires
+list_saved-requires g c =
+    let view = c.args.self.now in
+    let items = items_of c.self.inside.records.items in
+    let there : is_loaded_item (item_at items c.number_of.result) ≡ true =
+    ap (λ (v : SessionsView). is_loaded_item (item_at v.items c.number_of.result)) c.self.view_is
+    ∙ ap (λ (n : ℕ). is_loaded_item (item_at view.items n)) c.number_of.ensures
+    ∙ loaded_whole c.args.handle (item_at view.items (number_of_session c.args.handle)) c.requires.may.loaded in
+    listed_once is_loaded_item refl items c.self.inside.order.loaded c.number_of.result c.self.invariant.listed.lists there
 
 pub invariant_of-self : goal.invariant_of-self
 invariant_of-self g c =
     let records = c.self.inside.records.items in
-    let used = c.self.inside.used in
     let out = c.save_for_client-saved in
     let left = out.new in
     let new = left.records in
     let same = c.deref_mut.ensures.value in
-    let ready = ready_lent (g.D.Device.seen c.args.device.now).state records c.deref_mut.result.now c.self.inside.next c.self.inside.loaded.items
-    c.args.self.now c.requires.stand.0 c.deref_mut.ensures.value c.self.invariant.held.sound c.self.view_is c.requires.stand.1 in
+    let order = c.self.inside.order in
+    let ready = ready_lent (g.D.Device.seen c.args.device.now).state records c.deref_mut.result.now c.self.inside.next order
+    c.args.self.now c.requires.stand.0 c.deref_mut.ensures.value c.self.invariant.sound c.self.view_is c.requires.stand.1 in
     let sound = (out.ensures.ready c.requires.stand.0 ready).sound in
-    let count : length new ≡ length records = sound.count ∙ sym c.self.invariant.held.sound.count in
+    let count : length new ≡ length records = sound.count ∙ sym c.self.invariant.sound.count in
     let whole : take c.self.inside.records.len (new ++ drop (length new) records) ≡ new =
     take_at new (drop (length new) records) c.self.inside.records.len (omega arith) in
-    let told = c.unlist_saved.ensures in
+    let told = c.list_saved.ensures in
     let lent = c.deref_mut.result.now in
     let number = c.number_of.result in
-    let loaded = c.self.inside.loaded in
-    let listed = subst (λ (l : List Record). ListsIn l loaded.items (vec_capacity loaded)) (sym same) c.self.invariant.listed in
-    subst (λ (l : List Record). AreListed l used c.unlist_saved.new.loaded.items (vec_capacity c.unlist_saved.new.loaded)) (sym whole) (record {
-      held = either_way out.result _ _ (AreHeld new used) out.ensures.ok out.ensures.err
-          (λ saves. held_saved records lent new used c.self.inside.next left.next c.args.handle _ left.reply c.self.invariant.held same sound saves.0)
-          (λ stays. held_again records lent new used c.self.invariant.held same sound stays.0);
-      listed = listed_saved out.result lent new loaded.items c.unlist_saved.new.loaded.items number (vec_capacity loaded)
-          (vec_capacity c.unlist_saved.new.loaded) listed
+    let n = number_of_session c.args.handle in
+    let bytes = drop HEADER_BYTES left.reply in
+    let listed = subst (λ (l : List Record). ListsIn l order) (sym same) c.self.invariant.listed in
+    let owned = c.self.invariant.owned_is ∙ ap (λ (l : List Record). count_by has_owner (items_of l)) (sym same) in
+    let there : is_loaded_item (item_at (items_of lent) number) ≡ true =
+    ap (λ (l : List Record). is_loaded_item (item_at (items_of l) number)) same
+    ∙ ap (λ (v : SessionsView). is_loaded_item (item_at v.items number)) c.self.view_is
+    ∙ ap (λ (k : ℕ). is_loaded_item (item_at c.args.self.now.items k)) c.number_of.ensures
+    ∙ loaded_whole c.args.handle (item_at c.args.self.now.items n) c.requires.may.loaded in
+    subst (λ (l : List Record). AreListed l c.list_saved.new.order c.self.inside.owned) (sym whole) (record {
+      sound = sound;
+      listed = listed_saved out.result lent new order c.list_saved.new.order number listed there
           (on_ok_weaker out.result
-          (λ saves. saved_apart (items_of lent) (items_of new) number c.args.handle (drop HEADER_BYTES left.reply) c.number_of.ensures
+          (λ saves. saved_apart (items_of lent) (items_of new) number c.args.handle bytes c.number_of.ensures there
           (ap (λ (v : SessionsView). v.items) saves.0.view_is)) out.ensures.ok)
-          (on_err_weaker out.result (λ stays. stays.0) out.ensures.err) told.ok told.err told.capacity;
+          (on_err_weaker out.result (λ stays. stays.0) out.ensures.err) told.ok told.err;
+      owned_is = either_way out.result _ _ (c.self.inside.owned ≡ count_by has_owner (items_of new)) out.ensures.ok out.ensures.err
+          (λ saves.
+          owned ∙ sym (count_unchanged has_owner (items_of lent) n (saved_by_client bytes (item_at (items_of lent) n))
+          (owner_saved bytes (item_at (items_of lent) n)))
+          ∙ ap (λ (v : SessionsView). count_by has_owner v.items) (sym saves.0.view_is))
+          (λ stays. owned ∙ ap (count_by has_owner) (sym stays.0));
     })
 
 pub returns-clause-ok : goal.returns-clause-ok
@@ -70,13 +93,13 @@ returns-clause-ok g c =
     let handle = c.args.handle in
     let n = number_of_session handle in
     let bytes = drop HEADER_BYTES left.reply in
-    let loaded = c.self.inside.loaded.items in
+    let order = c.self.inside.order in
     let view = c.args.self.now in
     let before = ap (λ (l : List Record). items_of l) c.deref_mut.ensures.value ∙ ap (λ (v : SessionsView). v.items) c.self.view_is in
-    let ready = ready_lent (g.D.Device.seen c.args.device.now).state records c.deref_mut.result.now c.self.inside.next c.self.inside.loaded.items
-    c.args.self.now c.requires.stand.0 c.deref_mut.ensures.value c.self.invariant.held.sound c.self.view_is c.requires.stand.1 in
+    let ready = ready_lent (g.D.Device.seen c.args.device.now).state records c.deref_mut.result.now c.self.inside.next c.self.inside.order
+    c.args.self.now c.requires.stand.0 c.deref_mut.ensures.value c.self.invariant.sound c.self.view_is c.requires.stand.1 in
     let sound = (out.ensures.ready c.requires.stand.0 ready).sound in
-    let count : length new ≡ length records = sound.count ∙ sym c.self.invariant.held.sound.count in
+    let count : length new ≡ length records = sound.count ∙ sym c.self.invariant.sound.count in
     let whole : take c.self.inside.records.len (new ++ drop (length new) records) ≡ new =
     take_at new (drop (length new) records) c.self.inside.records.len (omega arith) in
     on_ok_both out.result _ _
@@ -84,25 +107,28 @@ returns-clause-ok g c =
     let after = saves.0.view_is in
     let items_are = ap (λ (l : List Record). items_of l) whole ∙ ap (λ (v : SessionsView). v.items) after
     ∙ ap (λ (l : List (Option Item)). set l n (saved_by_client bytes (item_at l n))) before in
-    let order_is = gone ∙ ap (λ (k : ℕ). without_one k loaded) c.number_of.ensures ∙ ap (λ (v : SessionsView). without_one n v.order) c.self.view_is in (
+    let order_is = ap (λ (o : OrderView). o.loaded) gone ∙ ap (λ (k : ℕ). without_one k order.loaded) c.number_of.ensures
+    ∙ ap (λ (v : SessionsView). without_one n v.order) c.self.view_is in
+    let saved_is = ap (λ (o : OrderView). o.saved) gone ∙ ap (λ (k : ℕ). order.saved ++ k ∷ []) c.number_of.ensures
+    ∙ ap (λ (v : SessionsView). v.saved ++ n ∷ []) c.self.view_is in (
       record {
         last_is = saves.0.last_is;
         frame = saves.0.frame;
         success = saves.0.success;
-        view_is = λ i. record { items = items_are i; next = (after i).next; order = order_is i };
+        view_is = λ i. record { items = items_are i; next = (after i).next; order = order_is i; saved = saved_is i };
       },
       subst (λ (items : List (Option Item)). SavesTold (seen c.args.device.now).state (seen left.device).state left.reply handle items) before saves.1,
-    )) out.ensures.ok c.unlist_saved.ensures.ok
+    )) out.ensures.ok c.list_saved.ensures.ok
 
 pub returns-clause-err : goal.returns-clause-err
 returns-clause-err g c =
     let records = c.self.inside.records.items in
     let out = c.save_for_client-saved in
     let new = out.new.records in
-    let ready = ready_lent (g.D.Device.seen c.args.device.now).state records c.deref_mut.result.now c.self.inside.next c.self.inside.loaded.items
-    c.args.self.now c.requires.stand.0 c.deref_mut.ensures.value c.self.invariant.held.sound c.self.view_is c.requires.stand.1 in
+    let ready = ready_lent (g.D.Device.seen c.args.device.now).state records c.deref_mut.result.now c.self.inside.next c.self.inside.order
+    c.args.self.now c.requires.stand.0 c.deref_mut.ensures.value c.self.invariant.sound c.self.view_is c.requires.stand.1 in
     let sound = (out.ensures.ready c.requires.stand.0 ready).sound in
-    let count : length new ≡ length records = sound.count ∙ sym c.self.invariant.held.sound.count in
+    let count : length new ≡ length records = sound.count ∙ sym c.self.invariant.sound.count in
     let whole : take c.self.inside.records.len (new ++ drop (length new) records) ≡ new =
     take_at new (drop (length new) records) c.self.inside.records.len (omega arith) in
     let before = ap (λ (l : List Record). items_of l) c.deref_mut.ensures.value ∙ ap (λ (v : SessionsView). v.items) c.self.view_is in
@@ -110,8 +136,9 @@ returns-clause-err g c =
     (λ stays still.
     let items_are = ap (λ (l : List Record). items_of l) whole ∙ stays.0 ∙ before in
     let next_is = stays.1 ∙ ap (λ (v : SessionsView). v.next) c.self.view_is in
-    let order_is = still ∙ ap (λ (v : SessionsView). v.order) c.self.view_is in
-    λ i. record { items = items_are i; next = next_is i; order = order_is i }) out.ensures.err c.unlist_saved.ensures.err
+    let order_is = ap (λ (o : OrderView). o.loaded) still ∙ ap (λ (v : SessionsView). v.order) c.self.view_is in
+    let saved_is = ap (λ (o : OrderView). o.saved) still ∙ ap (λ (v : SessionsView). v.saved) c.self.view_is in
+    λ i. record { items = items_are i; next = next_is i; order = order_is i; saved = saved_is i }) out.ensures.err c.list_saved.ensures.err
 
 pub returns-clause-stands : goal.returns-clause-stands
 returns-clause-stands g c =
@@ -120,19 +147,47 @@ returns-clause-stands g c =
     let left = out.new in
     let new = left.records in
     let lent = c.deref_mut.ensures.value in
-    let ready = ready_lent (g.D.Device.seen c.args.device.now).state records c.deref_mut.result.now c.self.inside.next c.self.inside.loaded.items
-    c.args.self.now c.requires.stand.0 c.deref_mut.ensures.value c.self.invariant.held.sound c.self.view_is c.requires.stand.1 in
+    let ready = ready_lent (g.D.Device.seen c.args.device.now).state records c.deref_mut.result.now c.self.inside.next c.self.inside.order
+    c.args.self.now c.requires.stand.0 c.deref_mut.ensures.value c.self.invariant.sound c.self.view_is c.requires.stand.1 in
     let sound = (out.ensures.ready c.requires.stand.0 ready).sound in
-    let count : length new ≡ length records = sound.count ∙ sym c.self.invariant.held.sound.count in
+    let count : length new ≡ length records = sound.count ∙ sym c.self.invariant.sound.count in
     let whole : take c.self.inside.records.len (new ++ drop (length new) records) ≡ new =
     take_at new (drop (length new) records) c.self.inside.records.len (omega arith) in
+    let whole_records = take c.self.inside.records.len (new ++ drop (length new) records) in
+    let state = (g.D.Device.seen c.args.device.now).state in
+    let new_state = (g.D.Device.seen left.device).state in
+    let view = c.args.self.now in
+    let n = number_of_session c.args.handle in
+    let bytes = drop HEADER_BYTES left.reply in
+    let before = ap (λ (l : List Record). items_of l) lent ∙ ap (λ (v : SessionsView). v.items) c.self.view_is in
+    let listed = subst (λ (v : SessionsView). ListsThose is_saved_item v.saved v.items) c.self.view_is c.self.invariant.listed.saved in
+    let there = loaded_whole c.args.handle (item_at view.items n) c.requires.may.loaded in
+    let handed = on_ok_both out.result _ _
+    (λ saves gone.
+    let its : Handed state view.items (items_of whole_records) view.saved c.list_saved.new.order.saved n bytes = record {
+      items_are = ap (λ (l : List Record). items_of l) whole ∙ ap (λ (v : SessionsView). v.items) saves.0.view_is
+          ∙ ap (λ (l : List (Option Item)). set l n (saved_by_client bytes (item_at l n))) before;
+      number = saves.1.number;
+      order = ap (λ (o : OrderView). o.saved) gone ∙ ap (λ (k : ℕ). c.self.inside.order.saved ++ k ∷ []) c.number_of.ensures
+          ∙ ap (λ (v : SessionsView). v.saved ++ n ∷ []) c.self.view_is;
+    } in its) out.ensures.ok c.list_saved.ensures.ok in
+    let kept = on_err_both out.result _ _
+    (λ stays still.
+    let its : (items_of whole_records ≡ view.items) × (c.list_saved.new.order.saved ≡ view.saved) = (
+      ap (λ (l : List Record). items_of l) whole ∙ stays.0 ∙ before,
+      ap (λ (o : OrderView). o.saved) still ∙ ap (λ (v : SessionsView). v.saved) c.self.view_is,
+    ) in its) out.ensures.err c.list_saved.ensures.err in
     record {
       stand = λ others stand.
-          stand_alike _ (view_of new left.next)
-          (view_with (take c.self.inside.records.len (new ++ drop (length new) records)) left.next c.unlist_saved.new.loaded.items) others
+          stand_alike new_state (view_of new left.next) (view_with whole_records left.next c.list_saved.new.order) others
           (ap (λ (l : List Record). items_of l) (sym whole)) refl
+          (either_way out.result _ _ (RiseIn new_state (items_of whole_records) c.list_saved.new.order.saved) handed kept
+          (λ its. rise_handed state new_state view others (items_of whole_records) c.list_saved.new.order.saved n bytes stand out.ensures.keeps.0.rest
+          listed there its)
+          (λ its. rise_kept state new_state view others (items_of whole_records) c.list_saved.new.order.saved stand out.ensures.keeps.0.rest
+          its.0 its.1))
           (out.ensures.ready others
-          (ready_lent (g.D.Device.seen c.args.device.now).state records c.deref_mut.result.now c.self.inside.next c.self.inside.loaded.items
-          c.args.self.now others lent c.self.invariant.held.sound c.self.view_is stand)).stand;
+          (ready_lent state records c.deref_mut.result.now c.self.inside.next c.self.inside.order
+          view others lent c.self.invariant.sound c.self.view_is stand)).stand;
       rest = out.ensures.keeps.0;
     }

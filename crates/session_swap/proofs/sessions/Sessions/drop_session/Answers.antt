@@ -1,59 +1,45 @@
-use Rattle.std.proofs.Common.{◌≡◌, ℕ, List, [], Option, refl, ap, sym, ◌∙◌, subst, set, arith}
-use Rattle.std.specs.Prelude.{None, vec_capacity}
-use Rattle.std.proofs.lemmas.List.{map-set}
+use Rattle.std.proofs.Common.{◌∙◌, subst, set, arith, ℕ, List, [], Option, refl, ap, sym}
+use Rattle.std.specs.Prelude.{IfSome, None, is_some}
 use Rattle.tab_spec.specs.Shape.{number_of_session}
 use Rattle.device_spec.specs.Slots.{SlotState}
 use Rattle.device_port.specs.Use.{without_one}
-use Rattle.session_swap.specs.declared.record.Place.TheVariants as places
-use Rattle.session_swap.specs.declared.record.Record.{Record}
-use Rattle.session_swap.specs.Items.{HasGapRoom, SessionsView, Stand, counter_of, gap_in, rest_of, sessions_of}
-use Rattle.session_swap.specs.Records.{IsRecord, item_of_record, items_of, view_with}
-use Rattle.session_swap.proofs.Moved.{ended_drops, ended_room, has_item, items_set, named_inside, records_set, stand_alike}
-use Rattle.session_swap.proofs.Listing.{listed_out}
-use Rattle.session_swap.proofs.Unused.{held_set}
+use Rattle.session_swap.specs.Items.{HasGapRoom, Item, SessionsView, Stand, counter_of, gap_in, item_at, rest_of, sessions_of}
+use Rattle.tab_spec.specs.Admission.{is_session_handle}
+use Rattle.session_swap.specs.Records.{IsHandleOf}
+use Rattle.session_swap.proofs.Among.{named_some}
+use Rattle.session_swap.proofs.Moved.{ended_drops, ended_room, has_item, stand_alike}
+use Rattle.session_swap.proofs.Rising.{rise_ended}
 use Rattle.session_swap.proofs.sessions.Sessions.drop_session.Goals as goal
 
--- what is seen without the one that ended
-left : (records : List Record) (view : SessionsView) (next n handle : ℕ) (loaded new_loaded : List ℕ) (r : Record)
-    → view_with records next loaded ≡ view → n ≡ number_of_session handle → item_of_record r ≡ None → new_loaded ≡ without_one n loaded
-    → view_with (set records n r) next new_loaded
-    ≡ record view { items = set view.items (number_of_session handle) None; order = without_one (number_of_session handle) view.order }
-left records view next n handle loaded new_loaded r view_is n_is none order =
-    (λ i. record { items = items_set records n r None none i; next = next; order = order i })
-    ∙ (λ i. record { items = set (items_of records) (n_is i) None; next = next; order = without_one (n_is i) loaded })
-    ∙ ap (λ (v : SessionsView). record v {
-      items = set v.items (number_of_session handle) None;
-      order = without_one (number_of_session handle) v.order;
-    }) view_is
+pub flush-requires-clause-session : goal.flush-requires-clause-session
+flush-requires-clause-session g c =
+    let items = c.args.self.now.items in
+    let n = number_of_session c.args.handle in
+    let has = has_item items c.args.handle c.requires.named in
+    let handles = subst (λ (l : List (Option Item)). IfSome (item_at l n) (λ item. IsHandleOf n item))
+    (ap (λ (v : SessionsView). v.items) c.self.view_is) (c.self.invariant.sound.handles n) in
+    let its : IsHandleOf n has.item = subst (λ (o : Option Item). IfSome o (λ item. IsHandleOf n item)) has.was handles in
+    ap is_session_handle (sym has.handle_is) ∙ its.session
 
-pub invariant_of-self-2 : goal.invariant_of-self-2
-invariant_of-self-2 g c =
-    let records = c.self.inside.records.items in
-    let r = c.index_mut-record.result.now in
-    let n : Record = record r { place = places.Unused } in
-    let inside = named_inside records c.args.self.now.items c.number_of-number.result c.args.handle
-    (ap (λ (v : SessionsView). v.items) c.self.view_is) c.number_of-number.ensures c.requires.named in
-    let its : IsRecord r =
-    subst (λ (r : Record). IsRecord r) (sym c.index_mut-record.ensures.value)
-    (c.self.invariant.held.sound.each c.number_of-number.result r inside) in
-    let sound = records_set records c.number_of-number.result n inside c.self.invariant.held.sound
-    (record { room = its.room; handed_room = its.handed_room; context = tt }) tt in
-    record {
-      held = held_set records c.self.inside.used c.number_of-number.result n c.self.invariant.held sound (λ none. refl);
-      listed = listed_out records (set records c.number_of-number.result n) c.self.inside.loaded.items c.unlist.new.loaded.items
-          c.number_of-number.result None (vec_capacity c.self.inside.loaded) (vec_capacity c.unlist.new.loaded) c.self.invariant.listed
-          (map-set item_of_record records c.number_of-number.result n) refl c.unlist.ensures.order c.unlist.ensures.capacity;
-    }
+pub forget-requires : goal.forget-requires
+forget-requires g c =
+    ap (λ (n : ℕ). is_some (item_at c.args.self.now.items n)) c.number_of.ensures ∙ named_some c.args.self.now.items c.args.handle c.requires.named
+
+abbrev forgotten : SessionsView → ℕ → SessionsView
+forgotten view n = record {
+  items = set view.items n None;
+  next = view.next;
+  order = without_one n view.order;
+  saved = without_one n view.saved;
+}
 
 -- the order aside
 abbrev view_ended : SessionsView → ℕ → SessionsView
-view_ended view handle = record { items = set view.items (number_of_session handle) None; next = view.next; order = [] }
+view_ended view handle = record { items = set view.items (number_of_session handle) None; next = view.next; order = []; saved = [] }
 
 pub returns-clause-ok : goal.returns-clause-ok
 returns-clause-ok g c =
-    let n : Record = record c.index_mut-record.result.now { place = places.Unused } in
-    let view_is = left c.self.inside.records.items c.args.self.now c.self.inside.next c.number_of-number.result c.args.handle
-    c.self.inside.loaded.items c.unlist.new.loaded.items n c.self.view_is c.number_of-number.ensures refl c.unlist.ensures.order in
+    let view_is = c.forget.ensures ∙ ap (forgotten c.args.self.now) c.number_of.ensures in
     let has = has_item c.args.self.now.items c.args.handle c.requires.named in
     record {
       view_is = view_is;
@@ -63,18 +49,21 @@ returns-clause-ok g c =
 
 pub returns-clause-stands : goal.returns-clause-stands
 returns-clause-stands g c =
-    let r = c.index_mut-record.result.now in
-    let n : Record = record r { place = places.Unused } in
-    let has = has_item c.args.self.now.items c.args.handle c.requires.named in
-    let view_is = left c.self.inside.records.items c.args.self.now c.self.inside.next c.number_of-number.result c.args.handle
-    c.self.inside.loaded.items c.unlist.new.loaded.items n c.self.view_is c.number_of-number.ensures refl c.unlist.ensures.order in
-    let drops = ended_drops _ c.args.self.now c.requires.stand.0 c.args.handle has.item c.requires.stand.1 has.was in
+    let view = c.args.self.now in
+    let n = number_of_session c.args.handle in
+    let has = has_item view.items c.args.handle c.requires.named in
+    let view_is = c.forget.ensures ∙ ap (forgotten view) c.number_of.ensures in
+    let drops = ended_drops _ view c.requires.stand.0 c.args.handle has.item c.requires.stand.1 has.was in
     let state_is = c.in_ok-flush.ensures.state in
     record {
       stand = λ others stand.
-          let after = (ended_drops _ c.args.self.now others c.args.handle has.item stand has.was).stand in
-          stand_alike _ _ _ others (sym (ap (λ (v : SessionsView). v.items) view_is)) (sym (ap (λ (v : SessionsView). v.next) view_is))
-          (subst (λ (s : Option SlotState). Stand s (view_ended c.args.self.now c.args.handle) others) (sym state_is) after);
+          let after = (ended_drops _ view others c.args.handle has.item stand has.was).stand in
+          let ends : Stand (g.D.Device.seen c.flush.new.device).state (view_ended view c.args.handle) others =
+          subst (λ (s : Option SlotState). Stand s (view_ended view c.args.handle) others) (sym state_is) after in
+          subst (λ (v : SessionsView). Stand (g.D.Device.seen c.flush.new.device).state v others) (sym view_is)
+          (stand_alike (g.D.Device.seen c.flush.new.device).state (view_ended view c.args.handle) (forgotten view n) others refl refl
+          (rise_ended (g.D.Device.seen c.args.device.now).state (g.D.Device.seen c.flush.new.device).state view others n stand
+          (ap rest_of state_is ∙ drops.rest)) ends);
       rest = record {
         base_is = c.in_ok-flush.ensures.asks.base;
         rest = ap rest_of state_is ∙ drops.rest;

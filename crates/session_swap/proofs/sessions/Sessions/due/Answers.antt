@@ -1,29 +1,19 @@
-use Rattle.std.proofs.Common.{◌≡◌, ◌<◌, ◌≤◌, ℕ, subst, arith}
-use Rattle.std.specs.Prelude.{Option, Some, None, MatchOption, vec_capacity}
-use Rattle.session_swap.specs.declared.TheConstants.{RENEWAL_GAP}
-use Rattle.session_swap.specs.Items.{IsOldest, SessionsView, gap_kept, saved_items}
-use Rattle.session_swap.specs.Records.{IsSoundView}
-use Rattle.session_swap.proofs.Listing.{sound_view}
-use Rattle.session_swap.proofs.Refreshed.{gap_none}
+use Rattle.std.proofs.Common.{◌∙◌, ℕ, List, ap, arith}
+use Rattle.std.specs.Prelude.{Some}
+use Rattle.device_spec.specs.Slots.{gap_from}
+use Rattle.session_swap.specs.declared.record.Record.{Record}
+use Rattle.session_swap.specs.Items.{SessionsView, number_at}
+use Rattle.session_swap.specs.Records.{items_of}
+use Rattle.session_swap.proofs.Firsts.{first_gap, first_most}
 use Rattle.session_swap.proofs.sessions.Sessions.due.Goals as goal
 
-pub returns-then-gap-lt-RENEWAL_GAP-clause-sound : goal.returns-then-gap-lt-RENEWAL_GAP-clause-sound
-returns-then-gap-lt-RENEWAL_GAP-clause-sound c =
-    let inside = c.self.inside in
-    subst (λ (v : SessionsView). IsSoundView v) c.self.view_is
-    (sound_view inside.records.items inside.used inside.next inside.loaded.items (vec_capacity inside.loaded) c.self.invariant)
-
-pub returns-clause-sound : goal.returns-clause-sound
-returns-clause-sound c =
-    let inside = c.self.inside in
-    subst (λ (v : SessionsView). IsSoundView v) c.self.view_is
-    (sound_view inside.records.items inside.used inside.next inside.loaded.items (vec_capacity inside.loaded) c.self.invariant)
-
-due_by : (view : SessionsView) (oldest : Option ℕ) → RENEWAL_GAP ≤ gap_kept view
-    → MatchOption oldest (saved_items view.items ≡ 0) (λ handle. IsOldest view.items handle)
-    → MatchOption oldest (gap_kept view < RENEWAL_GAP) (λ handle. IsOldest view.items handle × (RENEWAL_GAP ≤ gap_kept view))
-due_by view None wide none = gap_none view none
-due_by view (Some handle) wide oldest = (oldest, wide)
-
 pub returns-clause-due : goal.returns-clause-due
-returns-clause-due c = due_by c.args.self.now c.oldest.result (omega (arith, c.gap.ensures, c.if-gap-lt-RENEWAL_GAP.false)) c.oldest.ensures
+returns-clause-due g c =
+    let view = c.args.self.now in
+    let first = c.in_ok-handle.ensures.oldest in
+    let is = c.gap_above.ensures
+    ∙ ap (λ (l : List Record). gap_from c.self.inside.next (number_at (items_of l) (Some c.number_of.result))) c.deref.ensures.value
+    ∙ ap (λ (v : SessionsView). gap_from v.next (number_at v.items (Some c.number_of.result))) c.self.view_is
+    ∙ ap (λ (n : ℕ). gap_from view.next (number_at view.items (Some n))) c.number_of.ensures
+    ∙ first_gap view c.in_ok-handle.handle first.first in
+    (first, omega (arith, is, first_most view, c.if-gap_above-lt-RENEWAL_GAP.false))

@@ -1,28 +1,24 @@
-use Rattle.std.proofs.Common.{◌≡◌, ◌∙◌, ◌++◌, true, [], List, length, take, drop, ap, sym, subst, arith}
-use Rattle.std.specs.Prelude.{Option, vec_capacity}
+use Rattle.std.proofs.Common.{◌≡◌, ◌∙◌, ◌++◌, true, List, length, take, drop, ap, sym, subst, arith}
+use Rattle.std.specs.Prelude.{Option}
 use Rattle.std.proofs.lemmas.List.{take_at}
 use Rattle.std.proofs.lemmas.Result.{on_ok_weaker}
 use Rattle.session_swap.specs.declared.record.Record.{Record}
-use Rattle.session_swap.specs.Items.{AreNeeded, HavePlaces, Item, MakesRoom, SessionsView, holders, is_loaded_item, item_of}
-use Rattle.session_swap.specs.Records.{AreListed, ListsIn, items_of, view_with}
-use Rattle.session_swap.proofs.Making.{gap_below, moved_lent, ready_lent}
-use Rattle.session_swap.proofs.Unused.{held_moved}
+use Rattle.session_swap.specs.Items.{AreNeeded, HavePlaces, Item, MakesRoom, SessionsView, is_loaded_item, item_of}
+use Rattle.session_swap.specs.Records.{items_of, view_with}
+use Rattle.session_swap.proofs.Making.{gap_below, kept_lent, lent_in, moved_lent}
 use Rattle.session_swap.proofs.sessions.Sessions.make_sessions.Goals as goal
 
 pub invariant_of-self : goal.invariant_of-self
 invariant_of-self g c =
     let records = c.self.inside.records.items in
-    let used = c.self.inside.used in
     let new = c.swap_sessions.new.records in
     let left = c.swap_sessions.ensures in
-    let count : length new ≡ length records = left.ready.ready.sound.count ∙ sym c.self.invariant.held.sound.count in
+    let count : length new ≡ length records = left.ready.ready.sound.count ∙ sym c.self.invariant.sound.count in
     let whole : take c.self.inside.records.len (new ++ drop (length new) records) ≡ new =
     take_at new (drop (length new) records) c.self.inside.records.len (omega arith) in
-    subst (λ (l : List Record). AreListed l used c.swap_sessions.new.loaded.items (vec_capacity c.swap_sessions.new.loaded)) (sym whole) (record {
-      held = held_moved records new used c.self.invariant.held left.ready.ready.sound
-          (left.swaps.swaps.sessions.holders ∙ ap (λ (l : List Record). holders (items_of l)) c.deref_mut.ensures.value);
-      listed = left.ready.listed;
-    })
+    kept_lent records c.deref_mut.result.now new (take c.self.inside.records.len (new ++ drop (length new) records)) c.self.inside.order
+    c.swap_sessions.new.order c.self.inside.owned c.self.invariant c.deref_mut.ensures.value whole left.ready.ready.sound left.ready.listed
+    left.swaps.swaps.sessions.holders
 
 pub swap_sessions-requires-clause-needed : goal.swap_sessions-requires-clause-needed
 swap_sessions-requires-clause-needed g c =
@@ -31,19 +27,15 @@ swap_sessions-requires-clause-needed g c =
 
 pub swap_sessions-requires-clause-ready : goal.swap_sessions-requires-clause-ready
 swap_sessions-requires-clause-ready g c =
-    let loaded = c.self.inside.loaded in
-    record {
-      ready = ready_lent (g.D.Device.seen c.args.device.now).state c.self.inside.records.items c.deref_mut.result.now c.self.inside.next
-          loaded.items c.args.self.now [] c.deref_mut.ensures.value c.self.invariant.held.sound c.self.view_is c.requires.stand;
-      listed = subst (λ (l : List Record). ListsIn l loaded.items (vec_capacity loaded)) (sym c.deref_mut.ensures.value) c.self.invariant.listed;
-    }
+    lent_in (g.D.Device.seen c.args.device.now).state c.self.inside.records.items c.deref_mut.result.now c.self.inside.next c.self.inside.owned
+    c.self.inside.order c.args.self.now c.deref_mut.ensures.value c.self.invariant c.self.view_is c.requires.stand
 
 pub returns-clause-ok : goal.returns-clause-ok
 returns-clause-ok g c =
     let records = c.self.inside.records.items in
     let new = c.swap_sessions.new.records in
     let left = c.swap_sessions.ensures in
-    let count : length new ≡ length records = left.ready.ready.sound.count ∙ sym c.self.invariant.held.sound.count in
+    let count : length new ≡ length records = left.ready.ready.sound.count ∙ sym c.self.invariant.sound.count in
     let whole : take c.self.inside.records.len (new ++ drop (length new) records) ≡ new =
     take_at new (drop (length new) records) c.self.inside.records.len (omega arith) in
     on_ok_weaker c.swap_sessions.result
@@ -57,7 +49,7 @@ returns-clause-stay g c handle any is =
     let new = c.swap_sessions.new.records in
     let left = c.swap_sessions.ensures in
     let old = c.deref_mut.ensures.value in
-    let count : length new ≡ length records = left.ready.ready.sound.count ∙ sym c.self.invariant.held.sound.count in
+    let count : length new ≡ length records = left.ready.ready.sound.count ∙ sym c.self.invariant.sound.count in
     let whole : take c.self.inside.records.len (new ++ drop (length new) records) ≡ new =
     take_at new (drop (length new) records) c.self.inside.records.len (omega arith) in
     let was : is_loaded_item (item_of (items_of c.deref_mut.result.now) handle) ≡ true =
@@ -74,15 +66,15 @@ returns-clause-room g c =
     let records = c.self.inside.records.items in
     let new = c.swap_sessions.new.records in
     let next = c.swap_sessions.new.next in
-    let new_loaded = c.swap_sessions.new.loaded.items in
+    let new_order = c.swap_sessions.new.order in
     let left = c.swap_sessions.ensures in
     let result = c.swap_sessions.result in
-    let count : length new ≡ length records = left.ready.ready.sound.count ∙ sym c.self.invariant.held.sound.count in
+    let count : length new ≡ length records = left.ready.ready.sound.count ∙ sym c.self.invariant.sound.count in
     let whole : take c.self.inside.records.len (new ++ drop (length new) records) ≡ new =
     take_at new (drop (length new) records) c.self.inside.records.len (omega arith) in
-    let same = ap (λ (l : List Record). view_with l c.self.inside.next c.self.inside.loaded.items) c.deref_mut.ensures.value ∙ c.self.view_is in
-    subst (λ (l : List Record). MakesRoom seen old device c.args.needed.now c.args.new_places c.args.self.now (view_with l next new_loaded) result) (sym whole)
-    (subst (λ (v : SessionsView). MakesRoom seen old device c.args.needed.now c.args.new_places v (view_with new next new_loaded) result) same left.room)
+    let same = ap (λ (l : List Record). view_with l c.self.inside.next c.self.inside.order) c.deref_mut.ensures.value ∙ c.self.view_is in
+    subst (λ (l : List Record). MakesRoom seen old device c.args.needed.now c.args.new_places c.args.self.now (view_with l next new_order) result) (sym whole)
+    (subst (λ (v : SessionsView). MakesRoom seen old device c.args.needed.now c.args.new_places v (view_with new next new_order) result) same left.room)
 
 pub returns-clause-moved : goal.returns-clause-moved
 returns-clause-moved g c =
@@ -92,11 +84,11 @@ returns-clause-moved g c =
     let records = c.self.inside.records.items in
     let new = c.swap_sessions.new.records in
     let left = c.swap_sessions.ensures in
-    let count : length new ≡ length records = left.ready.ready.sound.count ∙ sym c.self.invariant.held.sound.count in
+    let count : length new ≡ length records = left.ready.ready.sound.count ∙ sym c.self.invariant.sound.count in
     let whole : take c.self.inside.records.len (new ++ drop (length new) records) ≡ new =
     take_at new (drop (length new) records) c.self.inside.records.len (omega arith) in (
-      moved_lent seen old device records c.deref_mut.result.now new _ c.self.inside.next c.swap_sessions.new.next c.self.inside.loaded.items
-          c.swap_sessions.new.loaded.items c.args.self.now c.deref_mut.ensures.value c.self.view_is whole left.swaps.swaps left.ready.ready.stand,
+      moved_lent seen old device records c.deref_mut.result.now new _ c.self.inside.next c.swap_sessions.new.next c.self.inside.order
+          c.swap_sessions.new.order c.args.self.now c.deref_mut.ensures.value c.self.view_is whole left.swaps.swaps left.ready,
       gap_below (seen old).state (seen device).state c.requires.may.0 left.swaps.swaps.rest left.swaps.swaps.gap left.swaps.counter,
       left.swaps.counter,
     )

@@ -1,0 +1,31 @@
+use Rattle.std.proofs.Common.{◌≡◌, ◌+◌, ◌*◌, ◌<◌, ◌≤◌, length}
+use Rattle.std.specs.Prelude.{IfSome, Ok, min}
+use Rattle.tab_spec.specs.declared.TheConstants.{ACTIVE_SESSIONS, LOADED_SESSIONS}
+use Rattle.device_port.specs.Device.{sent_of}
+use Rattle.device_port.specs.Own.{AsksSome}
+use Rattle.session_swap.specs.declared.TheConstants.{RENEWAL_GAP}
+use Rattle.session_swap.specs.Items.{AreFree, HasGapRoom, KeepsRecent, Moved, counter_of, full_flag, gap_kept, saved_items}
+use Rattle.session_swap.proofs.Refreshed.{Progress}
+use Rattle.session_swap.proofs.gap.refresh_by.Given as goal
+
+abbrev pub invariant-loop-renewed : goal.invariant-loop-renewed
+invariant-loop-renewed g l =
+    let D = g.D.Device in
+    let C = g.C.Visits in
+    let start = counter_of (D.seen l.fn.device).state in
+    record {
+      moved : Moved D.seen l.fn.device l.device l.fn.sessions l.sessions;
+      room : HasGapRoom (D.seen l.device).state;
+      progress : IfSome (D.seen l.device).state (λ slots. Progress slots l.sessions.items start l.most l.renewed);
+      recent : IfSome (D.seen l.device).state (λ slots. KeepsRecent slots l.fn.sessions.items l.sessions.items);
+      counter : counter_of (D.seen l.device).state ≤ start + l.renewed + 1;
+      exact : IfSome (D.seen l.device).state (λ slots. slots.counter ≡ start + l.renewed + min l.renewed (full_flag (D.seen l.fn.device).state));
+      free : 1 ≤ l.renewed → AreFree (D.seen l.device).state 1;
+      first : l.renewed ≡ 0 → (l.device ≡ l.fn.device) × (l.sessions ≡ l.fn.sessions);
+      still : gap_kept l.fn.sessions < RENEWAL_GAP → l.renewed ≡ 0;
+      places : 1 ≤ l.renewed → length l.sessions.order < LOADED_SESSIONS;
+      sent : sent_of (D.seen l.device) ≤ sent_of (D.seen l.fn.device) + 2 * l.renewed + min l.renewed 1;
+      steps : C.count l.steps ≤ C.count l.fn.steps + 11 * l.renewed + 6 * min l.renewed 1;
+      few : 1 ≤ l.renewed → saved_items l.fn.sessions.items ≤ ACTIVE_SESSIONS;
+      asks : AsksSome {A = Unit {0}} D.seen l.fn.device l.device (Ok tt);
+    }

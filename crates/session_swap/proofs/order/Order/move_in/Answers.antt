@@ -1,0 +1,26 @@
+use Rattle.std.proofs.Common.{◌∙◌, ap, arith}
+use Rattle.std.specs.Prelude.{◌==◌}
+use Rattle.std.specs.List.{count_by}
+use Rattle.session_swap.specs.Records.{OrderView, order_in}
+use Rattle.session_swap.proofs.Ordering.{Carried, in_order, in_ordered}
+use Rattle.session_swap.proofs.Threads.{below_saved}
+use Rattle.session_swap.proofs.order.Order.move_in.Goals as goal
+
+pub carry-requires-clause-number : goal.carry-requires-clause-number
+carry-requires-clause-number g c =
+    let one = ap (λ (o : OrderView). count_by (λ one. one == c.args.number) o.saved) c.self.view_is ∙ c.requires in
+    below_saved c.self.inside.lists.lists c.args.number c.self.invariant.all (omega (arith, one))
+
+pub invariant_of-self : goal.invariant_of-self
+invariant_of-self g c =
+    let one = ap (λ (o : OrderView). count_by (λ one. one == c.args.number) o.saved) c.self.view_is ∙ c.requires in
+    let carried : Carried c.self.inside.lists.lists c.carry.new.lists.lists c.args.number 1 =
+    record { all = c.carry.ensures.all; back = c.carry.ensures.back; others = c.carry.ensures.others } in
+    in_ordered c.self.inside.lists.lists c.carry.new.lists.lists c.args.number c.self.inside.loaded c.self.inside.saved c.self.invariant carried one
+
+pub returns-clause-order : goal.returns-clause-order
+returns-clause-order g c =
+    let carried : Carried c.self.inside.lists.lists c.carry.new.lists.lists c.args.number 1 =
+    record { all = c.carry.ensures.all; back = c.carry.ensures.back; others = c.carry.ensures.others } in
+    in_order c.self.inside.lists.lists c.carry.new.lists.lists c.args.number c.self.inside.loaded c.self.inside.saved c.self.invariant carried
+    ∙ ap (order_in c.args.number) c.self.view_is

@@ -1,0 +1,85 @@
+use Rattle.std.proofs.Common.{◌∙◌, List, set, ap, sym, subst, refl, arith}
+use Rattle.std.specs.Prelude.{None, Option, is_some, not}
+use Rattle.std.specs.List.{count_by}
+use Rattle.std.proofs.lemmas.List.{length-map, map-set}
+use Rattle.device_port.specs.Use.{without_one}
+use Rattle.session_swap.specs.declared.record.Place.TheVariants as places
+use Rattle.session_swap.specs.declared.record.Record.{Record}
+use Rattle.session_swap.specs.Items.{Item, SessionsView, flag, has_owner, is_loaded_item, item_at}
+use Rattle.session_swap.specs.Records.{IsRecord, OrderView, item_of_record, items_of}
+use Rattle.session_swap.proofs.Moved.{record_inside}
+use Rattle.session_swap.proofs.Making.{read_there, records_set}
+use Rattle.session_swap.proofs.Listing.{listed_gone}
+use Rattle.session_swap.proofs.Owners.{owned_less, owned_most, saved_else}
+use Rattle.session_swap.proofs.sessions.Sessions.forget.Goals as goal
+
+pub less_one-self-inside-requires : goal.less_one-self-inside-requires
+less_one-self-inside-requires c =
+    let records = c.self.inside.records.items in
+    let number = c.args.number in
+    let there = ap (λ (v : SessionsView). is_some (item_at v.items number)) c.self.view_is ∙ c.requires in
+    let inside = record_inside records number there in
+    let was = ap has_owner (read_there records number c.index_mut-record.result.now inside c.index_mut-record.ensures.value) in
+    omega (
+      arith,
+      c.self.invariant.owned_is,
+      owned_most (items_of records) number c.has_owner-had_owner.result (omega (arith, inside, length-map records item_of_record))
+          (was ∙ sym c.has_owner-had_owner.ensures),
+    )
+
+pub end-requires-clause-loaded : goal.end-requires-clause-loaded
+end-requires-clause-loaded c =
+    let records = c.self.inside.records.items in
+    let number = c.args.number in
+    let there = ap (λ (v : SessionsView). is_some (item_at v.items number)) c.self.view_is ∙ c.requires in
+    let inside = record_inside records number there in
+    let here = read_there records number c.index_mut-record.result.now inside c.index_mut-record.ensures.value in
+    c.self.invariant.listed.lists.each number ∙ ap flag (ap is_loaded_item here ∙ sym c.is_loaded-is_loaded.ensures)
+
+pub end-requires-clause-saved : goal.end-requires-clause-saved
+end-requires-clause-saved c =
+    let records = c.self.inside.records.items in
+    let number = c.args.number in
+    let there = ap (λ (v : SessionsView). is_some (item_at v.items number)) c.self.view_is ∙ c.requires in
+    let inside = record_inside records number there in
+    let here = read_there records number c.index_mut-record.result.now inside c.index_mut-record.ensures.value in
+    c.self.invariant.listed.saved.each number
+    ∙ ap flag (saved_else (item_at (items_of records) number) there ∙ ap not (ap is_loaded_item here ∙ sym c.is_loaded-is_loaded.ensures))
+
+pub invariant_of-self : goal.invariant_of-self
+invariant_of-self c =
+    let records = c.self.inside.records.items in
+    let items = items_of records in
+    let number = c.args.number in
+    let there = ap (λ (v : SessionsView). is_some (item_at v.items number)) c.self.view_is ∙ c.requires in
+    let inside = record_inside records number there in
+    let d = c.index_mut-record.result.now in
+    let is = c.index_mut-record.ensures.value in
+    let its : IsRecord d = subst (λ (r : Record). IsRecord r) (sym is) (c.self.invariant.sound.each number d inside) in
+    let n : Record = record d { place = places.Unused } in
+    let was = ap has_owner (read_there records number d inside is) ∙ sym c.has_owner-had_owner.ensures in
+    let same = map-set item_of_record records number n in
+    record {
+      sound = records_set records number n c.self.invariant.sound inside
+          (record { room = its.room; handed_room = its.handed_room; context = tt }) tt;
+      listed = listed_gone records (set records number n) c.self.inside.order c.end.new.self number c.self.invariant.listed same c.end.ensures;
+      owned_is = omega (
+        arith,
+        c.less_one-self-inside.ensures,
+        c.self.invariant.owned_is,
+        ap (λ (l : List (Option Item)). count_by has_owner l) same,
+        owned_less items number None c.has_owner-had_owner.result (omega (arith, inside, length-map records item_of_record)) was refl,
+      );
+    }
+
+pub returns : goal.returns
+returns c =
+    let records = c.self.inside.records.items in
+    let number = c.args.number in
+    let n : Record = record c.index_mut-record.result.now { place = places.Unused } in
+    let none : Option Item = None in
+    let same = map-set item_of_record records number n ∙ ap (λ (v : SessionsView). set v.items number none) c.self.view_is in
+    let next = ap (λ (v : SessionsView). v.next) c.self.view_is in
+    let order = ap (λ (o : OrderView). o.loaded) c.end.ensures ∙ ap (λ (v : SessionsView). without_one number v.order) c.self.view_is in
+    let saved = ap (λ (o : OrderView). o.saved) c.end.ensures ∙ ap (λ (v : SessionsView). without_one number v.saved) c.self.view_is in
+    λ i. record { items = same i; next = next i; order = order i; saved = saved i }
