@@ -179,7 +179,8 @@ impl<T> Arena<T> {
             → Holds self.new.places.items self.new.ends.items free (carried can) }
         ensures count { length self.new.places.items ≡ length self.old.places.items }
         ensures capacity { vec_capacity self.new.places ≡ vec_capacity self.old.places }
-        ensures steps { C.count steps.new ≤ C.count steps.old + 4 * C.weight }
+        ensures steps { (C.count steps.old + C.weight ≤ C.count steps.new)
+            × (C.count steps.new ≤ C.count steps.old + 4 * C.weight) }
     {
         self.set_next(from.list, from.prev, from.next, steps);
         self.set_prev(from.list, from.next, from.prev, steps);

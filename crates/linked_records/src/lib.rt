@@ -7,7 +7,7 @@
 //!
 //! The counted calls tell how many records they visit, by a counter that takes no bytes: a record
 //! is visited each time its place is looked up, to read it, to write it or both, and the ends of a
-//! list are no record.
+//! list are no record. `front_counted` counts the record that it names.
 #![tactic(auto)]
 
 mod arena;

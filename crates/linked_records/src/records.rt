@@ -1,6 +1,7 @@
 //! Records in lists.
-ghost use Rattle.std.specs.Prelude.{◌≡◌, ◌+◌, ◌*◌, ◌<◌, ◌≤◌, ◌^◌, ◌∷◌, ◌++◌, [], IfOk, OnErr};
-ghost use Rattle.std.specs.Prelude.{OnOk, ℕ, get_or, length, max, replicate, set};
+ghost use Rattle.std.specs.Prelude.{◌≡◌, ◌+◌, ◌*◌, ◌<◌, ◌≤◌, ◌^◌, ◌∷◌, ◌++◌, [], IfOk};
+ghost use Rattle.std.specs.Prelude.{MatchOption, OnErr, OnOk, ℕ, get_or, length, max, replicate};
+ghost use Rattle.std.specs.Prelude.{set};
 ghost use Rattle.std.specs.Borrow.{sem};
 ghost use Rattle.linked_records.specs.View.{IsListed, StandOnce, first_index, moved, put_back};
 ghost use Rattle.linked_records.specs.View.{record_count, taken_out, written};
@@ -98,7 +99,8 @@ impl<T> Records<T> {
         Ok(list)
     }
 
-    /// How many lists there are. Each index stands in one of them, and once.
+    /// How many lists there are. Each index stands in one of them, and once. Each index is below
+    /// `given`, and there are no more records than that.
     pub fn lists(&self) -> usize
         ensures count { result ≡ length self.now.lists }
         ensures once { StandOnce self.now.lists }
@@ -192,11 +194,12 @@ impl<T> Records<T> {
 }
 
 impl<T> Records<T> {
-    /// `front`, which counts the record that it names, and so one at most.
+    /// `front`, which counts the record that it names: one, or none where the list is empty.
     pub fn front_counted<L: Ledger>(&self, list: u32, steps: &mut Steps<L>) -> Option<u32>
         requires { list < length self.now.lists }
         ensures front { result ≡ first_index (get_or self.now.lists list []) }
-        ensures steps { steps.new ≤ steps.old + 1 }
+        ensures steps { MatchOption result
+            (steps.new ≡ steps.old) (λ item. steps.new ≡ steps.old + 1) }
     {
         let first = self.front(list);
         if first.is_some() {
@@ -205,16 +208,16 @@ impl<T> Records<T> {
         first
     }
 
-    /// `next`, which visits one record at most.
+    /// `next`, which visits one record.
     pub fn next_counted<L: Ledger>(&self, item: u32, steps: &mut Steps<L>) -> Option<u32>
         requires { IsListed self.now.lists item }
         ensures next { (at : IsListed self.now.lists item) → result ≡ first_index at.after }
-        ensures steps { steps.new ≤ steps.old + 1 }
+        ensures steps { steps.new ≡ steps.old + 1 }
     {
         self.next_by(item, steps)
     }
 
-    /// `insert_back`, which visits two records at most.
+    /// `insert_back`, which visits one record or two.
     pub fn insert_back_counted<L: Ledger>(&mut self, list: u32, v: T, steps: &mut Steps<L>) -> u32
         requires room { 1 ≤ self.old.spare }
         requires there { list < length self.old.lists }
@@ -224,42 +227,42 @@ impl<T> Records<T> {
         ensures given { (record_count self.old.lists ≡ self.old.given → result ≡ self.old.given)
             × (record_count self.old.lists < self.old.given → result < self.old.given)
             × (self.new.given ≡ max self.old.given (result + 1)) }
-        ensures steps { steps.new ≤ steps.old + 2 }
+        ensures steps { (steps.old + 1 ≤ steps.new) × (steps.new ≤ steps.old + 2) }
     {
         self.insert_by(list, v, steps)
     }
 
-    /// `remove`, which visits three records at most.
+    /// `remove`, which visits one to three records.
     pub fn remove_counted<L: Ledger>(&mut self, item: u32, steps: &mut Steps<L>) -> T
         requires { IsListed self.old.lists item }
         ensures value { (at : IsListed self.old.lists item) → result ≡ at.value }
         ensures lists { (at : IsListed self.old.lists item)
             → self.new.lists ≡ taken_out self.old.lists item at }
         ensures spare { (self.new.spare ≡ self.old.spare + 1) × (self.new.given ≡ self.old.given) }
-        ensures steps { steps.new ≤ steps.old + 3 }
+        ensures steps { (steps.old + 1 ≤ steps.new) × (steps.new ≤ steps.old + 3) }
     {
         self.remove_by(item, steps)
     }
 
-    /// `move_back`, which visits five records at most.
+    /// `move_back`, which visits two to five records.
     pub fn move_back_counted<L: Ledger>(&mut self, item: u32, steps: &mut Steps<L>)
         requires { IsListed self.old.lists item }
         ensures lists { (at : IsListed self.old.lists item)
             → self.new.lists ≡ moved self.old.lists item at at.list }
         ensures spare { (self.new.spare ≡ self.old.spare) × (self.new.given ≡ self.old.given) }
-        ensures steps { steps.new ≤ steps.old + 5 }
+        ensures steps { (steps.old + 2 ≤ steps.new) × (steps.new ≤ steps.old + 5) }
     {
         self.move_back_by(item, steps)
     }
 
-    /// `move_to`, which visits five records at most.
+    /// `move_to`, which visits two to five records.
     pub fn move_to_counted<L: Ledger>(&mut self, item: u32, list: u32, steps: &mut Steps<L>)
         requires listed { IsListed self.old.lists item }
         requires there { list < length self.old.lists }
         ensures lists { (at : IsListed self.old.lists item)
             → self.new.lists ≡ moved self.old.lists item at list }
         ensures spare { (self.new.spare ≡ self.old.spare) × (self.new.given ≡ self.old.given) }
-        ensures steps { steps.new ≤ steps.old + 5 }
+        ensures steps { (steps.old + 2 ≤ steps.new) × (steps.new ≤ steps.old + 5) }
     {
         self.move_to_by(item, list, steps)
     }
@@ -283,7 +286,8 @@ impl<T> Records<T> {
         ensures given { (record_count self.old.lists ≡ self.old.given → result ≡ self.old.given)
             × (record_count self.old.lists < self.old.given → result < self.old.given)
             × (self.new.given ≡ max self.old.given (result + 1)) }
-        ensures steps { C.count steps.new ≤ C.count steps.old + 2 * C.weight }
+        ensures steps { (C.count steps.old + C.weight ≤ C.count steps.new)
+            × (C.count steps.new ≤ C.count steps.old + 2 * C.weight) }
     {
         let last = self.arena.ends[list as usize].last;
         let links = Links {
@@ -303,7 +307,8 @@ impl<T> Records<T> {
         ensures lists { (at : IsListed self.old.lists item)
             → self.new.lists ≡ taken_out self.old.lists item at }
         ensures spare { (self.new.spare ≡ self.old.spare + 1) × (self.new.given ≡ self.old.given) }
-        ensures steps { C.count steps.new ≤ C.count steps.old + 3 * C.weight }
+        ensures steps { (C.count steps.old + C.weight ≤ C.count steps.new)
+            × (C.count steps.new ≤ C.count steps.old + 3 * C.weight) }
     {
         match self.arena.replace(item, Place::Free(self.free), steps) {
             Place::Taken(links, value) => {
@@ -323,7 +328,8 @@ impl<T> Records<T> {
         ensures lists { (at : IsListed self.old.lists item)
             → self.new.lists ≡ moved self.old.lists item at at.list }
         ensures spare { (self.new.spare ≡ self.old.spare) × (self.new.given ≡ self.old.given) }
-        ensures steps { C.count steps.new ≤ C.count steps.old + 5 * C.weight }
+        ensures steps { (C.count steps.old + 2 * C.weight ≤ C.count steps.new)
+            × (C.count steps.new ≤ C.count steps.old + 5 * C.weight) }
     {
         let from = self.arena.links(item, steps);
         self.arena.carry(item, from, from.list, steps);
@@ -335,7 +341,8 @@ impl<T> Records<T> {
         ensures lists { (at : IsListed self.old.lists item)
             → self.new.lists ≡ moved self.old.lists item at list }
         ensures spare { (self.new.spare ≡ self.old.spare) × (self.new.given ≡ self.old.given) }
-        ensures steps { C.count steps.new ≤ C.count steps.old + 5 * C.weight }
+        ensures steps { (C.count steps.old + 2 * C.weight ≤ C.count steps.new)
+            × (C.count steps.new ≤ C.count steps.old + 5 * C.weight) }
     {
         let from = self.arena.links(item, steps);
         self.arena.carry(item, from, list, steps);

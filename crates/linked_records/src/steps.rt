@@ -4,7 +4,7 @@ ghost use Rattle.std.specs.Prelude.{◌≡◌, ◌+◌, ◌<◌, ℕ};
 use std::marker::Model;
 use std::sync::ledger::{Blank, Book, Ledger, Share};
 
-/// How many records were visited. It takes no bytes, and contracts alone see it.
+/// How many records were visited. It takes no bytes; only contracts see it.
 #[derive(Drop)]
 pub struct Steps<L: Ledger> {
     book: Book<L>,

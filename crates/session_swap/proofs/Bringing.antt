@@ -1,5 +1,5 @@
 -- What bringing one session in comes to, and what making room for sessions does.
-use Rattle.std.proofs.Common.{◌≡◌, ◌+◌, ◌-◌, ◌<◌, ◌≤◌, ◌∙◌, [], ◌∷◌, ℕ, true, false, List, set, length, refl, ap, subst, sym, arith}
+use Rattle.std.proofs.Common.{◌≡◌, ◌+◌, ◌-◌, ◌<◌, ◌≤◌, ◌∙◌, [], ◌∷◌, ℕ, true, false, List, set, take, length, refl, ap, subst, sym, arith}
 use Rattle.std.specs.Prelude.{◌==◌, Option, Some, None, Result, Ok, Err, min}
 use Rattle.std.specs.List.{count_by}
 use Rattle.std.proofs.lemmas.Bool.{eqb-false, false≢true}
@@ -15,7 +15,7 @@ use Rattle.session_swap.specs.Items.{AreFree, AreLoaded, AreNamed, Item, Lists, 
 use Rattle.session_swap.specs.Records.{OrderView, items_of, order_evicted, order_filled, order_in, order_used, view_with}
 use Rattle.session_swap.specs.Moves.{Brings, Evicts, Fills, loadedness}
 use Rattle.session_swap.proofs.Among.{named_is}
-use Rattle.session_swap.proofs.Listing.{none_if_failed}
+use Rattle.session_swap.proofs.Listing.{none_if_failed, on_err_all, on_err_weaker}
 use Rattle.session_swap.proofs.Making.{kept_at}
 use Rattle.session_swap.proofs.Missing.{flags_same, flags_set, loaded_more, missing_same}
 use Rattle.session_swap.proofs.Told.{loaded_told}
@@ -34,6 +34,7 @@ brings_idle seen a records before after number handle here names is none order =
   order =
       let saved_is = sym (without_absent number before.saved none) in
       order ∙ (λ i. record { loaded = used_after before.loaded number; saved = saved_is i }) ∙ ap (λ (n : ℕ). order_in n before) here;
+  failed = tt;
   paid = omega arith;
   idle = λ here. (refl, refl, refl);
 }
@@ -54,21 +55,23 @@ brings_one seen a b records new_records before after number handle here fits nam
       sent = sent;
       loaded_is = flags ∙ ap (λ (n : ℕ). set (loadedness records) n true) here;
       order = order ∙ ap (λ (n : ℕ). order_in n before) here;
+      failed = tt;
       paid = omega (arith, sent, more);
       idle = λ there. absurd
           (false≢true (sym out ∙ ap (λ (n : ℕ). is_loaded_item (item_at items n)) here ∙ ap is_loaded_item (sym (named_is items handle names)) ∙ there));
     }
 
-pub brings_none : {D : Type 0} (seen : D → Seen) (a b : D) (records new_records : List Record) (before after : OrderView) (number handle : ℕ)
+pub brings_none : {D : Type 0} (seen : D → Seen) (a b : D) (records new_records : List Record) (order : OrderView) (number handle : ℕ)
     (result : Result (Unit {0}) SwapError) (e : SwapError)
     → result ≡ Err e → number ≡ number_of_session handle → Names (items_of records) handle → is_loaded_item (item_at (items_of records) number) ≡ false
     → items_of new_records ≡ items_of records → sent_of (seen b) ≤ sent_of (seen a) + 1
-    → Brings seen a b records new_records before after handle result
-brings_none seen a b records new_records before after number handle result e failed here names out same sent = record {
+    → Brings seen a b records new_records order order handle result
+brings_none seen a b records new_records order number handle result e failed here names out same sent = record {
   others = λ other apart. ap (λ (l : List (Option Item)). item_at l other) same;
   sent = sent;
   loaded_is = none_if_failed _ result e failed;
   order = none_if_failed _ result e failed;
+  failed = on_err_all _ result refl;
   paid = none_if_failed _ result e failed;
   idle = λ there. absurd (false≢true (sym out ∙ ap (λ (n : ℕ). is_loaded_item (item_at (items_of records) n)) here
       ∙ ap is_loaded_item (sym (named_is (items_of records) handle names)) ∙ there));
@@ -167,6 +170,20 @@ room_made seen a b c needed new most count xs ys zs next mid_next first mid last
           let cleared_is = cleared.order ∙ ap (λ (n : ℕ). order_evicted n (numbers_of needed) first) out in
           ap (λ (o : OrderView). o.saved) (used ∙ ap (order_filled (numbers_of needed)) cleared_is)
           ∙ filled_saved (numbers_of needed) (order_evicted (evictions needed new (items_of xs)) (numbers_of needed) first)) filled.order;
+      failed = on_err_weaker result
+          (λ some.
+          let cleared_is = cleared.order ∙ ap (λ (n : ℕ). order_evicted n (numbers_of needed) first) out in
+          let used = take some.0 (numbers_of needed) in
+          let is : last ≡ order_filled used (order_evicted (evictions needed new (items_of xs)) (numbers_of needed) first) =
+          some.1 ∙ ap (order_filled used) cleared_is in (
+            evictions needed new (items_of xs),
+            some.0,
+            omega arith,
+            ap (λ (o : OrderView). o.loaded) is
+                ∙ filled_loaded used (order_evicted (evictions needed new (items_of xs)) (numbers_of needed) first),
+            ap (λ (o : OrderView). o.saved) is
+                ∙ filled_saved used (order_evicted (evictions needed new (items_of xs)) (numbers_of needed) first),
+          )) filled.failed;
       listed = listed;
     }
 
@@ -186,6 +203,13 @@ room_failed seen a b needed new most count xs ys next new_next first last result
       idle = λ all none. let no = (still (omega (arith, none, out))).3 in absurd cc;
       order = none_if_failed _ result e failed;
       saved = none_if_failed _ result e failed;
+      failed = on_err_all _ result (
+        cleared.failed.0,
+        0,
+        omega (arith, cleared.failed.1, out),
+        ap (λ (o : OrderView). o.loaded) cleared.failed.2,
+        ap (λ (o : OrderView). o.saved) cleared.failed.2,
+      );
       listed = listed;
     }
 

@@ -36,14 +36,19 @@ oldest_at (Some slots) view handle sound stand first = record {
   oldest = first_by view.items view.saved (number_of_session handle) first.first ∙ oldest_first view.items view.saved sound.saved stand.rise;
 }
 
-pub oldest_of : (slots : SlotState) (view : SessionsView) (handle : ℕ) → IsSoundView view → Stand (Some slots) view [] → IsFirst view handle
-    → IsOldest view.items handle
-oldest_of slots view handle sound stand first = record {
+-- and so the handle names the oldest one
+pub first_oldest : (view : SessionsView) (handle : ℕ) → ListsThose is_saved_item view.saved view.items
+    → Rise (numbers_along view.items view.saved) → IsFirst view handle → IsOldest view.items handle
+first_oldest view handle listed rise first = record {
   named = first.named;
   saved = first.saved;
   oldest = ap number_of_item (named_is view.items handle first.named)
-      ∙ first_by view.items view.saved (number_of_session handle) first.first ∙ oldest_first view.items view.saved sound.saved stand.rise;
+      ∙ first_by view.items view.saved (number_of_session handle) first.first ∙ oldest_first view.items view.saved listed rise;
 }
+
+pub oldest_of : (slots : SlotState) (view : SessionsView) (handle : ℕ) → IsSoundView view → Stand (Some slots) view [] → IsFirst view handle
+    → IsOldest view.items handle
+oldest_of slots view handle sound stand first = first_oldest view handle sound.saved stand.rise first
 
 -- ---- the gap
 

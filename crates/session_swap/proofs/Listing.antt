@@ -227,6 +227,10 @@ pub on_err_both : {A E : Type 0} (r : Result A E) (P Q : Type 0) {R : Type 0} �
 on_err_both (Ok a) P Q f p q = tt
 on_err_both (Err e) P Q f p q = f p q
 
+pub on_err_all : {A E : Type 0} (P : Type 0) (r : Result A E) → P → OnErr r P
+on_err_all P (Ok a) p = tt
+on_err_all P (Err e) p = p
+
 pub none_if_failed : {A E : Type 0} (P : Type 0) (r : Result A E) (e : E) → r ≡ Err e → OnOk r P
 none_if_failed P (Ok a) e failed = absurd cc
 none_if_failed P (Err x) e failed = tt

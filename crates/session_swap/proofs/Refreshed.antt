@@ -1,11 +1,12 @@
 -- The oldest contexts are renewed, until the gap is small: each renewal leaves one fewer with a number below the one that
 -- came next at the start.
-use Rattle.std.proofs.Common.{◌≡◌, ◌≢◌, ◌+◌, ◌-◌, ◌*◌, ◌<◌, ◌≤◌, inl, inr, ℕ, zero, suc, Bool, true, false, ltb, List, [], ◌∷◌, length, get_or, refl, ap, sym, ◌∙◌, arith}
+use Rattle.std.proofs.Common.{◌≡◌, ◌≢◌, ◌+◌, ◌-◌, ◌*◌, ◌<◌, ◌≤◌, inl, inr, ℕ, zero, suc, Bool, true, false, ltb, List, [], ◌∷◌, length, drop, get_or, refl, ap, subst, sym, ◌∙◌, arith}
 use Rattle.std.specs.Prelude.{◌==◌, min, Option, Some, None, is_some, IfSome, Result, Ok, Err}
 use Rattle.std.specs.List.{count_by}
 use Rattle.std.proofs.lemmas.Bool.{cases_lt, le-ltb, lt-ltb, ltb-true, ne_eqb}
 use Rattle.std.proofs.lemmas.List.{length-map}
 use Rattle.std.proofs.lemmas.List.Sums.{count_by-le-length, sum_by-le-sum_by}
+use Rattle.std.proofs.Math.Nat.{suc-mul}
 use Rattle.tab_spec.specs.Shape.{number_of_session}
 use Rattle.tab_spec.specs.declared.TheConstants.{ACTIVE_SESSIONS, LOADED_SESSIONS}
 use Rattle.device_spec.specs.Slots.{SlotState, gap_from, gap_of, loaded_count}
@@ -226,6 +227,22 @@ kept_most items = flag_most (loaded_items items == LOADED_SESSIONS)
 pub kept_none : (view : SessionsView) → IsSoundView view → length view.order < LOADED_SESSIONS → full_kept view.items ≡ 0
 kept_none view sound few = kept_free view.items (omega (arith, few, sound.lists.count))
 
+-- where no place was free, the first renewal saved the session that was used least recently
+pub order_start : (view : SessionsView) → view.order ≡ drop (min 0 (full_kept view.items)) view.order
+order_start view =
+    let none : 0 ≡ min 0 (full_kept view.items) = omega arith in
+    ap (λ (n : ℕ). drop n view.order) none
+
+pub order_next : (first view new_view : SessionsView) (done : ℕ) → view.order ≡ drop (min done (full_kept first.items)) first.order
+    → (done ≡ 0 → view ≡ first) → (1 ≤ done → full_kept view.items ≡ 0) → new_view.order ≡ drop (full_kept view.items) view.order
+    → new_view.order ≡ drop (min (done + 1) (full_kept first.items)) first.order
+order_next first view new_view zero held same none is =
+    let count : full_kept first.items ≡ min (zero + 1) (full_kept first.items) = omega (arith, kept_most first.items) in
+    is ∙ ap (λ (v : SessionsView). drop (full_kept v.items) v.order) (same refl) ∙ ap (λ (n : ℕ). drop n first.order) count
+order_next first view new_view (suc done) held same none is =
+    let count : min (suc done) (full_kept first.items) ≡ min (suc done + 1) (full_kept first.items) = omega (arith, kept_most first.items) in
+    is ∙ ap (λ (n : ℕ). drop n view.order) (none (omega arith)) ∙ held ∙ ap (λ (n : ℕ). drop n first.order) count
+
 -- how many were saved at the start
 pub few_saved : (items : List (Option Item)) (view : SessionsView) → IsSoundView view → holders view.items ≡ holders items
     → saved_items items ≤ ACTIVE_SESSIONS
@@ -294,6 +311,16 @@ steps_next start now mid new (suc done) kept few one more most none = omega (ari
 pub steps_last : (start now mid done : ℕ) → now ≤ start + 11 * done + 6 * min done 1 → mid ≤ now + 1 → mid ≤ start + 12 * done + 6
 steps_last start now mid zero few one = omega (arith, few, one)
 steps_last start now mid (suc done) few one = omega (arith, few, one)
+
+-- and from below: one for the first of them, and four for its renewal
+pub counts_next : (start now mid new done weight : ℕ) → start + done * (5 * weight) ≤ now → now + weight ≤ mid → mid + 4 * weight ≤ new
+    → start + (done + 1) * (5 * weight) ≤ new
+counts_next start now mid new done weight many one more =
+    let next : done + 1 ≡ suc done = omega arith in
+    omega (arith, many, one, more, ap (λ (n : ℕ). n * (5 * weight)) next ∙ suc-mul done (5 * weight))
+
+pub counts_all : (start now done most weight : ℕ) → start + done * (5 * weight) ≤ now → done ≡ most → start + most * (5 * weight) ≤ now
+counts_all start now done most weight many is = subst (λ (n : ℕ). start + n * (5 * weight) ≤ now) is many
 
 pub visited_failed : (old new most : ℕ) (result : Result ℕ SwapError) (e : SwapError) → result ≡ Err e → new ≤ old + 12 * most + 6
     → Visited old new most result

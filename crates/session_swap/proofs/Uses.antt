@@ -1,9 +1,9 @@
 -- Numbers in the order of their use: which one is taken out of the list, and which one comes to its end.
-use Rattle.std.proofs.Common.{◌≡◌, ◌+◌, ◌<◌, ◌≤◌, ◌⊎◌, inl, inr, ℕ, zero, suc, Bool, true, false, List, [], ◌∷◌, ◌++◌, length, get_or, drop, refl, ap, sym, ◌∙◌, arith, drop-cons}
+use Rattle.std.proofs.Common.{◌≡◌, ◌+◌, ◌<◌, ◌≤◌, ◌⊎◌, inl, inr, ℕ, zero, suc, Bool, true, false, List, [], ◌∷◌, ◌++◌, length, get_or, take, refl, ap, sym, ◌∙◌, arith}
 use Rattle.std.specs.Prelude.{◌==◌, if◌then◌else◌}
 use Rattle.std.specs.List.{count_by, remove}
 use Rattle.std.proofs.lemmas.Bool.{eq-eqb, eqb-true, ne_eqb}
-use Rattle.std.proofs.lemmas.List.{append-nil, append_assoc, drop_all}
+use Rattle.std.proofs.lemmas.List.{append-nil, append_assoc, take_all, take_more}
 use Rattle.std.proofs.lemmas.List.Edits.{length-remove}
 use Rattle.device_port.specs.Use.{first_unneeded, is_among, next_unneeded, used_after, without_first, without_one, without_unneeded}
 use Rattle.session_swap.specs.Records.{OrderView, order_evicted, order_filled, order_in, order_out}
@@ -114,12 +114,17 @@ one_more_gone needed order mid new count next number is so_far gone one out =
 
 -- ---- several are used
 
-pub filled_next : (numbers : List ℕ) (order : OrderView) (k : ℕ) → k < length numbers
-    → order_filled (drop k numbers) order ≡ order_filled (drop (k + 1) numbers) (order_in (get_or numbers k 0) order)
-filled_next numbers order k inside =
-    let one : suc k ≡ k + 1 = omega arith in
-    ap (λ (l : List ℕ). order_filled l order) (drop-cons numbers k 0 inside)
-    ∙ ap (λ (n : ℕ). order_filled (drop n numbers) (order_in (get_or numbers k 0) order)) one
+filled_last : (numbers : List ℕ) (order : OrderView) (number : ℕ) → order_filled (numbers ++ number ∷ []) order ≡ order_in number (order_filled numbers order)
+filled_last [] order number = refl
+filled_last (one ∷ numbers) order number = filled_last numbers (order_in one order) number
 
-pub filled_all : (numbers : List ℕ) (order : OrderView) (k : ℕ) → length numbers ≤ k → order_filled (drop k numbers) order ≡ order
-filled_all numbers order k past = ap (λ (l : List ℕ). order_filled l order) (drop_all k numbers past)
+-- one more is used
+pub filled_next : (numbers : List ℕ) (order : OrderView) (k : ℕ) → k < length numbers
+    → order_in (get_or numbers k 0) (order_filled (take k numbers) order) ≡ order_filled (take (k + 1) numbers) order
+filled_next numbers order k inside =
+    sym (ap (λ (l : List ℕ). order_filled l order) (take_more numbers k 0 inside) ∙ filled_last (take k numbers) order (get_or numbers k 0))
+
+-- and when all are used
+pub filled_all : (numbers : List ℕ) (order : OrderView) (k : ℕ) → length numbers ≤ k
+    → order_filled (take k numbers) order ≡ order_filled numbers order
+filled_all numbers order k past = ap (λ (l : List ℕ). order_filled l order) (take_all k numbers past)

@@ -1,7 +1,7 @@
 -- The sessions that a swapper holds for its clients, each under its number: loaded in the device, or saved in a context beside it
 -- (Part 1, "Session Context Management"). A client may have saved one itself: that isn't in use until it gives the context back that
 -- was handed out for it. What a device that tells its state has of them is said over that state.
-use Rattle.std.specs.Prelude.{◌≡◌, ◌<◌, ◌≤◌, ◌⊎◌, ℕ, ◌+◌, ◌-◌, ◌*◌, ◌^◌, ◌==◌, ◌&&◌, ◌||◌, min, not, bytes_eq, Bool, true, false, List, [], ◌∷◌, ◌++◌, length, map, get_or, set, replicate, slice_get, Option, Some, None, is_some, IfSome, IsSomeAnd, Result, Ok, Err, OnOk, take, drop, if◌then◌else◌}
+use Rattle.std.specs.Prelude.{◌≡◌, ◌<◌, ◌≤◌, ◌⊎◌, ℕ, ◌+◌, ◌-◌, ◌*◌, ◌^◌, ◌==◌, ◌&&◌, ◌||◌, min, not, bytes_eq, Bool, true, false, List, [], ◌∷◌, ◌++◌, length, map, get_or, set, replicate, slice_get, Option, Some, None, is_some, IfSome, IsSomeAnd, Result, Ok, Err, OnErr, OnOk, take, drop, if◌then◌else◌}
 use Rattle.std.specs.Int.{w64, from_be_bytes}
 use Rattle.std.specs.List.{AllByRecursion, count_by, list_any}
 use Rattle.tab_spec.specs.declared.TheConstants.{ACTIVE_SESSIONS, CONTEXT_LIMIT, HEADER_BYTES, LOADED_SESSIONS, RC_SUCCESS, ST_NO_SESSIONS}
@@ -25,8 +25,8 @@ pub record Saved : Type 0 where
   pub number : ℕ
   pub context : List ℕ
 
--- whose session it is, if anybody's, its handle, where it isn't loaded its last context, and where its client saved it the
--- context that was handed out for it. One without that is in use
+-- the client that has the session, if any; its handle; its last context, if it isn't loaded; and the context that was handed out,
+-- if its client saved it. Without that it is in use
 pub record Item : Type 0 where
   pub client : Option ℕ
   pub handle : ℕ
@@ -243,7 +243,8 @@ abbrev pub AreKept : ℕ → List (Option Item) → List (Option Item) → Type 
 AreKept number items new_items =
     (other : ℕ) → (other == number) ≡ false → is_saved_item (item_at items other) ≡ true → item_at new_items other ≡ item_at items other
 
--- each session whose context had a number less than RENEWAL_GAP below the one that comes next now is as it was
+-- `slots` is the state after the call: each session whose number was less than RENEWAL_GAP below the one that comes next then is as
+-- it was
 abbrev pub KeepsRecent : SlotState → List (Option Item) → List (Option Item) → Type 0
 KeepsRecent slots items new_items =
     (number last : ℕ) → number_of_item (item_at items number) ≡ Some last → slots.counter < last + RENEWAL_GAP
@@ -472,7 +473,7 @@ without_all listed (one ∷ needed) = without_all (without_one one listed) neede
 pub record MakesRoom {D : Type 0} (seen : D → Seen) (old new : D) (needed : List ℕ) (new_places : ℕ) (view new_view : SessionsView)
     (result : Result (Unit {0}) SwapError) : Type 0 where
   pub sent : sent_of (seen new) ≤ sent_of (seen old) + moves_of needed new_places view.items
-  -- what is needed and what is new has room to make, for a command each
+  -- no more sessions have to leave than are to be loaded and started
   pub few : evictions needed new_places view.items ≤ missing needed view.items + new_places
   pub full : OnOk result (loaded_items new_view.items + evictions needed new_places view.items
       ≡ loaded_items view.items + missing needed view.items)
@@ -485,6 +486,10 @@ pub record MakesRoom {D : Type 0} (seen : D → Seen) (old new : D) (needed : Li
   -- those that leave come after the saved ones
   pub saved : OnOk result (new_view.saved
       ≡ without_all (view.saved ++ first_unneeded (evictions needed new_places view.items) (numbers_of needed) view.order) (numbers_of needed))
+  -- after an error some of those that had to leave are gone, the first of them, and some of what is needed is used, the first of it
+  pub failed : OnErr result ((gone used : ℕ) × (gone ≤ evictions needed new_places view.items)
+      × (new_view.order ≡ all_used (without_first gone (numbers_of needed) view.order) (take used (numbers_of needed)))
+      × (new_view.saved ≡ without_all (view.saved ++ first_unneeded gone (numbers_of needed) view.order) (take used (numbers_of needed))))
   pub listed : Lists new_view.order new_view.items
 
 -- ---- clients
@@ -557,6 +562,8 @@ pub record Refreshes (state new_state : Option SlotState) (view new_view : Sessi
   pub counted : IfSome new_state (λ slots. slots.counter ≡ counter_of state + renewed + min renewed (full_flag state))
   -- over every device: the gap above the session that was saved first is small, or each session that was saved was renewed
   pub done : (gap_first new_view < RENEWAL_GAP) ⊎ (renewed ≡ saved_items view.items)
+  -- and the order of use stays, but for the least recently used session: where no place was free it was saved before the first renewal
+  pub order : new_view.order ≡ drop (min renewed (full_kept view.items)) view.order
 
 -- how many records of the lists a refresh visits at the most, where so many sessions were saved before
 abbrev pub Visited : ℕ → ℕ → ℕ → Result ℕ SwapError → Type 0

@@ -1,6 +1,6 @@
 -- What the three commands that move sessions do to the state of a device, where it tells it (Part 3, "TPM2_ContextSave",
 -- "TPM2_ContextLoad", "TPM2_FlushContext").
-use Rattle.std.specs.Prelude.{◌≡◌, ◌<◌, ◌≤◌, ℕ, ◌+◌, ◌-◌, min, ◌==◌, Bool, true, false, List, [], length, map, set, get_or, Option, Some, None, is_some, IfSome, IsSomeAnd, Result, Ok, OnOk, drop}
+use Rattle.std.specs.Prelude.{◌≡◌, ◌<◌, ◌≤◌, ℕ, ◌+◌, ◌-◌, min, ◌==◌, Bool, true, false, List, [], length, map, set, get_or, Option, Some, None, is_some, IfSome, IsSomeAnd, Result, Ok, OnErr, OnOk, drop, take}
 use Rattle.tab_spec.specs.declared.TheConstants.{CONTEXT_GAP, CONTEXT_LIMIT, HEADER_BYTES, LOADED_SESSIONS}
 use Rattle.tab_spec.specs.Frame.{is_frame}
 use Rattle.tab_spec.specs.Session.{Session}
@@ -244,6 +244,7 @@ pub record Evicts {D : Type 0} (seen : D → Seen) (old new : D) (records new_re
       → item_of (items_of new_records) handle ≡ item_of (items_of records) handle
   pub left : OnOk result (loaded_items (items_of new_records) ≡ min (loaded_items (items_of records)) most)
   pub order : OnOk result (after ≡ order_evicted (loaded_items (items_of records) - most) (numbers_of needed) before)
+  pub failed : OnErr result ((gone : ℕ) × (gone ≤ loaded_items (items_of records) - most) × (after ≡ order_evicted gone (numbers_of needed) before))
   pub sent : sent_of (seen new) ≤ sent_of (seen old) + (loaded_items (items_of records) - most)
   pub counter : counter_of (seen new).state ≤ counter_of (seen old).state + LOADED_SESSIONS
 
@@ -255,6 +256,7 @@ pub record Brings {D : Type 0} (seen : D → Seen) (old new : D) (records new_re
   pub sent : sent_of (seen new) ≤ sent_of (seen old) + 1
   pub loaded_is : OnOk result (loadedness new_records ≡ set (loadedness records) (number_of_session handle) true)
   pub order : OnOk result (after ≡ order_in (number_of_session handle) before)
+  pub failed : OnErr result (after ≡ before)
   pub paid : OnOk result (sent_of (seen new) + loaded_items (items_of records) ≤ sent_of (seen old) + loaded_items (items_of new_records))
   pub idle : is_loaded_item (item_of (items_of records) handle) ≡ true → (new ≡ old) × (new_records ≡ records) × (result ≡ Ok tt)
 
@@ -266,6 +268,7 @@ pub record Fills {D : Type 0} (seen : D → Seen) (old new : D) (records new_rec
   pub loaded_is : OnOk result (AreLoaded needed (items_of new_records))
   pub count : OnOk result (loaded_items (items_of new_records) ≡ loaded_items (items_of records) + missing needed (items_of records))
   pub order : OnOk result (after ≡ order_filled (numbers_of needed) before)
+  pub failed : OnErr result ((used : ℕ) × (after ≡ order_filled (take used (numbers_of needed)) before))
   pub sent : sent_of (seen new) ≤ sent_of (seen old) + missing needed (items_of records)
   pub idle : AreLoaded needed (items_of records) → (new ≡ old) × (new_records ≡ records) × (result ≡ Ok tt)
 

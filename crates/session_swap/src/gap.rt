@@ -1,4 +1,4 @@
-ghost use Rattle.std.specs.Prelude.{◌≡◌, ◌≤◌, ◌<◌, ◌+◌, [], IfOk, IfSome, Ok};
+ghost use Rattle.std.specs.Prelude.{◌≡◌, ◌≤◌, ◌<◌, ◌+◌, ◌*◌, [], IfOk, IfSome, Ok};
 ghost use Rattle.tab_spec.specs.declared.TheConstants.{CONTEXT_LIMIT};
 ghost use Rattle.session_swap.specs.declared.TheConstants.{RENEWAL_GAP};
 ghost use Rattle.session_swap.specs.Items.{HasGapRoom, KeepsRecent, Moved, RefreshCounts};
@@ -13,11 +13,11 @@ use linked_records::Steps;
 use std::sync::ledger::Ledger;
 use tab_bytes::Buffer;
 
-/// Renews the oldest session contexts, until the number of the next context is less than 247 above
-/// the oldest one: so three sessions can be saved for the next command before the device's gap of
-/// 255 is met. It returns how many were renewed: no more than were saved before. Where the gap is
-/// small enough already, nothing is sent. After an error the same sessions stand, and another try
-/// may follow.
+/// Renews contexts in the order in which they were saved, until the next number is less than 247
+/// above that of the first: so three sessions can be saved for the next command before the device's
+/// gap of 255 is met. It returns how many were renewed: no more than were saved before. Where the
+/// gap is small enough already, nothing is sent. After an error the same sessions stand, and
+/// another try may follow.
 pub fn refresh<D: Device>(
     sessions: &mut Sessions,
     device: &mut D,
@@ -40,8 +40,9 @@ pub fn refresh<D: Device>(
     refresh_by(sessions, device, scratch, &mut Uncounted)
 }
 
-/// `refresh`, which visits at most twelve records of the lists for each session that is renewed,
-/// and six more; where it fails, twelve for each session that was saved before, and six more.
+/// `refresh`, which visits five to twelve records of the lists for each session that is renewed,
+/// and at most six more; where it fails, at most twelve for each session that was saved before, and
+/// six more.
 pub fn refresh_counted<D: Device, L: Ledger>(
     sessions: &mut Sessions,
     device: &mut D,
@@ -60,6 +61,7 @@ pub fn refresh_counted<D: Device, L: Ledger>(
     ensures moved { Moved D.seen device.old device.new sessions.old sessions.new }
     ensures counts { RefreshCounts D.seen device.old device.new sessions.old.items
         × Visited steps.old steps.new (saved_items sessions.old.items) result }
+    ensures counted { IfOk result (λ renewed. steps.old + 5 * renewed ≤ steps.new) }
     ensures asks { AsksSome D.seen device.old device.new result }
 {
     refresh_by(sessions, device, scratch, steps)
@@ -83,6 +85,8 @@ fn refresh_by<D: Device, C: Visits>(
     ensures moved { Moved D.seen device.old device.new sessions.old sessions.new }
     ensures counts { RefreshCounts D.seen device.old device.new sessions.old.items
         × Visited (C.count steps.old) (C.count steps.new) (saved_items sessions.old.items) result }
+    ensures counted { IfOk result (λ renewed.
+        C.count steps.old + renewed * (5 * C.weight) ≤ C.count steps.new) }
     ensures asks { AsksSome D.seen device.old device.new result }
 {
     let most = u32::from(sessions.saved());

@@ -1,6 +1,6 @@
 //! In which order sessions were used and saved: the numbers in lists, so that none is walked.
-ghost use Rattle.std.specs.Prelude.{◌≡◌, ◌≤◌, ◌<◌, ◌+◌, ◌==◌, ℕ, false, length, slice_get, not};
-ghost use Rattle.std.specs.Prelude.{Some, IfOk, OnOk, OnErr, get_or, []};
+ghost use Rattle.std.specs.Prelude.{◌≡◌, ◌≤◌, ◌<◌, ◌+◌, ◌*◌, ◌==◌, ℕ, false, length, slice_get};
+ghost use Rattle.std.specs.Prelude.{Some, IfOk, MatchOption, OnOk, OnErr, get_or, [], not};
 ghost use Rattle.std.specs.List.{count_by};
 ghost use Rattle.device_port.specs.Use.{used_after, without_one};
 ghost use Rattle.linked_records.specs.View.{IsListed, first_index, moved};
@@ -23,27 +23,36 @@ const LOADED: u32 = 1;
 
 const SAVED: u32 = 2;
 
-/// What a call tells of the records of the lists that it visits.
+/// How the lists are reached: with a count of the records that are visited, or without.
 pub trait Visits {
     ghost count: { Self → ℕ };
+
+    /// How much each visit adds to the count.
+    ghost weight: { ℕ };
 
     /// The first of a list.
     fn first(&mut self, lists: &Records<()>, list: u32) -> Option<u32>
         requires { list < length lists.now.lists }
         ensures first { result ≡ first_index (get_or lists.now.lists list []) }
-        ensures steps { count self.new ≤ count self.old + 1 };
+        ensures steps { count self.new ≤ count self.old + 1 }
+        ensures rises { count self.old ≤ count self.new }
+        ensures counted { MatchOption result (count self.new ≡ count self.old)
+            (λ item. count self.old + weight ≤ count self.new) };
 
-    /// One goes to the back of a list.
+    /// A number goes to the back of a list.
     fn carry(&mut self, lists: &mut Records<()>, item: u32, list: u32)
         requires listed { IsListed lists.old.lists item }
         requires there { list < length lists.old.lists }
         ensures lists { (at : IsListed lists.old.lists item)
             → lists.new.lists ≡ moved lists.old.lists item at list }
-        ensures steps { count self.new ≤ count self.old + 5 };
+        ensures steps { count self.new ≤ count self.old + 5 }
+        ensures counted { count self.old + 2 * weight ≤ count self.new };
 }
 
 impl<L: Ledger> Visits for Steps<L> {
     ghost count = { λ s. s };
+
+    ghost weight = { 1 };
 
     fn first(&mut self, lists: &Records<()>, list: u32) -> Option<u32> {
         lists.front_counted(list, self)
@@ -60,6 +69,8 @@ pub struct Uncounted;
 
 impl Visits for Uncounted {
     ghost count = { λ _. 0 };
+
+    ghost weight = { 0 };
 
     fn first(&mut self, lists: &Records<()>, list: u32) -> Option<u32> {
         lists.front(list)
@@ -81,6 +92,7 @@ fn carry<C: Visits>(lists: &mut Records<()>, number: usize, list: u32, steps: &m
     ensures others { (other : ℕ) → (other == list) ≡ false
         → names_in lists.new.lists other ≡ without_one number (names_in lists.old.lists other) }
     ensures steps { C.count steps.new ≤ C.count steps.old + 5 }
+    ensures counted { C.count steps.old + 2 * C.weight ≤ C.count steps.new }
 {
     steps.carry(lists, number as u32, list);
 }
@@ -141,6 +153,7 @@ impl Order {
     pub fn first_loaded<C: Visits>(&self, steps: &mut C) -> Option<usize>
         ensures first { result ≡ slice_get self.now.loaded 0 }
         ensures steps { C.count steps.new ≤ C.count steps.old + 1 }
+        ensures rises { C.count steps.old ≤ C.count steps.new }
     {
         Some(steps.first(&self.lists, LOADED)? as usize)
     }
@@ -149,6 +162,9 @@ impl Order {
     pub fn first_saved<C: Visits>(&self, steps: &mut C) -> Option<usize>
         ensures first { result ≡ slice_get self.now.saved 0 }
         ensures steps { C.count steps.new ≤ C.count steps.old + 1 }
+        ensures rises { C.count steps.old ≤ C.count steps.new }
+        ensures counted { MatchOption result (C.count steps.new ≡ C.count steps.old)
+            (λ number. C.count steps.old + C.weight ≤ C.count steps.new) }
     {
         Some(steps.first(&self.lists, SAVED)? as usize)
     }
@@ -186,6 +202,7 @@ impl Order {
         requires { count_by (λ one. one == number) self.old.loaded ≡ 1 }
         ensures order { self.new ≡ order_out number self.old }
         ensures steps { C.count steps.new ≤ C.count steps.old + 5 }
+        ensures counted { C.count steps.old + 2 * C.weight ≤ C.count steps.new }
     {
         carry(&mut self.lists, number, SAVED, steps);
         self.loaded -= 1;
@@ -197,6 +214,7 @@ impl Order {
         requires { count_by (λ one. one == number) self.old.saved ≡ 1 }
         ensures order { self.new ≡ order_in number self.old }
         ensures steps { C.count steps.new ≤ C.count steps.old + 5 }
+        ensures counted { C.count steps.old + 2 * C.weight ≤ C.count steps.new }
     {
         carry(&mut self.lists, number, LOADED, steps);
         self.loaded += 1;
@@ -229,6 +247,8 @@ pub fn list_saved<C: Visits>(
     ensures ok { OnOk saved.now (order.new ≡ order_out number order.old) }
     ensures err { OnErr saved.now (order.new ≡ order.old) }
     ensures steps { C.count steps.new ≤ C.count steps.old + 5 }
+    ensures rises { C.count steps.old ≤ C.count steps.new }
+    ensures counted { OnOk saved.now (C.count steps.old + 2 * C.weight ≤ C.count steps.new) }
 {
     if saved.is_err() {
         return;

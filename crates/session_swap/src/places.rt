@@ -46,10 +46,10 @@ fn count_missing(records: &[Record], needed: &[u32]) -> usize
 }
 
 // Whether a session is one of those that are needed.
-fn is_needed(record: &Record, needed: &[u32]) -> bool
-    ensures { result ≡ is_among needed.now record.now.handle }
+fn is_needed(session: &Record, needed: &[u32]) -> bool
+    ensures { result ≡ is_among needed.now session.now.handle }
 {
-    needed.contains(&record.handle)
+    needed.contains(&session.handle)
 }
 
 // The loaded session that was used least recently, of those that aren't needed.

@@ -34,6 +34,7 @@ fn free_place<D: Device, C: Visits>(
         (items_of records.new) }
     ensures counts { FreeingCounts D.seen device.old device.new (items_of records.old)
         × (C.count steps.new ≤ C.count steps.old + 6 * full_kept (items_of records.old)) }
+    ensures rises { C.count steps.old ≤ C.count steps.new }
     ensures asks { AsksSome D.seen device.old device.new result }
 {
     if order.loaded() < LOADED_SESSIONS as usize {
@@ -69,6 +70,7 @@ pub fn renew_session<D: Device, C: Visits>(
     ensures kept { AreKept number (items_of records.old) (items_of records.new)
         × RenewalCounts D.seen device.old device.new (items_of records.old)
         × (C.count steps.new ≤ C.count steps.old + 10 + 6 * full_kept (items_of records.old)) }
+    ensures counted { OnOk result (C.count steps.old + 4 * C.weight ≤ C.count steps.new) }
     ensures asks { AsksSome D.seen device.old device.new result }
 {
     free_place(records, next, order, device, scratch, steps)?;

@@ -1,6 +1,6 @@
 ghost use Rattle.std.specs.Prelude.{◌≡◌, ◌≤◌, ◌<◌, ◌+◌, ◌==◌, ◌++◌, ◌∷◌, [], ℕ, List, map, set};
 ghost use Rattle.std.specs.Prelude.{true, false, is_some, ◌*◌, length, None, Some, IfOk};
-ghost use Rattle.std.specs.Prelude.{◌-◌, IfErr, MatchOption, OnOk, OnErr};
+ghost use Rattle.std.specs.Prelude.{◌-◌, IfErr, IfSome, MatchOption, OnOk, OnErr};
 ghost use Rattle.std.specs.List.{count_by, list_any};
 ghost use Rattle.tab_spec.specs.Shape.{number_of_session};
 ghost use Rattle.tab_spec.specs.declared.TheConstants.{ACTIVE_SESSIONS, CONTEXT_LIMIT};
@@ -13,7 +13,7 @@ ghost use Rattle.device_spec.specs.Answers.{word_at};
 ghost use Rattle.device_spec.specs.Slots.{SlotState};
 ghost use Rattle.device_spec.specs.ContextCommands.{context_save_command, flush_context_command};
 ghost use Rattle.session_swap.specs.Items.{AreKept, AreNeeded, Ends, HavePlaces, full_kept};
-ghost use Rattle.session_swap.specs.Items.{HasGapRoom, IsFirst, IsNarrow, IsSavedAgain};
+ghost use Rattle.session_swap.specs.Items.{HasGapRoom, IsFirst, IsNarrow, IsOldest, IsSavedAgain};
 ghost use Rattle.session_swap.specs.Items.{MakesNoContext};
 ghost use Rattle.session_swap.specs.Items.{MakesRoom, MayHandOut, Moved, Names, RenewalCounts};
 ghost use Rattle.session_swap.specs.Items.{Renews, Rise, SavesForClient, SavesTold, SessionsStand};
@@ -51,7 +51,7 @@ pub(crate) fn number_of(handle: u32) -> usize
     (handle % (1 << 24)) as usize
 }
 
-// A count, less one of them.
+// One less, where one of them is gone.
 fn less_one(count: u8, one: bool) -> u8
     requires { flag one ≤ count }
     ensures { result ≡ count - flag one }
@@ -100,8 +100,8 @@ impl Sessions {
         })
     }
 
-    /// Whose the session of a handle is, and whether it is in use: its client didn't save it;
-    /// nothing where no client has it.
+    /// The client that has the session of this handle, and whether it is in use, that is, not saved
+    /// by that client; nothing where no client has it.
     pub fn owner_of(&self, handle: u32) -> Option<(u32, bool)>
         ensures { result ≡ owner_in self.now.items handle }
     {
@@ -166,16 +166,22 @@ impl Sessions {
     /// The session that was saved first; nothing where none is saved. Over a device that tells its
     /// state its context has the least number.
     pub fn oldest(&self) -> Option<u32>
-        ensures { MatchOption result (self.now.saved ≡ []) (λ handle. IsFirst self.now handle) }
+        ensures oldest { MatchOption result
+            (self.now.saved ≡ []) (λ handle. IsFirst self.now handle) }
+        ensures least { Rise (numbers_along self.now.items self.now.saved)
+            → IfSome result (λ handle. IsOldest self.now.items handle) }
     {
         self.oldest_by(&mut Uncounted)
     }
 
-    /// `oldest`, which visits one record of the lists at most.
+    /// `oldest`, which visits one record of the lists: none where no session is saved.
     pub fn oldest_counted<L: Ledger>(&self, steps: &mut Steps<L>) -> Option<u32>
         ensures oldest { MatchOption result
             (self.now.saved ≡ []) (λ handle. IsFirst self.now handle) }
-        ensures steps { steps.new ≤ steps.old + 1 }
+        ensures least { Rise (numbers_along self.now.items self.now.saved)
+            → IfSome result (λ handle. IsOldest self.now.items handle) }
+        ensures steps { MatchOption result
+            (steps.new ≡ steps.old) (λ handle. steps.new ≡ steps.old + 1) }
     {
         self.oldest_by(steps)
     }
@@ -183,7 +189,12 @@ impl Sessions {
     fn oldest_by<C: Visits>(&self, steps: &mut C) -> Option<u32>
         ensures oldest { MatchOption result
             (self.now.saved ≡ []) (λ handle. IsFirst self.now handle) }
+        ensures least { Rise (numbers_along self.now.items self.now.saved)
+            → IfSome result (λ handle. IsOldest self.now.items handle) }
         ensures steps { C.count steps.new ≤ C.count steps.old + 1 }
+        ensures rises { C.count steps.old ≤ C.count steps.new }
+        ensures counted { MatchOption result (C.count steps.new ≡ C.count steps.old)
+            (λ handle. C.count steps.old + C.weight ≤ C.count steps.new) }
     {
         let number = self.order.first_saved(steps)?;
         Some(self.records[number].handle)
@@ -208,6 +219,9 @@ impl Sessions {
             (λ handle. IsFirst self.now handle × (RENEWAL_GAP ≤ gap_kept self.now)) }
         ensures sound { IsSoundView self.now }
         ensures steps { C.count steps.new ≤ C.count steps.old + 1 }
+        ensures rises { C.count steps.old ≤ C.count steps.new }
+        ensures counted { IfSome result (λ handle.
+            C.count steps.old + C.weight ≤ C.count steps.new) }
     {
         // So what holds of the fields is known here.
         let _ = &self.records;
@@ -430,6 +444,7 @@ impl Sessions {
     }
 
     /// `renew`, which visits ten records of the lists at most, and six more where no place is free.
+    /// Where it succeeds, it visits four at least.
     pub fn renew_counted<D: Device, L: Ledger>(
         &mut self,
         device: &mut D,
@@ -447,6 +462,7 @@ impl Sessions {
         ensures moved { Moved D.seen device.old device.new self.old self.new }
         ensures counts { RenewalCounts D.seen device.old device.new self.old.items
             × (steps.new ≤ steps.old + 10 + 6 * full_kept self.old.items) }
+        ensures counted { OnOk result (steps.old + 4 ≤ steps.new) }
         ensures asks { AsksSome D.seen device.old device.new result }
     {
         self.renew_by(device, handle, scratch, steps)
@@ -469,6 +485,7 @@ impl Sessions {
         ensures moved { Moved D.seen device.old device.new self.old self.new }
         ensures counts { RenewalCounts D.seen device.old device.new self.old.items
             × (C.count steps.new ≤ C.count steps.old + 10 + 6 * full_kept self.old.items) }
+        ensures counted { OnOk result (C.count steps.old + 4 * C.weight ≤ C.count steps.new) }
         ensures asks { AsksSome D.seen device.old device.new result }
     {
         renew_session(

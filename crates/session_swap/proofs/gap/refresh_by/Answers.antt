@@ -1,10 +1,10 @@
-use Rattle.std.proofs.Common.{◌∙◌, inl, inr, refl, ap, arith, rules}
-use Rattle.std.specs.Prelude.{Ok}
+use Rattle.std.proofs.Common.{◌≡◌, ◌∙◌, ℕ, drop, inl, inr, refl, ap, arith, rules}
+use Rattle.std.specs.Prelude.{Ok, min}
 use Rattle.std.proofs.lemmas.Result.{err_from_is_err_and}
 use Rattle.device_port.specs.Device.{sent_of}
 use Rattle.device_port.proofs.Sending.{asks_none, asks_then, some_failed}
 use Rattle.session_swap.specs.Items.{KeepsRecent, counter_of, full_kept, gap_kept, saved_items}
-use Rattle.session_swap.proofs.Refreshed.{begins, counted_first, counted_next, counter_next, few_all, few_saved, goes_on, kept_most, kept_none, narrow_all, narrow_kept, sent_next, stays_recent, steps_last, steps_next, visited_failed}
+use Rattle.session_swap.proofs.Refreshed.{begins, counted_first, counted_next, counter_next, counts_all, counts_next, few_all, few_saved, goes_on, kept_most, kept_none, narrow_all, narrow_kept, order_next, order_start, sent_next, stays_recent, steps_last, steps_next, visited_failed}
 use Rattle.session_swap.proofs.Renewed.{one_left, told_all}
 use Rattle.session_swap.proofs.gap.refresh_by.Goals as goal
 
@@ -28,6 +28,8 @@ loop-renewed-init g c =
       places = λ one. absurd (omega arith);
       sent = omega arith;
       steps = omega arith;
+      counted = omega arith;
+      order = order_start c.args.sessions.now;
       few = λ one. absurd (omega arith);
       asks = asks_none g.D.Device.seen c.args.device.now;
     }
@@ -41,6 +43,7 @@ returns-in_default-clause-ok g c =
       most = omega (arith, c.from-most.ensures, c.saved.ensures);
       counted = held.exact;
       done = inl small;
+      order = held.order;
     }
 
 pub returns-in_default-clause-counts : goal.returns-in_default-clause-counts
@@ -109,6 +112,10 @@ loop-renewed-preserved g c =
       steps = steps_next (g.C.Visits.count c.args.steps.now) (g.C.Visits.count c.loop-renewed.steps) (g.C.Visits.count c.due.new.steps)
           (g.C.Visits.count c.renew_by.new.steps) c.loop-renewed.renewed (full_kept sessions.items) held.steps c.in-Some.ensures.steps next.counts.1
           (kept_most sessions.items) (λ one. kept_none sessions sound (held.places one));
+      counted = counts_next (g.C.Visits.count c.args.steps.now) (g.C.Visits.count c.loop-renewed.steps) (g.C.Visits.count c.due.new.steps)
+          (g.C.Visits.count c.renew_by.new.steps) c.loop-renewed.renewed g.C.Visits.weight held.counted c.in-Some.ensures.counted next.counted;
+      order = order_next c.args.sessions.now sessions new_sessions c.loop-renewed.renewed held.order (λ none. (held.first none).1)
+          (λ one. kept_none sessions sound (held.places one)) next.ok.1.order;
       few = λ one. few_saved c.args.sessions.now.items sessions sound moved.sessions.holders;
       asks = asks_then seen c.args.device.now c.loop-renewed.device c.renew_by.new.device tt (Ok tt) held.asks next.asks;
     }
@@ -122,6 +129,9 @@ returns-clause-ok g c =
       most = omega (arith, c.from-most.ensures, c.saved.ensures);
       counted = search rules;
       done = inr (c.from-most.ensures ∙ c.saved.ensures);
+      order =
+          let all : c.loop-renewed.renewed ≡ c.from-most.result = omega (arith, c.loop-renewed.auto.renewed-end, c.loop-renewed-test.false) in
+          held.order ∙ ap (λ (n : ℕ). drop (min n (full_kept c.args.sessions.now.items)) c.args.sessions.now.order) all;
     }
 
 pub returns-clause-counts : goal.returns-clause-counts
@@ -200,3 +210,11 @@ returns-in_err-renew_by-clause-asks g c =
     asks_then seen c.args.device.now c.loop-renewed.device c.renew_by.new.device tt c.from_residual.result c.loop-renewed.invariant.asks
     (some_failed seen c.loop-renewed.device c.renew_by.new.device _ c.from_residual.result
     (err_from_is_err_and c.from_residual.result c.from_residual.ensures.1) c.in_err-renew_by.ensures.asks)
+
+pub returns-in_default-clause-counted : goal.returns-in_default-clause-counted
+returns-in_default-clause-counted g c = omega (arith, c.loop-renewed.invariant.counted, c.due.ensures.rises)
+
+pub returns-clause-counted : goal.returns-clause-counted
+returns-clause-counted g c =
+    counts_all (g.C.Visits.count c.args.steps.now) (g.C.Visits.count c.loop-renewed.steps) c.loop-renewed.renewed c.from-most.result g.C.Visits.weight
+    c.loop-renewed.invariant.counted (omega (arith, c.loop-renewed.auto.renewed-end, c.loop-renewed-test.false))

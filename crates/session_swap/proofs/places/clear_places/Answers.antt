@@ -1,4 +1,4 @@
-use Rattle.std.proofs.Common.{◌≡◌, ◌∙◌, ◌-◌, ℕ, List, true, [], length, ap, sym, refl, arith}
+use Rattle.std.proofs.Common.{◌≡◌, ◌≤◌, ◌∙◌, ◌-◌, ℕ, List, true, [], length, ap, sym, refl, arith}
 use Rattle.std.specs.Prelude.{Err, Ok, Option}
 use Rattle.std.proofs.lemmas.Result.{err_from_is_err_and}
 use Rattle.device_spec.specs.ContextCommands.{context_save_command}
@@ -7,7 +7,7 @@ use Rattle.session_swap.specs.Records.{OrderView, items_of, order_evicted}
 use Rattle.session_swap.proofs.Among.{all_named, named_again}
 use Rattle.device_port.proofs.Sending.{asks_none, asks_then, some_failed}
 use Rattle.session_swap.proofs.Asking.{asks_any, sent_any}
-use Rattle.session_swap.proofs.Listing.{listed_loaded, listed_once, none_if_failed}
+use Rattle.session_swap.proofs.Listing.{listed_loaded, listed_once, none_if_failed, on_err_all}
 use Rattle.session_swap.proofs.Readying.{ready_out, ready_still}
 use Rattle.session_swap.proofs.Threads.{length_without}
 use Rattle.session_swap.proofs.Making.{can_save, needed_kept, one_fewer, saved_left, swaps_start, swaps_then}
@@ -160,6 +160,7 @@ returns-clause-evicts g c =
           let mid = items_of c.loop-records.records in
           let gone : loaded_items items - loaded_items mid ≡ loaded_items items - c.args.most = omega (arith, few, many, was, held.least, held.less) in
           held.order ∙ ap (λ (n : ℕ). order_evicted n (numbers_of c.args.needed.now) c.args.order.now) gone;
+      failed = tt;
       sent = omega (arith, few, many, was, held.sent, held.least);
       counter = omega (arith, held.left);
     }
@@ -190,6 +191,11 @@ returns-in_err-put_out-clause-evicts g c =
       stay = λ handle names any. ap (λ (l : List (Option Item)). item_of l handle) stays.items_are ∙ held.stay handle names any;
       left = none_if_failed _ c.from_residual.result _ failed.1;
       order = none_if_failed _ c.from_residual.result _ failed.1;
+      failed =
+          let items = items_of c.args.records.now in
+          let fewer : loaded_items items - loaded_items mid ≤ loaded_items items - c.args.most =
+          omega (arith, full, c.loaded.ensures, held.ready.listed.lists.count) in
+          on_err_all _ c.from_residual.result (loaded_items items - loaded_items mid, fewer, held.order);
       sent = omega (arith, full, c.loaded.ensures, held.ready.listed.lists.count, held.sent, held.less, sent);
       counter = omega (arith, held.left, ap counter_of stays.state_is);
     }

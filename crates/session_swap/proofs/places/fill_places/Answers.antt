@@ -1,4 +1,4 @@
-use Rattle.std.proofs.Common.{◌≡◌, ◌<◌, ◌≤◌, ◌∙◌, ◌+◌, ℕ, List, length, true, false, refl, sym, ap, arith, get_or, drop}
+use Rattle.std.proofs.Common.{◌≡◌, ◌<◌, ◌≤◌, ◌∙◌, ℕ, List, length, true, false, refl, sym, ap, arith, get_or}
 use borrow.Author.Count.{below_more}
 use Rattle.std.specs.Prelude.{Ok}
 use Rattle.std.proofs.lemmas.Bool.{false_from_ne_true}
@@ -7,11 +7,11 @@ use Rattle.std.proofs.lemmas.Result.{err_from_is_err_and}
 use Rattle.tab_spec.specs.Shape.{number_of_session}
 use Rattle.session_swap.specs.declared.record.Record.{Record}
 use Rattle.session_swap.specs.Items.{is_loaded_item, item_at, item_of, numbers_of}
-use Rattle.session_swap.specs.Records.{items_of, order_filled, order_in}
+use Rattle.session_swap.specs.Records.{items_of, order_in}
 use Rattle.session_swap.specs.Moves.{loadedness}
 use Rattle.session_swap.proofs.Among.{all_loaded, named_again, named_is, needed_named}
 use Rattle.device_port.proofs.Sending.{asks_none, asks_then, some_failed}
-use Rattle.session_swap.proofs.Listing.{none_if_failed}
+use Rattle.session_swap.proofs.Listing.{none_if_failed, on_err_all}
 use Rattle.session_swap.proofs.Making.{named_record, stay_brought, stay_named, stay_then, swaps_start, swaps_then}
 use Rattle.session_swap.proofs.Missing.{brought_loaded, brought_next, loaded_needed, missing_numbers, none_past, number_at, some_missing}
 use Rattle.session_swap.proofs.Uses.{filled_all, filled_next}
@@ -93,8 +93,7 @@ loop-handle-preserved g c =
           let within : index < length numbers = omega (arith, inside, length-map needed number_of_session) in
           let used : c.make_loaded.new.order ≡ order_in (get_or numbers index 0) c.loop-handle.order =
           brings.order ∙ ap (λ (n : ℕ). order_in n c.loop-handle.order) (sym (number_at needed index inside)) in
-          ap (order_filled (drop (index + 1) numbers)) used ∙ sym (filled_next numbers c.loop-handle.order index within)
-          ∙ held.order;
+          used ∙ ap (order_in (get_or numbers index 0)) held.order ∙ filled_next numbers c.args.order.now index within;
       asks = asks_then g.D.Device.seen c.args.device.now c.loop-handle.device c.make_loaded.new.device tt (Ok tt) held.asks next.asks;
     }
 
@@ -110,7 +109,8 @@ returns-clause-fills g c =
       idle = λ all. ((held.idle all).0, (held.idle all).1, refl);
       order =
           let past : length (numbers_of c.args.needed.now) ≤ c.loop-handle.handle-index = omega (arith, length-map c.args.needed.now number_of_session) in
-          sym (filled_all (numbers_of c.args.needed.now) c.loop-handle.order c.loop-handle.handle-index past) ∙ held.order;
+          held.order ∙ filled_all (numbers_of c.args.needed.now) c.args.order.now c.loop-handle.handle-index past;
+      failed = tt;
     }
 
 pub returns-in_err-make_loaded-clause-fills : goal.returns-in_err-make_loaded-clause-fills
@@ -136,6 +136,7 @@ returns-in_err-make_loaded-clause-fills g c =
       loaded_is = none_if_failed _ c.from_residual.result _ failed.1;
       count = none_if_failed _ c.from_residual.result _ failed.1;
       order = none_if_failed _ c.from_residual.result _ failed.1;
+      failed = on_err_all _ c.from_residual.result (index, brings.failed ∙ held.order);
       sent = omega (arith, held.left, held.paid, brings.sent, some);
       idle = λ all.
           let so_far = held.idle all in

@@ -1,4 +1,4 @@
-use Rattle.std.proofs.Common.{◌≡◌, ◌+◌, ◌≤◌, ℕ, ◌<◌, true, get_or, drop}
+use Rattle.std.proofs.Common.{◌≡◌, ◌+◌, ◌≤◌, ℕ, ◌<◌, true, get_or, drop, take}
 use Rattle.std.specs.Prelude.{Ok}
 use Rattle.device_port.specs.Device.{sent_of}
 use Rattle.device_port.specs.Own.{AsksSome}
@@ -23,6 +23,6 @@ invariant-loop-handle g l =
           ≡ missing l.needed items + loaded_items items;
       paid : sent_of (D.seen l.device) + loaded_items items ≤ sent_of (D.seen l.fn.device) + loaded_items new_items;
       idle : AreLoaded l.needed items → (l.device ≡ l.fn.device) × (l.records ≡ l.fn.records);
-      order : order_filled (drop l.handle-index (numbers_of l.needed)) l.order ≡ order_filled (numbers_of l.needed) l.fn.order;
+      order : l.order ≡ order_filled (take l.handle-index (numbers_of l.needed)) l.fn.order;
       asks : AsksSome {A = Unit {0}} D.seen l.fn.device l.device (Ok tt);
     }

@@ -123,7 +123,7 @@ returns-in_err-bring_in-clause-brings g c =
     let out : is_loaded_item (item_at (items_of records) number) ≡ false =
     ap is_loaded_item (item_there records number c.index-records-number.result fits) ∙ sym c.is_loaded.ensures ∙ c.if-is_loaded.false in
     let failed = err_from_is_err_and c.from_residual.result c.from_residual.ensures.1 in
-    brings_none seen c.args.device.now c.bring_in.new.device records c.bring_in.new.records c.args.order.now c.args.order.now number
+    brings_none seen c.args.device.now c.bring_in.new.device records c.bring_in.new.records c.args.order.now number
     c.args.handle c.from_residual.result _ failed.1
     c.number_of-number.ensures c.requires.named out c.in_err-bring_in.ensures.err.items_are
     (sent_loaded seen c.args.device.now c.bring_in.new.device (Err _) (item_at (items_of records) number) c.in_err-bring_in.ensures.asks)
