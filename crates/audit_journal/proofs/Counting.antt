@@ -47,15 +47,16 @@ pub record AreSmall (counts : Counts) : Type 0 where
   pub faults : counts.faults < 2 ^ 60
 
 -- no limit is above that of a journal that keeps none
-pub limit_most : (limit : ℕ) (region : Option RegionView) (is : RegionView → Type 0) → MatchOption region (limit ≡ SILENT_LIMIT) (λ r. (JOURNAL_LEAST ≤ limit) × (limit ≤ JOURNAL_MOST) × is r) → limit ≤ 2 ^ 58
-limit_most limit None is h = omega (arith, h)
-limit_most limit (Some r) is h = omega (arith, h.1)
+limit_most : (limit : ℕ) (region : Option RegionView) (is also : RegionView → Type 0)
+    → MatchOption region (limit ≡ SILENT_LIMIT) (λ r. (JOURNAL_LEAST ≤ limit) × (limit ≤ JOURNAL_MOST) × is r × also r) → limit ≤ 2 ^ 58
+limit_most limit None is also h = omega (arith, h)
+limit_most limit (Some r) is also h = omega (arith, h.1)
 
 pub are_small : {entries : List Entry} {counts : Counts} {limit : ℕ} {region : Option RegionView} → IsSound entries counts limit region → AreSmall counts
 are_small {entries = history} {counts = counts} {limit = limit} {region = region} sound =
     let is = sound.counted in
     let within = sound.within in
-    let most = limit_most limit region (λ r. r.entries ≡ history) sound.region_is in
+    let most = limit_most limit region (λ r. r.entries ≡ history) (λ r. limit ≤ r.most) sound.region_is in
     let entries : counts.entries ≡ length history = ap (λ (c : Counts). c.entries) is in
     let commands : counts.commands ≡ commands_in history = ap (λ (c : Counts). c.commands) is in
     let canceled : counts.canceled ≡ canceled_in history = ap (λ (c : Counts). c.canceled) is in

@@ -1,10 +1,12 @@
 -- What a push leaves of a journal's region.
-use Rattle.std.proofs.Common.{◌≡◌, ◌≤◌, ◌+◌, ◌-◌, ℕ, List, [], ◌∷◌, ◌++◌, length, drop, map, refl, arith, length-append, length-drop}
+use Rattle.std.proofs.Common.{◌≡◌, ◌∙◌, ◌≤◌, ◌+◌, ◌-◌, ℕ, List, [], ◌∷◌, ◌++◌, length, drop, map, ap, refl, arith, length-append, length-drop}
 use Rattle.std.proofs.lemmas.List.{drop-append-le, take-append-le, append_assoc, map-append, drop_at, take_at, take_all}
 use Rattle.std.proofs.lemmas.List.Elements.{All-head, All-tail, All-push, All-weaker}
+use Rattle.std.proofs.lemmas.List.Sums.{sum_by_push}
 use Rattle.std.specs.List.{All, between}
+use Rattle.history_spec.specs.Entry.{Entry, kept, kept_by}
 use Rattle.audit_journal.specs.declared.record.Record.{Record}
-use Rattle.audit_journal.specs.Region.{entry_of, LiesIn}
+use Rattle.audit_journal.specs.Region.{HasKept, LiesIn, entry_of}
 
 -- bytes that come behind leave a part as it was
 between-append : (bytes more : List ℕ) (from to : ℕ) → from ≤ to → to ≤ length bytes → between from to (bytes ++ more) ≡ between from to bytes
@@ -45,23 +47,31 @@ reply_is bytes command reply r last =
     let all : length reply ≤ r.end - r.middle = omega (arith, last.middle, last.end) in
     rw (drop_at (bytes ++ command) reply r.middle front) (take_all (r.end - r.middle) reply all)
 
+-- the entry that a record is of whose bytes came last
+abbrev pub last_entry : Record → List ℕ → List ℕ → Entry
+last_entry r command reply = record { client = r.client; number = r.number; kind = r.kind; pick = r.pick; faults = r.faults; command = command; reply = reply }
+
 -- the entries after a push
-pub map-entry_of-push : (bytes command reply : List ℕ) (records : List Record) (r : Record) → All (LiesIn (length bytes)) records → IsLast bytes command reply r
-    → map (entry_of ((bytes ++ command) ++ reply)) (records ++ r ∷ [])
-    ≡ map (entry_of bytes) records ++ record { client = r.client; number = r.number; kind = r.kind; pick = r.pick; faults = r.faults; command = command; reply = reply } ∷ []
-map-entry_of-push bytes command reply records r each last =
+pub map-entry_of-push : (bytes command reply : List ℕ) (records : List Record) (r : Record) → HasKept bytes records → IsLast bytes command reply r
+    → map (entry_of ((bytes ++ command) ++ reply)) (records ++ r ∷ []) ≡ map (entry_of bytes) records ++ last_entry r command reply ∷ []
+map-entry_of-push bytes command reply records r has last =
     let before : map (entry_of ((bytes ++ command) ++ reply)) records ≡ map (entry_of bytes) records =
-    rw (append_assoc bytes command reply) (map-entry_of-append bytes (command ++ reply) records each) in
+    rw (append_assoc bytes command reply) (map-entry_of-append bytes (command ++ reply) records has.each) in
     let c = command_is bytes command reply r last in
     let p = reply_is bytes command reply r last in
     rw (map-append (entry_of ((bytes ++ command) ++ reply)) records (r ∷ []), before) (rw (c, p) refl)
 
--- each entry's bytes lie in the region after a push
-pub lies_push : (bytes command reply : List ℕ) (records : List Record) (r : Record) → All (LiesIn (length bytes)) records → IsLast bytes command reply r
-    → All (LiesIn (length ((bytes ++ command) ++ reply))) (records ++ r ∷ [])
-lies_push bytes command reply records r each last =
-    let size : length ((bytes ++ command) ++ reply) ≡ length bytes + length command + length reply = omega (arith, length-append (bytes ++ command) reply, length-append bytes command) in
-    let wider : (x : Record) → LiesIn (length bytes) x → LiesIn (length ((bytes ++ command) ++ reply)) x = λ x lies. record { command = lies.command; reply = lies.reply; inside = omega (arith, lies.inside) } in
-    All-push (LiesIn (length ((bytes ++ command) ++ reply))) records r
-    (All-weaker (LiesIn (length bytes)) (LiesIn (length ((bytes ++ command) ++ reply))) wider records each)
-    (record { command = omega (arith, last.start, last.middle); reply = omega (arith, last.middle, last.end); inside = omega (arith, last.end) })
+-- what is kept after a push
+pub kept_push : (bytes command reply : List ℕ) (records : List Record) (r : Record) → HasKept bytes records → IsLast bytes command reply r
+    → HasKept ((bytes ++ command) ++ reply) (records ++ r ∷ [])
+kept_push bytes command reply records r has last =
+    let all = (bytes ++ command) ++ reply in
+    let size : length all ≡ length bytes + length command + length reply = omega (arith, length-append (bytes ++ command) reply, length-append bytes command) in
+    let wider : (x : Record) → LiesIn (length bytes) x → LiesIn (length all) x = λ x lies. record { command = lies.command; reply = lies.reply; inside = omega (arith, lies.inside) } in
+    let last_lies : LiesIn (length all) r = record { command = omega (arith, last.start, last.middle); reply = omega (arith, last.middle, last.end); inside = omega (arith, last.end) } in
+    let more : kept (map (entry_of all) (records ++ r ∷ [])) ≡ kept (map (entry_of bytes) records) + kept_by (last_entry r command reply) =
+    ap kept (map-entry_of-push bytes command reply records r has last) ∙ sum_by_push kept_by (map (entry_of bytes) records) (last_entry r command reply) in
+    record {
+      each = All-push (LiesIn (length all)) records r (All-weaker (LiesIn (length bytes)) (LiesIn (length all)) wider records has.each) last_lies;
+      kept_is = omega (arith, more, has.kept_is, size, length-append records (r ∷ []));
+    }

@@ -1,31 +1,14 @@
 -- What is seen of a journal.
-use Rattle.std.specs.Prelude.{ℕ, ◌+◌, ◌*◌, Bool, nat_le, List, Option}
-use Rattle.std.specs.Option.{option_map_or}
+use Rattle.std.specs.Prelude.{ℕ, ◌+◌, ◌*◌, Bool, nat_le, List}
 use Rattle.tab_spec.specs.declared.TheConstants.{MOST_BYTES}
 use Rattle.history_spec.specs.Entry as spec
 use Rattle.history_spec.specs.Entry.{kept}
 use Rattle.audit_journal.specs.declared.journal.Entry.{Entry}
-use Rattle.audit_journal.specs.Region.{RegionView}
 
 pub record JournalView : Type 0 where
   pub entries : List spec.Entry
-  -- how many entries, and how many bytes of them, find room without memory being taken
-  pub room : ℕ
-  pub byte_room : ℕ
   -- how many bytes its entries may keep
   pub limit : ℕ
-
--- the room of one that keeps nothing
-abbrev pub silent_room : ℕ
-silent_room = 18446744073709551615
-
-abbrev pub seen_journal : List spec.Entry → ℕ → Option RegionView → JournalView
-seen_journal entries limit region = record {
-  entries = entries;
-  room = option_map_or (λ r. r.room) region silent_room;
-  byte_room = option_map_or (λ r. r.byte_room) region silent_room;
-  limit = limit;
-}
 
 -- an entry without where it lies in memory
 abbrev pub seen_entry : Entry → spec.Entry

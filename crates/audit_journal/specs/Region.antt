@@ -1,6 +1,6 @@
 -- How a journal keeps its entries: the bytes of all of them one after another, and where each one's lie.
-use Rattle.std.specs.Prelude.{◌≡◌, ◌≤◌, ℕ, List, Option, MatchOption}
-use Rattle.std.specs.List.{AllByRecursion, between}
+use Rattle.std.specs.Prelude.{◌≡◌, ◌≤◌, ◌+◌, ◌*◌, ℕ, List, length, map, Option, MatchOption}
+use Rattle.std.specs.List.{All, AllByRecursion, between}
 use Rattle.tab_spec.specs.Values.{AreBytes}
 use Rattle.history_spec.specs.declared.TheConstants.{JOURNAL_LEAST, JOURNAL_MOST}
 use Rattle.history_spec.specs.Entry.{Entry, kept}
@@ -27,16 +27,21 @@ pub record LiesIn (size : ℕ) (r : Record) : Type 0 where
   pub reply : r.middle ≤ r.end
   pub inside : r.end ≤ size
 
+-- each entry's bytes lie in the region, and the entries keep all of its bytes, and 64 each
+pub record HasKept (bytes : List ℕ) (records : List Record) : Type 0 where
+  pub each : All (LiesIn (length bytes)) records
+  pub kept_is : kept (map (entry_of bytes) records) ≡ 64 * length records + length bytes
+
 -- what is seen of a region
 pub record RegionView : Type 0 where
   pub entries : List Entry
-  -- how many entries, and how many bytes of them, find room without memory being taken
-  pub room : ℕ
-  pub byte_room : ℕ
+  -- how many bytes its entries may keep in the memory that it has
+  pub most : ℕ
 
 -- the entries are counted, and what they keep is within the limit; where they are kept it is they
 pub record IsSound (entries : List Entry) (counts : Counts) (limit : ℕ) (region : Option RegionView) : Type 0 where
   pub counted : counts ≡ counts_of entries
   pub within : kept entries ≤ limit
   pub are : AllByRecursion (λ e. AreBytes e.reply) entries
-  pub region_is : MatchOption region (limit ≡ SILENT_LIMIT) (λ r. (JOURNAL_LEAST ≤ limit) × (limit ≤ JOURNAL_MOST) × (r.entries ≡ entries))
+  pub region_is : MatchOption region (limit ≡ SILENT_LIMIT)
+      (λ r. (JOURNAL_LEAST ≤ limit) × (limit ≤ JOURNAL_MOST) × (r.entries ≡ entries) × (limit ≤ r.most))

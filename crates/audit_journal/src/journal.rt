@@ -1,5 +1,5 @@
-ghost use Rattle.std.specs.Prelude.{◌≡◌, ◌+◌, ◌≤◌, ◌<◌, ◌∷◌, ◌++◌, ◌⊎◌, [], length, slice_get};
-ghost use Rattle.std.specs.Prelude.{OnOk, OnErr, IsNone};
+ghost use Rattle.std.specs.Prelude.{◌≡◌, ◌+◌, ◌≤◌, ◌<◌, ◌∷◌, ◌++◌, [], length, slice_get};
+ghost use Rattle.std.specs.Prelude.{IfOk, IsNone, IsOk, OnErr, OnOk};
 ghost use Rattle.std.specs.Option.{option_map};
 ghost use Rattle.history_spec.specs.Entry.{IsLimit, kept, kept_by};
 ghost use Rattle.std.specs.List.{AllByRecursion};
@@ -61,9 +61,8 @@ impl<'a> Grows<Entry<'a>> for Entries {
 }
 
 /// What happened to a broker's clients, one entry after another. It is seen as the list of its
-/// entries, with the room that it has without taking memory, and the limit of the bytes that its
-/// entries keep. It keeps them, or only counts them: then the limit is 2^58, which none that keeps
-/// them has.
+/// entries, and the limit of the bytes that its entries keep. It keeps them, in memory taken when
+/// it begins, or only counts them: then the limit is 2^58, which none that keeps them has.
 #[derive(Drop)]
 pub struct Journal {
     entries: Snapshot<Entries>,
@@ -73,13 +72,13 @@ pub struct Journal {
 }
 
 impl Model for Journal {
-    ghost use Rattle.audit_journal.specs.Journal.{JournalView, seen_journal};
+    ghost use Rattle.audit_journal.specs.Journal.{JournalView};
 
     ghost Value = { JournalView };
 
     ghost use Rattle.audit_journal.specs.Region.{IsSound};
 
-    ghost view = { λ j. seen_journal j.entries.value j.limit j.region };
+    ghost view = { λ j. record { entries = j.entries.value; limit = j.limit } };
 
     ghost invariant = { λ j. IsSound j.entries.value j.counts j.limit j.region };
 }
@@ -92,12 +91,14 @@ fn slice_has_bytes(bytes: &[u8])
 }
 
 impl Journal {
-    /// An empty journal whose entries keep at most so many bytes: 8,192 to 1,073,741,824. With the
-    /// limit 2^58 it keeps no entry, and only counts them. It takes no memory.
-    pub fn new(alloc: Global, limit: u64) -> Journal
+    /// An empty journal whose entries keep at most so many bytes: 8,192 to 1,073,741,824. It takes
+    /// the memory for all of them here, and no more later; what isn't used yet is untouched. With
+    /// the limit 2^58 it keeps no entry, only counts them, and takes no memory.
+    pub fn new(alloc: Global, limit: u64) -> Result<Journal, AllocError>
         requires { IsLimit limit }
-        ensures empty { result.entries ≡ [] }
-        ensures limit { result.limit ≡ limit }
+        ensures empty { IfOk result (λ j. j.entries ≡ []) }
+        ensures limit { IfOk result (λ j. j.limit ≡ limit) }
+        ensures silent { limit ≡ SILENT_LIMIT → IsOk result }
     {
         let counts = Counts {
             entries: 0,
@@ -109,14 +110,14 @@ impl Journal {
         let region = if limit == SILENT_LIMIT {
             None
         } else {
-            Some(Region::new(alloc))
+            Some(Region::new(alloc, limit as u32)?)
         };
-        Journal {
+        Ok(Journal {
             entries: Snapshot::of(&Entries { of: PhantomData }),
             counts,
             limit,
             region,
-        }
+        })
     }
 
     /// How many entries it has.
@@ -179,33 +180,11 @@ impl Journal {
         entries <= self.limit - self.counts.kept
     }
 
-    /// Takes memory for so many more entries with so many more bytes together, where it isn't there
-    /// yet. It fails only for want of memory, and no room is lost then.
-    pub fn reserve(&mut self, entries: usize, bytes: usize) -> Result<(), AllocError>
-        ensures ok { OnOk result ((entries ≤ self.new.room) × (bytes ≤ self.new.byte_room)) }
-        ensures err { OnErr result ((self.old.room < entries) ⊎ (self.old.byte_room < bytes)) }
-        ensures same { self.new.entries ≡ self.old.entries }
-        ensures limit { self.new.limit ≡ self.old.limit }
-        ensures room { self.old.room ≤ self.new.room }
-        ensures byte_room { self.old.byte_room ≤ self.new.byte_room }
-    {
-        match &mut self.region {
-            Some(region) => region.reserve(entries, bytes),
-            None => Ok(()),
-        }
-    }
-
-    /// Adds an entry, for which there is room and which the limit allows. It takes no memory.
+    /// Adds an entry, which the limit allows. It takes no memory.
     pub fn push(&mut self, entry: &Entry)
-        requires room { 0 < self.old.room }
-        requires byte_room { length entry.now.command.now + length entry.now.reply.now
-            ≤ self.old.byte_room }
-        requires within { kept self.old.entries + kept_by (seen_entry entry.now) ≤ self.old.limit }
+        requires { kept self.old.entries + kept_by (seen_entry entry.now) ≤ self.old.limit }
         ensures pushed { self.new.entries ≡ self.old.entries ++ seen_entry entry.now ∷ [] }
         ensures limit { self.new.limit ≡ self.old.limit }
-        ensures room { self.old.room ≤ self.new.room + 1 }
-        ensures byte_room { self.old.byte_room
-            ≤ self.new.byte_room + (length entry.now.command.now + length entry.now.reply.now) }
     {
         slice_has_bytes(entry.reply);
         self.counts = self.counts.with(entry);

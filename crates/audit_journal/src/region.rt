@@ -1,15 +1,17 @@
 // Where a journal's entries are kept: their bytes one after another, and where each one's lie.
-ghost use Rattle.std.specs.Prelude.{◌≡◌, ◌+◌, ◌≤◌, ◌<◌, ◌∷◌, ◌++◌, ◌⊎◌, [], length, slice_get};
-ghost use Rattle.std.specs.Prelude.{OnOk, OnErr};
+ghost use Rattle.std.specs.Prelude.{◌≡◌, ◌+◌, ◌≤◌, ◌<◌, ◌^◌, ◌∷◌, ◌++◌, [], length, slice_get};
+ghost use Rattle.std.specs.Prelude.{IfOk};
+ghost use Rattle.history_spec.specs.Entry.{kept, kept_by};
 ghost use Rattle.audit_journal.specs.Journal.{seen_entry};
 
 use crate::journal::Entry;
 use crate::record::Record;
+use history_spec::ENTRY_BYTES;
 use std::alloc::{AllocError, Global};
 use std::marker::Model;
 
-// The entries that are kept. It is seen as their list, with the room that it has without taking
-// memory.
+// The entries that are kept, in memory that was taken before the first of them. It is seen as their
+// list, with the most bytes that they may keep: 64 for each, and those of its command and reply.
 #[derive(Drop)]
 pub(crate) struct Region {
     records: Vec<Record>,
@@ -17,70 +19,54 @@ pub(crate) struct Region {
 }
 
 impl Model for Region {
-    ghost use Rattle.std.specs.Prelude.{◌-◌, All, length, map, vec_len, vec_capacity};
-    ghost use Rattle.audit_journal.specs.Region.{LiesIn, RegionView, entry_of};
+    ghost use Rattle.std.specs.Prelude.{◌*◌, map, min, vec_capacity};
+    ghost use Rattle.audit_journal.specs.Region.{HasKept, RegionView, entry_of};
 
     ghost Value = { RegionView };
 
     ghost view = { λ r. record {
       entries = map (entry_of r.bytes.items) r.records.items;
-      room = vec_capacity r.records - vec_len r.records;
-      byte_room = vec_capacity r.bytes - vec_len r.bytes;
+      most = min (64 * vec_capacity r.records) (vec_capacity r.bytes);
     } };
 
-    ghost invariant = { λ r. All (LiesIn (length r.bytes.items)) r.records.items };
+    ghost invariant = { λ r. HasKept r.bytes.items r.records.items };
 }
 
 impl Region {
-    // It keeps nothing, and takes no memory.
-    pub(crate) fn new(alloc: Global) -> Region
-        ensures { result.entries ≡ [] }
+    // It keeps nothing yet, and takes all its memory: for entries that keep so many bytes together.
+    pub(crate) fn new(alloc: Global, most: u32) -> Result<Region, AllocError>
+        ensures empty { IfOk result (λ r. r.entries ≡ []) }
+        ensures most { IfOk result (λ r. r.most ≡ most) }
     {
-        Region {
-            records: Vec::new(alloc),
-            bytes: Vec::new(alloc),
-        }
-    }
-
-    // Takes memory for so many more entries with so many more bytes together, where it isn't there
-    // yet. It fails only for want of memory, and no room is lost then.
-    pub(crate) fn reserve(&mut self, entries: usize, bytes: usize) -> Result<(), AllocError>
-        ensures ok { OnOk result ((entries ≤ self.new.room) × (bytes ≤ self.new.byte_room)) }
-        ensures err { OnErr result ((self.old.room < entries) ⊎ (self.old.byte_room < bytes)) }
-        ensures same { self.new.entries ≡ self.old.entries }
-        ensures room { self.old.room ≤ self.new.room }
-        ensures byte_room { self.old.byte_room ≤ self.new.byte_room }
-    {
-        self.records.reserve(entries)?;
-        self.bytes.reserve(bytes)
+        let entries = most as usize / ENTRY_BYTES as usize + 1;
+        Ok(Region {
+            records: Vec::with_capacity(alloc, entries)?,
+            bytes: Vec::with_capacity(alloc, most as usize)?,
+        })
     }
 
     // Keeps an entry, for which there is room.
     pub(crate) fn push(&mut self, entry: &Entry)
-        requires room { 0 < self.old.room }
-        requires byte_room { length entry.now.command.now + length entry.now.reply.now
-            ≤ self.old.byte_room }
+        requires within { kept self.old.entries + kept_by (seen_entry entry.now) ≤ self.old.most }
+        requires small { kept self.old.entries + kept_by (seen_entry entry.now) < 2 ^ 32 }
         ensures pushed { self.new.entries ≡ self.old.entries ++ seen_entry entry.now ∷ [] }
-        ensures room { self.old.room ≤ self.new.room + 1 }
-        ensures byte_room { self.old.byte_room
-            ≤ self.new.byte_room + (length entry.now.command.now + length entry.now.reply.now) }
+        ensures most { self.old.most ≤ self.new.most }
     {
-        let start = self.bytes.len();
+        let start = self.bytes.len() as u32;
         self.bytes.extend_from_slice(entry.command).unwrap();
-        let middle = self.bytes.len();
+        let middle = self.bytes.len() as u32;
         self.bytes.extend_from_slice(entry.reply).unwrap();
-        let end = self.bytes.len();
-        let record = Record {
+        let end = self.bytes.len() as u32;
+        self.records.push_reserved(Record {
             client: entry.client,
-            number: entry.number,
-            kind: entry.kind,
-            pick: entry.pick,
-            faults: entry.faults,
             start,
             middle,
             end,
-        };
-        self.records.push(record).unwrap();
+            number: entry.number,
+            faults: entry.faults,
+            kind: entry.kind,
+            pick: entry.pick,
+        });
     }
 
     // The entry at a place where there is one.
@@ -95,8 +81,8 @@ impl Region {
             kind: record.kind,
             pick: record.pick,
             faults: record.faults,
-            command: &self.bytes[record.start..record.middle],
-            reply: &self.bytes[record.middle..record.end],
+            command: &self.bytes[record.start as usize..record.middle as usize],
+            reply: &self.bytes[record.middle as usize..record.end as usize],
         }
     }
 }

@@ -139,11 +139,11 @@ nothing_held : (held : Held) (slots next : ℕ) → held.objects ≡ record { it
     → held.sessions ≡ record { items = no_items; next = next; order = []; saved = [] } → held_nothing slots next ≡ held
 nothing_held held slots next objects sessions = λ i. record { objects = sym objects i; sessions = sym sessions i }
 
-holds_nothing : (began : ℕ) (base : Option Persist) (old : Option SlotState) (reply : List ℕ) (new : Seen) (limit count next room : ℕ)
+holds_nothing : (began : ℕ) (base : Option Persist) (old : Option SlotState) (reply : List ℕ) (new : Seen) (limit count next : ℕ)
     → is_some old ≡ is_some base → IsAtBase base old → Answered old startup_command new.state reply → new.base ≡ base → began ≤ new.faults → IsRight (asked_of new) (last_of new)
     → limit ≤ SILENT_LIMIT → count ≡ OBJECT_SLOTS
-    → Holds began new [] limit [] (held_nothing count next) 0 room None
-holds_nothing began base old reply new limit count next room same at_base answered base_same risen right most slots_are = record {
+    → Holds began new [] limit [] (held_nothing count next) 0 None
+holds_nothing began base old reply new limit count next same at_base answered base_same risen right most slots_are = record {
   stands = subst (λ (b : Option Persist). StandsFor b new.state [] [] (held_nothing count next)) (sym base_same) (stands_begun base old new.state reply count next same at_base answered);
   journal = record {
     counts = tt;
@@ -156,7 +156,6 @@ holds_nothing began base old reply new limit count next room same at_base answer
     fewer = omega arith;
     limited = most;
     reserves = omega arith;
-    closes = omega arith;
   };
   objects = λ none. record {
     each = record { closed = λ client _. refl; each = λ client. record { named = tt; apart = λ index. omega arith; few = omega arith; short = omega arith } };
@@ -172,13 +171,13 @@ holds_nothing began base old reply new limit count next room same at_base answer
   placed = omega arith;
 }
 
-pub holds_begun : (began : ℕ) (base : Option Persist) (old : Option SlotState) (reply : List ℕ) (new : Seen) (limit : ℕ) (held : Held) (room : ℕ)
+pub holds_begun : (began : ℕ) (base : Option Persist) (old : Option SlotState) (reply : List ℕ) (new : Seen) (limit : ℕ) (held : Held)
     → is_some old ≡ is_some base → IsAtBase base old → Answered old startup_command new.state reply → new.base ≡ base → began ≤ new.faults → IsRight (asked_of new) (last_of new)
     → limit ≤ SILENT_LIMIT → held.objects ≡ record { items = []; slots = OBJECT_SLOTS; order = [] }
-    → held.sessions ≡ record { items = no_items; next = 0; order = []; saved = [] } → Holds began new [] limit [] held 0 room None
-holds_begun began base old reply new limit held room same at_base answered base_same risen right most objects sessions =
-    subst (λ (h : Held). Holds began new [] limit [] h 0 room None) (nothing_held held OBJECT_SLOTS 0 objects sessions)
-    (holds_nothing began base old reply new limit OBJECT_SLOTS 0 room same at_base answered base_same risen right most refl)
+    → held.sessions ≡ record { items = no_items; next = 0; order = []; saved = [] } → Holds began new [] limit [] held 0 None
+holds_begun began base old reply new limit held same at_base answered base_same risen right most objects sessions =
+    subst (λ (h : Held). Holds began new [] limit [] h 0 None) (nothing_held held OBJECT_SLOTS 0 objects sessions)
+    (holds_nothing began base old reply new limit OBJECT_SLOTS 0 same at_base answered base_same risen right most refl)
 
 -- ---- a wrong answer to Startup
 

@@ -69,27 +69,27 @@ held_closed seen {new = new} {began = began} history tables {held} {new_held} cl
           (omega (arith, drops.orphans));
     }
 
-journal_closed : {history : Entries} {limit faults faults_new present room more : ℕ} (tables : List (List (Option ℕ))) (client : ℕ) → JournalHolds history limit faults (length tables) present room → IsOpen history client
-    → room ≤ more + 1 → faults ≤ faults_new → JournalHolds (history ++ close_entry client ∷ []) limit faults_new (length (set tables client [])) (present - 1) more
-journal_closed {history = history} {limit = limit} {faults = faults} {faults_new = faults_new} {present = present} {more = more} tables client h opened le count =
-    subst (λ (n : ℕ). JournalHolds (history ++ close_entry client ∷ []) limit faults_new n (present - 1) more) (sym (length-set tables client []))
-    (journal-later (journal-close client h opened le) count (journal-close client h opened le).closes)
+journal_closed : {history : Entries} {limit faults faults_new present : ℕ} (tables : List (List (Option ℕ))) (client : ℕ) → JournalHolds history limit faults (length tables) present → IsOpen history client
+    → faults ≤ faults_new → JournalHolds (history ++ close_entry client ∷ []) limit faults_new (length (set tables client [])) (present - 1)
+journal_closed {history = history} {limit = limit} {faults = faults} {faults_new = faults_new} {present = present} tables client h opened count =
+    subst (λ (n : ℕ). JournalHolds (history ++ close_entry client ∷ []) limit faults_new n (present - 1)) (sym (length-set tables client []))
+    (journal-later (journal-close client h opened) count)
 
 -- whose flushes were answered or failed
 holds_closed : {D : Type 0} (seen : D → Seen) {device new : D} {began : ℕ} {history : Entries} {limit : ℕ}
-    {tables : List (List (Option ℕ))} {held new_held : Held} {present room : ℕ} {wrong_code : Option ℕ} (more client failed : ℕ)
-    → Holds began (seen device) history limit tables held present room wrong_code
-    → is_some wrong_code ≡ false → IsOpen history client → room ≤ more + 1
+    {tables : List (List (Option ℕ))} {held new_held : Held} {present : ℕ} {wrong_code : Option ℕ} (client failed : ℕ)
+    → Holds began (seen device) history limit tables held present wrong_code
+    → is_some wrong_code ≡ false → IsOpen history client
     → Drops seen client device new held new_held (table_of tables client) [] failed → list_any (is_owned client) new_held.sessions.items ≡ false
-    → Holds began (seen new) (history ++ close_entry client ∷ []) limit (set tables client []) new_held (present - 1) more wrong_code
-holds_closed seen {device = device} {new = new} {began = began} {history = history} {tables = tables} {wrong_code = wrong_code} more client failed h none opened le drops unowned =
+    → Holds began (seen new) (history ++ close_entry client ∷ []) limit (set tables client []) new_held (present - 1) wrong_code
+holds_closed seen {device = device} {new = new} {began = began} {history = history} {tables = tables} {wrong_code = wrong_code} client failed h none opened drops unowned =
     let none = none_is wrong_code none in
     let holds = h.objects none in
     let inside = open_inside (clients_of history).present client (length tables) h.journal.below opened in
     let one = h.journal.once client in
     record {
       stands = stands_closed seen history tables client failed h.stands holds.each opened inside one drops unowned;
-      journal = journal_closed _ client h.journal opened le drops.keeps.count;
+      journal = journal_closed _ client h.journal opened drops.keeps.count;
       objects = λ _. held_closed seen history tables client failed holds one inside drops unowned;
       answers = record {
         answer = no_answer (asked_of (seen new)) (last_of (seen new)) wrong_code none;
@@ -104,25 +104,25 @@ holds_closed seen {device = device} {new = new} {began = began} {history = histo
 
 -- the same of a table that is known by itself
 pub table_closed : {D : Type 0} (seen : D → Seen) {device new : D} {began : ℕ} {history : Entries} {limit : ℕ}
-    {tables : List (List (Option ℕ))} {table : List (Option ℕ)} {held new_held : Held} {present room : ℕ} {wrong_code : Option ℕ} (more client failed : ℕ)
-    → Holds began (seen device) history limit tables held present room wrong_code
-    → is_some wrong_code ≡ false → IsOpen history client → room ≤ more + 1 → table_of tables client ≡ table
+    {tables : List (List (Option ℕ))} {table : List (Option ℕ)} {held new_held : Held} {present : ℕ} {wrong_code : Option ℕ} (client failed : ℕ)
+    → Holds began (seen device) history limit tables held present wrong_code
+    → is_some wrong_code ≡ false → IsOpen history client → table_of tables client ≡ table
     → Drops seen client device new held new_held table [] failed → list_any (is_owned client) new_held.sessions.items ≡ false
-    → Holds began (seen new) (history ++ close_entry client ∷ []) limit (set tables client []) new_held (present - 1) more wrong_code
-table_closed seen {device = device} {new = new} {held = held} {new_held = new_held} more client failed h none opened le is drops unowned =
-    holds_closed seen more client failed h none opened le
+    → Holds began (seen new) (history ++ close_entry client ∷ []) limit (set tables client []) new_held (present - 1) wrong_code
+table_closed seen {device = device} {new = new} {held = held} {new_held = new_held} client failed h none opened is drops unowned =
+    holds_closed seen client failed h none opened
     (subst (λ (t : List (Option ℕ)). Drops seen client device new held new_held t [] failed) (sym is) drops) unowned
 
 -- to whose flush a wrong answer came
 pub holds_closed_wrong : {began : ℕ} {seen new_seen : Seen} {history : Entries} {limit : ℕ}
-    {tables : List (List (Option ℕ))} {held new_held : Held} {present room : ℕ} {wrong_code : Option ℕ} (more client code : ℕ)
-    → Holds began seen history limit tables held present room wrong_code → IsOpen history client → room ≤ more + 1 → seen.faults ≤ new_seen.faults
+    {tables : List (List (Option ℕ))} {held new_held : Held} {present : ℕ} {wrong_code : Option ℕ} (client code : ℕ)
+    → Holds began seen history limit tables held present wrong_code → IsOpen history client → seen.faults ≤ new_seen.faults
     → new_held.objects.slots ≡ held.objects.slots → length new_held.objects.items ≡ length held.objects.items
     → IsWrongAnswer (asked_of new_seen) (last_of new_seen) code × (new_seen.state ≡ None)
-    → Holds began new_seen (history ++ close_entry client ∷ []) limit (set tables client []) new_held (present - 1) more (Some code)
-holds_closed_wrong {began = began} {new_seen = new_seen} {history = history} more client code h opened le count same_slots same_length answer = record {
+    → Holds began new_seen (history ++ close_entry client ∷ []) limit (set tables client []) new_held (present - 1) (Some code)
+holds_closed_wrong {began = began} {new_seen = new_seen} {history = history} client code h opened count same_slots same_length answer = record {
   stands = λ b slots is_base is_state. absurd (no_state new_seen.state slots answer.1 is_state);
-  journal = journal_closed _ client h.journal opened le count;
+  journal = journal_closed _ client h.journal opened count;
   objects = λ none. absurd cc;
   answers = record { answer = answer.0; right = λ none. absurd cc; taken = λ told. absurd (not_told new_seen.state answer.1 told) };
   faulted = counted-push began history (close_entry client) 0 h.faulted count refl;
@@ -136,12 +136,12 @@ not_none wrong_code some none = let no : is_some wrong_code ≡ false = ap is_so
 
 -- after a wrong answer
 pub holds_closed_after : {began : ℕ} {seen : Seen} {history : Entries} {limit : ℕ} {tables : List (List (Option ℕ))} {held : Held}
-    {present room : ℕ} {wrong_code : Option ℕ} (more client : ℕ) → Holds began seen history limit tables held present room wrong_code
-    → is_some wrong_code ≡ true → IsOpen history client → room ≤ more + 1
-    → Holds began seen (history ++ close_entry client ∷ []) limit (set tables client []) held (present - 1) more wrong_code
-holds_closed_after {began = began} {seen = seen} {history = history} {wrong_code = wrong_code} more client h some opened le = record {
+    {present : ℕ} {wrong_code : Option ℕ} (client : ℕ) → Holds began seen history limit tables held present wrong_code
+    → is_some wrong_code ≡ true → IsOpen history client
+    → Holds began seen (history ++ close_entry client ∷ []) limit (set tables client []) held (present - 1) wrong_code
+holds_closed_after {began = began} {seen = seen} {history = history} {wrong_code = wrong_code} client h some opened = record {
   stands = λ b slots is_base is_state. absurd (not_none wrong_code some (h.answers.taken (let yes : is_some seen.state ≡ true = ap is_some is_state in yes)));
-  journal = journal_closed _ client h.journal opened le (omega arith);
+  journal = journal_closed _ client h.journal opened (omega arith);
   objects = λ none. absurd (not_none wrong_code some none);
   answers = h.answers;
   faulted = counted-push began history (close_entry client) 0 h.faulted (omega arith) refl;
@@ -152,12 +152,12 @@ holds_closed_after {began = began} {seen = seen} {history = history} {wrong_code
 
 -- what a close may begin with
 pub table_same : {began : ℕ} {seen : Seen} {history : Entries} {limit : ℕ} {tables : List (List (Option ℕ))} {held : Held}
-    {present room : ℕ} {wrong_code : Option ℕ} (client : ℕ) (table : List (Option ℕ)) → Holds began seen history limit tables held present room wrong_code
+    {present : ℕ} {wrong_code : Option ℕ} (client : ℕ) (table : List (Option ℕ)) → Holds began seen history limit tables held present wrong_code
     → is_some wrong_code ≡ false → table_of tables client ≡ table → IsTable held.objects.items client table
 table_same {held = held} client table h none is = table_now held.objects.items client table h none (inl refl) is
 
 pub moves_same : {D : Type 0} (seen : D → Seen) (device : D) {began : ℕ} {history : Entries} {limit : ℕ} {tables : List (List (Option ℕ))} {held : Held}
-    {present room : ℕ} {wrong_code : Option ℕ} → is_some (seen device).state ≡ is_some (seen device).base → Holds began (seen device) history limit tables held present room wrong_code
+    {present : ℕ} {wrong_code : Option ℕ} → is_some (seen device).state ≡ is_some (seen device).base → Holds began (seen device) history limit tables held present wrong_code
     → MayMove 2000 seen device held
 moves_same seen device {held = held} same h = moves_now seen device held.objects.items same h (inl refl) refl
 

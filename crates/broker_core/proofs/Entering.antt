@@ -9,7 +9,8 @@ use Rattle.tab_spec.specs.Admission.{Tables, client_admitted}
 use Rattle.tab_spec.specs.Count.{Rose}
 use Rattle.tab_spec.specs.Frame.{code_of}
 use Rattle.tab_spec.specs.Reply.{error_reply, with_response_handle}
-use Rattle.tab_spec.specs.Shape.{makes_object_by, octet_of}
+use Rattle.tab_spec.specs.declared.Shape.{Shape}
+use Rattle.tab_spec.specs.Shape.{makes_object, makes_object_by, octet_of}
 use Rattle.device_spec.specs.Answers.{IsRight, takes}
 use Rattle.device_port.specs.Device.{Seen, asked_of, last_of, sent_of}
 use Rattle.device_laws.proofs.ContextSteps.{save_row}
@@ -32,6 +33,7 @@ use Rattle.client_machine.specs.Settled.{orphan_count}
 use Rattle.client_machine.specs.Tables.{device_handle, flush_fault_of, flush_sent, flush_sent_unless, flushed_handle, owned_handles, slot_handle, tables_had}
 use Rattle.broker_core.specs.Tables.{table_of}
 use Rattle.broker_core.proofs.Holding.{AreMore, more_orphans, still_right}
+use Rattle.client_machine.proofs.Bringing.{command_shape}
 use Rattle.client_machine.proofs.Doing.{no_handle}
 use Rattle.broker_core.proofs.Tabling.{item_pushed, names_pushed, residents-more, table_own}
 use Rattle.client_machine.proofs.Telling.{context_there, save_refused, unsent_makes, unsent_starts}
@@ -40,11 +42,15 @@ use Rattle.session_swap.specs.declared.TheConstants.{RENEWAL_GAP}
 use Rattle.client_machine.specs.Costs.{SendsUpTo, StaysIn, new_bound}
 use Rattle.broker_core.proofs.WorldStands.{with_items}
 
+-- a command makes an object if it does by the shape with which it was admitted
+pub made_by : (tables : Tables) (bytes : List ℕ) (a : Admitted) → client_admitted tables bytes ≡ Ok a → makes_object_by (Ok a.shape) bytes ≡ true → makes_object bytes ≡ true
+made_by tables bytes a admitted makes = ap (λ (shape : Result Shape ℕ). makes_object_by shape bytes) (command_shape tables bytes a admitted) ∙ makes
+
 -- a command that has no room for its entry changes nothing
 pub told_unentered : {D : Type 0} (seen : D → Seen) (told : Told) (old new : BrokerView D) (client number : ℕ) (bytes reply : List ℕ)
     → TellsNoRoom told old.limit old.journal bytes reply → new ≡ old → Tells seen told old new client number bytes reply
 told_unentered seen tolds.Entered old new client number bytes reply none same = absurd none
-told_unentered seen tolds.Memory old new client number bytes reply none same = (same, none.1, none.0)
+told_unentered seen tolds.Memory old new client number bytes reply none same = absurd none
 told_unentered seen (tolds.JournalFull count most) old new client number bytes reply none same =
     record { lacks = none.0; same = same; reply_is = none.1; kept_is = none.2; limit_is = none.3 }
 told_unentered seen tolds.Answer old new client number bytes reply none same = absurd none

@@ -275,31 +275,17 @@ held_told began None (Some slots) faults history tables held wrong_code same sta
 
 -- ---- a broker
 
-pub holds_roomier : {began : ℕ} {seen : Seen} {history : Entries} {limit : ℕ} {tables : List (List (Option ℕ))} {held : Held}
-    {present room : ℕ} {wrong_code : Option ℕ} (more : ℕ) → Holds began seen history limit tables held present room wrong_code → room ≤ more
-    → Holds began seen history limit tables held present more wrong_code
-holds_roomier more h le = record {
-  stands = h.stands;
-  journal = journal-later h.journal (omega arith) (omega (arith, h.journal.closes, le));
-  objects = h.objects;
-  answers = h.answers;
-  faulted = h.faulted;
-  slots_are = h.slots_are;
-  few = h.few;
-  placed = h.placed;
-}
-
 -- a client was opened
 pub holds_opened : {began : ℕ} {seen : Seen} {history : Entries} {limit : ℕ} {tables : List (List (Option ℕ))} {held : Held}
-    {present room : ℕ} {wrong_code : Option ℕ} (number more : ℕ) → Holds began seen history limit tables held present room wrong_code
-    → number ≡ length tables → HasRoomForClient limit history → present + 1 ≤ more
-    → Holds began seen (history ++ open_entry number ∷ []) limit (tables ++ [] ∷ []) held (present + 1) more wrong_code
-holds_opened {began = began} {seen = seen} {history = history} {limit = limit} {tables = tables} {held = held} {present = present} number more h is_next room le =
+    {present : ℕ} {wrong_code : Option ℕ} (number : ℕ) → Holds began seen history limit tables held present wrong_code
+    → number ≡ length tables → HasRoomForClient limit history
+    → Holds began seen (history ++ open_entry number ∷ []) limit (tables ++ [] ∷ []) held (present + 1) wrong_code
+holds_opened {began = began} {seen = seen} {history = history} {limit = limit} {tables = tables} {held = held} {present = present} number h is_next room =
     let e : Entry = open_entry number in
     record {
       stands = stands_opened seen.base seen.state history tables held number (is_next ∙ h.journal.opened_is) h.stands;
-      journal = subst (λ (n : ℕ). JournalHolds (history ++ open_entry n ∷ []) limit seen.faults (length (tables ++ [] ∷ [])) (present + 1) more) (sym is_next)
-          (subst (λ (n : ℕ). JournalHolds (history ++ open_entry (length tables) ∷ []) limit seen.faults n (present + 1) more) (sym (length-append tables ([] ∷ []))) (journal-open h.journal room le));
+      journal = subst (λ (n : ℕ). JournalHolds (history ++ open_entry n ∷ []) limit seen.faults (length (tables ++ [] ∷ [])) (present + 1)) (sym is_next)
+          (subst (λ (n : ℕ). JournalHolds (history ++ open_entry (length tables) ∷ []) limit seen.faults n (present + 1)) (sym (length-append tables ([] ∷ []))) (journal-open h.journal room));
       objects = λ none. subst (λ (n : ℕ). HeldHolds began seen.faults (history ++ open_entry n ∷ []) (tables ++ [] ∷ []) held) (sym is_next) (held_opened history (h.objects none));
       answers = h.answers;
       faulted = counted-push began history e 0 h.faulted (omega arith) refl;
@@ -315,11 +301,11 @@ none_is (Some x) none = absurd cc
 none_is None none = refl
 
 pub inside_tables : {began : ℕ} {seen : Seen} {history : Entries} {limit : ℕ} {tables : List (List (Option ℕ))} {held : Held}
-    {present room : ℕ} {wrong_code : Option ℕ} (client : ℕ) → Holds began seen history limit tables held present room wrong_code → IsOpen history client → client < length tables
+    {present : ℕ} {wrong_code : Option ℕ} (client : ℕ) → Holds began seen history limit tables held present wrong_code → IsOpen history client → client < length tables
 inside_tables {history = history} {tables = tables} client h opened = open_inside (clients_of history).present client (length tables) h.journal.below opened
 
 pub few_items : {began : ℕ} {seen : Seen} {history : Entries} {limit : ℕ} {tables : List (List (Option ℕ))} {held : Held}
-    {present room : ℕ} {wrong_code : Option ℕ} → Holds began seen history limit tables held present room wrong_code → length held.objects.items ≤ 2 ^ 31
+    {present : ℕ} {wrong_code : Option ℕ} → Holds began seen history limit tables held present wrong_code → length held.objects.items ≤ 2 ^ 31
 few_items h = h.placed
 
 size_most : (size : ℕ) → is_size size ≡ true → size ≤ 4096
@@ -344,16 +330,16 @@ no_state state slots none some = let yes : is_some state ≡ true = ap is_some s
 
 -- one that the broker refused by itself
 pub holds_refused : {began : ℕ} {seen : Seen} {history : Entries} {limit : ℕ} {tables : List (List (Option ℕ))} {held : Held}
-    {present room : ℕ} {wrong_code : Option ℕ} (more client number : ℕ) (bytes : List ℕ) (code : ℕ) → Holds began seen history limit tables held present room wrong_code
+    {present : ℕ} {wrong_code : Option ℕ} (client number : ℕ) (bytes : List ℕ) (code : ℕ) → Holds began seen history limit tables held present wrong_code
     → is_some wrong_code ≡ false → IsOpen history client → IsNextNumber history client number → client_admitted (tables_seen client (table_of tables client) held.sessions.items) bytes ≡ Err code
-    → HasRoom limit history bytes → present ≤ more
-    → Holds began seen (history ++ command_entry client number Nothing bytes (error_reply code) ∷ []) limit tables held present more wrong_code
-holds_refused {began = began} {seen = seen} {history = history} {tables = tables} {held = held} {wrong_code = wrong_code} more client number bytes code h none opened next refused has_room le =
+    → HasRoom limit history bytes
+    → Holds began seen (history ++ command_entry client number Nothing bytes (error_reply code) ∷ []) limit tables held present wrong_code
+holds_refused {began = began} {seen = seen} {history = history} {tables = tables} {held = held} {wrong_code = wrong_code} client number bytes code h none opened next refused has_room =
     let e : Entry = command_entry client number Nothing bytes (error_reply code) in
     let holds = h.objects (none_is wrong_code none) in
     record {
       stands = stands_refused seen.base seen.state history tables held client number bytes code h.stands holds.each opened next refused;
-      journal = journal-entry e h.journal (omega arith) refl refl (omega arith) (error_is_frame code) has_room (frame_short (error_reply code) (error_is_frame code)) le;
+      journal = journal-entry e h.journal (omega arith) refl refl (omega arith) (error_is_frame code) has_room (frame_short (error_reply code) (error_is_frame code));
       objects = λ _. held_refused history e holds refl refl;
       answers = h.answers;
       faulted = counted-push began history e 0 h.faulted (omega arith) refl;
@@ -364,15 +350,15 @@ holds_refused {began = began} {seen = seen} {history = history} {tables = tables
 
 -- one that was canceled before it ran
 pub holds_canceled : {began : ℕ} {seen : Seen} {history : Entries} {limit : ℕ} {tables : List (List (Option ℕ))} {held : Held}
-    {present room : ℕ} {wrong_code : Option ℕ} (more client number upto : ℕ) (bytes : List ℕ) → Holds began seen history limit tables held present room wrong_code
-    → is_some wrong_code ≡ false → IsOpen history client → IsNextNumber history client number → number ≤ upto → HasRoom limit history bytes → present ≤ more
-    → Holds began seen (history ++ canceled_entry client number upto bytes (error_reply RC_CANCELED) ∷ []) limit tables held present more wrong_code
-holds_canceled {began = began} {seen = seen} {history = history} {tables = tables} {held = held} {wrong_code = wrong_code} more client number upto bytes h none opened next covers has_room le =
+    {present : ℕ} {wrong_code : Option ℕ} (client number upto : ℕ) (bytes : List ℕ) → Holds began seen history limit tables held present wrong_code
+    → is_some wrong_code ≡ false → IsOpen history client → IsNextNumber history client number → number ≤ upto → HasRoom limit history bytes
+    → Holds began seen (history ++ canceled_entry client number upto bytes (error_reply RC_CANCELED) ∷ []) limit tables held present wrong_code
+holds_canceled {began = began} {seen = seen} {history = history} {tables = tables} {held = held} {wrong_code = wrong_code} client number upto bytes h none opened next covers has_room =
     let e : Entry = canceled_entry client number upto bytes (error_reply RC_CANCELED) in
     let whole = error_is_frame RC_CANCELED in
     record {
       stands = stands_canceled seen.base seen.state history tables held client number upto bytes h.stands opened next covers;
-      journal = journal-entry e h.journal (omega arith) refl refl (omega arith) whole has_room (frame_short (error_reply RC_CANCELED) whole) le;
+      journal = journal-entry e h.journal (omega arith) refl refl (omega arith) whole has_room (frame_short (error_reply RC_CANCELED) whole);
       objects = λ _. held_refused history e (h.objects (none_is wrong_code none)) refl refl;
       answers = h.answers;
       faulted = counted-push began history e 0 h.faulted (omega arith) refl;
@@ -383,15 +369,15 @@ holds_canceled {began = began} {seen = seen} {history = history} {tables = table
 
 -- one that was carried out
 holds_carried : {D : Type 0} (seen : D → Seen) {device new : D} {began : ℕ} {history : Entries} {limit : ℕ}
-    {tables : List (List (Option ℕ))} {held new_held : Held} {more : List Item} {new_table : List (Option ℕ)} {present room : ℕ} {wrong_code : Option ℕ} (more_room client number : ℕ) (pick : Pick) (bytes reply : List ℕ)
-    → Holds began (seen device) history limit tables held present room wrong_code
-    → is_some wrong_code ≡ false → IsOpen history client → IsNextNumber history client number → HasRoom limit history bytes → present ≤ more_room → AreMore held.objects.items more → length more ≤ PLACES_MOST
+    {tables : List (List (Option ℕ))} {held new_held : Held} {more : List Item} {new_table : List (Option ℕ)} {present : ℕ} {wrong_code : Option ℕ} (client number : ℕ) (pick : Pick) (bytes reply : List ℕ)
+    → Holds began (seen device) history limit tables held present wrong_code
+    → is_some wrong_code ≡ false → IsOpen history client → IsNextNumber history client number → HasRoom limit history bytes → AreMore held.objects.items more → length more ≤ PLACES_MOST
     → Moves seen client device new (with_items held more) new_held (table_of tables client) new_table
     → StepsAs (λ s. client_step client s bytes pick) (seen device).state (seen new).state (with_items held more) new_held (table_of tables client) new_table reply
     → is_frame reply ≡ true → (new ≡ device) ⊎ IsRight (asked_of (seen new)) (last_of (seen new))
-    → Holds began (seen new) (history ++ command_entry client number pick bytes reply ∷ []) limit (set tables client new_table) new_held present more_room wrong_code
+    → Holds began (seen new) (history ++ command_entry client number pick bytes reply ∷ []) limit (set tables client new_table) new_held present wrong_code
 holds_carried seen {device = device} {new = new} {began = began} {history = history} {limit = limit} {tables = tables} {held = held} {new_held = new_held} {more = more}
-    {new_table = new_table} {present = present} {wrong_code = wrong_code} more_room client number pick bytes reply h none opened next has_room le are most moves steps whole right =
+    {new_table = new_table} {present = present} {wrong_code = wrong_code} client number pick bytes reply h none opened next has_room are most moves steps whole right =
     let e : Entry = command_entry client number pick bytes reply in
     let none = none_is wrong_code none in
     let holds = h.objects none in
@@ -399,8 +385,8 @@ holds_carried seen {device = device} {new = new} {began = began} {history = hist
     let tables_stand = more_tables (clients_of history).present tables held.objects.items more are holds.each in
     record {
       stands = stands_carried history tables client number pick bytes reply (stands_with (seen device).base (seen device).state history tables held more are h.stands) tables_stand opened inside next moves steps;
-      journal = subst (λ (n : ℕ). JournalHolds (history ++ e ∷ []) limit (seen new).faults n present more_room) (sym (length-set tables client new_table))
-          (journal-entry e h.journal moves.keeps.count refl refl (omega arith) whole has_room (frame_short reply whole) le);
+      journal = subst (λ (n : ℕ). JournalHolds (history ++ e ∷ []) limit (seen new).faults n present) (sym (length-set tables client new_table))
+          (journal-entry e h.journal moves.keeps.count refl refl (omega arith) whole has_room (frame_short reply whole));
       objects = λ _. held_carried history e tables holds are refl opened inside moves (counted-push began history e _ holds.counted moves.keeps.count refl);
       answers = record {
         answer = no_answer (asked_of (seen new)) (last_of (seen new)) wrong_code none;
@@ -415,15 +401,15 @@ holds_carried seen {device = device} {new = new} {began = began} {history = hist
 
 -- one whose transmission failed, or one of the broker's own before it
 holds_faulted : {D : Type 0} (seen : D → Seen) {device new : D} {began : ℕ} {history : Entries} {limit : ℕ}
-    {tables : List (List (Option ℕ))} {held new_held : Held} {more : List Item} {new_table : List (Option ℕ)} {present room : ℕ} {wrong_code : Option ℕ} (more_room client number : ℕ) (bytes : List ℕ)
-    → Holds began (seen device) history limit tables held present room wrong_code
-    → is_some wrong_code ≡ false → IsOpen history client → IsNextNumber history client number → HasRoom limit history bytes → present ≤ more_room → AreMore held.objects.items more → length more ≤ PLACES_MOST
+    {tables : List (List (Option ℕ))} {held new_held : Held} {more : List Item} {new_table : List (Option ℕ)} {present : ℕ} {wrong_code : Option ℕ} (client number : ℕ) (bytes : List ℕ)
+    → Holds began (seen device) history limit tables held present wrong_code
+    → is_some wrong_code ≡ false → IsOpen history client → IsNextNumber history client number → HasRoom limit history bytes → AreMore held.objects.items more → length more ≤ PLACES_MOST
     → Moves seen client device new (with_items held more) new_held (table_of tables client) new_table
     → Stays (seen device).state (seen new).state (with_items held more) new_held (table_of tables client) new_table
     → Rose (seen device).faults (seen new).faults × (last_of (seen new) ≡ None)
-    → Holds began (seen new) (history ++ fault_entry client number (seen new).faults bytes (error_reply RC_DEVICE_FAULT) ∷ []) limit tables new_held present more_room wrong_code
+    → Holds began (seen new) (history ++ fault_entry client number (seen new).faults bytes (error_reply RC_DEVICE_FAULT) ∷ []) limit tables new_held present wrong_code
 holds_faulted seen {device = device} {new = new} {began = began} {history = history} {limit = limit} {tables = tables} {held = held} {new_held = new_held} {more = more}
-    {new_table = new_table} {present = present} {wrong_code = wrong_code} more_room client number bytes h none opened next has_room le are most moves stays failed =
+    {new_table = new_table} {present = present} {wrong_code = wrong_code} client number bytes h none opened next has_room are most moves stays failed =
     let e : Entry = fault_entry client number (seen new).faults bytes (error_reply RC_DEVICE_FAULT) in
     let none = none_is wrong_code none in
     let holds = h.objects none in
@@ -433,7 +419,7 @@ holds_faulted seen {device = device} {new = new} {began = began} {history = hist
     let same_tables = tables_same tables client new_table stays.table_is in
     record {
       stands = stands_faulted history tables client number bytes (stands_with (seen device).base (seen device).state history tables held more are h.stands) tables_stand opened next moves stays.client h.journal.counts failed.0;
-      journal = journal-entry e h.journal moves.keeps.count refl refl (omega arith) whole has_room (frame_short (error_reply RC_DEVICE_FAULT) whole) le;
+      journal = journal-entry e h.journal moves.keeps.count refl refl (omega arith) whole has_room (frame_short (error_reply RC_DEVICE_FAULT) whole);
       objects = λ _. subst (λ (t : List (List (Option ℕ))). HeldHolds began (seen new).faults (history ++ e ∷ []) t new_held) same_tables
           (held_carried history e tables holds are refl opened inside moves (counted-fault began history e _ holds.counted moves.keeps.count failed.0 refl));
       answers = record { answer = no_answer (asked_of (seen new)) (last_of (seen new)) wrong_code none; right = λ _. right_none (asked_of (seen new)) (last_of (seen new)) failed.1; taken = λ _. none };
@@ -445,14 +431,14 @@ holds_faulted seen {device = device} {new = new} {began = began} {history = hist
 
 -- one after which a wrong answer came
 pub holds_wrong : {began : ℕ} {seen new_seen : Seen} {history : Entries} {limit : ℕ}
-    {tables tables_new : List (List (Option ℕ))} {held new_held : Held} {present room : ℕ} {wrong_code : Option ℕ} (more code : ℕ)
-    → Holds began seen history limit tables held present room wrong_code → length tables_new ≡ length tables → seen.faults ≤ new_seen.faults → present ≤ more
+    {tables tables_new : List (List (Option ℕ))} {held new_held : Held} {present : ℕ} {wrong_code : Option ℕ} (code : ℕ)
+    → Holds began seen history limit tables held present wrong_code → length tables_new ≡ length tables → seen.faults ≤ new_seen.faults
     → new_held.objects.slots ≡ held.objects.slots → length new_held.objects.items ≤ length history + 1 → length new_held.objects.items ≤ PLACES_MOST
     → IsWrongAnswer (asked_of new_seen) (last_of new_seen) code × (new_seen.state ≡ None)
-    → Holds began new_seen history limit tables_new new_held present more (Some code)
-holds_wrong {began = began} {new_seen = new_seen} {history = history} {limit = limit} {present = present} more code h same count le same_slots few placed answer = record {
+    → Holds began new_seen history limit tables_new new_held present (Some code)
+holds_wrong {began = began} {new_seen = new_seen} {history = history} {limit = limit} {present = present} code h same count same_slots few placed answer = record {
   stands = λ b slots is_base is_state. absurd (no_state new_seen.state slots answer.1 is_state);
-  journal = subst (λ (n : ℕ). JournalHolds history limit new_seen.faults n present more) (sym same) (journal-later h.journal count le);
+  journal = subst (λ (n : ℕ). JournalHolds history limit new_seen.faults n present) (sym same) (journal-later h.journal count);
   objects = λ none. absurd cc;
   answers = record {
     answer = answer.0;
@@ -480,56 +466,56 @@ with_items_is held roomier objects sessions = λ i. record { objects = sym objec
 
 -- the same of a table, and of what is held, that are known by themselves
 pub table_carried : {D : Type 0} (seen : D → Seen) {device new : D} {began : ℕ} {history : Entries} {limit : ℕ}
-    {tables : List (List (Option ℕ))} {held roomier new_held : Held} {table new_table : List (Option ℕ)} {present room : ℕ} {wrong_code : Option ℕ} (more : List Item) (more_room client number : ℕ) (pick : Pick) (bytes reply : List ℕ)
-    → Holds began (seen device) history limit tables held present room wrong_code
-    → is_some wrong_code ≡ false → IsOpen history client → IsNextNumber history client number → HasRoom limit history bytes → present ≤ more_room → AreMore held.objects.items more → length more ≤ PLACES_MOST
+    {tables : List (List (Option ℕ))} {held roomier new_held : Held} {table new_table : List (Option ℕ)} {present : ℕ} {wrong_code : Option ℕ} (more : List Item) (client number : ℕ) (pick : Pick) (bytes reply : List ℕ)
+    → Holds began (seen device) history limit tables held present wrong_code
+    → is_some wrong_code ≡ false → IsOpen history client → IsNextNumber history client number → HasRoom limit history bytes → AreMore held.objects.items more → length more ≤ PLACES_MOST
     → with_items held more ≡ roomier → table_of tables client ≡ table
     → Moves seen client device new roomier new_held table new_table
     → StepsAs (λ s. client_step client s bytes pick) (seen device).state (seen new).state roomier new_held table new_table reply
     → is_frame reply ≡ true → (new ≡ device) ⊎ IsRight (asked_of (seen new)) (last_of (seen new))
-    → Holds began (seen new) (history ++ command_entry client number pick bytes reply ∷ []) limit (set tables client new_table) new_held present more_room wrong_code
+    → Holds began (seen new) (history ++ command_entry client number pick bytes reply ∷ []) limit (set tables client new_table) new_held present wrong_code
 table_carried seen {device = device} {new = new} {began = began} {history = history} {limit = limit} {tables = tables} {held = held} {roomier = roomier} {new_held = new_held} {new_table = new_table}
-    {present = present} {wrong_code = wrong_code} more more_room client number pick bytes reply h none opened next has_room le are most is_held is =
+    {present = present} {wrong_code = wrong_code} more client number pick bytes reply h none opened next has_room are most is_held is =
     subst (λ (t : List (Option ℕ)). Moves seen client device new roomier new_held t new_table
     → StepsAs (λ s. client_step client s bytes pick) (seen device).state (seen new).state roomier new_held t new_table reply
     → is_frame reply ≡ true → (new ≡ device) ⊎ IsRight (asked_of (seen new)) (last_of (seen new))
-    → Holds began (seen new) (history ++ command_entry client number pick bytes reply ∷ []) limit (set tables client new_table) new_held present more_room wrong_code)
+    → Holds began (seen new) (history ++ command_entry client number pick bytes reply ∷ []) limit (set tables client new_table) new_held present wrong_code)
     is (subst (λ (r : Held). Moves seen client device new r new_held (table_of tables client) new_table
     → StepsAs (λ s. client_step client s bytes pick) (seen device).state (seen new).state r new_held (table_of tables client) new_table reply
     → is_frame reply ≡ true → (new ≡ device) ⊎ IsRight (asked_of (seen new)) (last_of (seen new))
-    → Holds began (seen new) (history ++ command_entry client number pick bytes reply ∷ []) limit (set tables client new_table) new_held present more_room wrong_code)
-    is_held (holds_carried seen more_room client number pick bytes reply h none opened next has_room le are most))
+    → Holds began (seen new) (history ++ command_entry client number pick bytes reply ∷ []) limit (set tables client new_table) new_held present wrong_code)
+    is_held (holds_carried seen client number pick bytes reply h none opened next has_room are most))
 
 pub table_faulted : {D : Type 0} (seen : D → Seen) {device new : D} {began : ℕ} {history : Entries} {limit : ℕ}
-    {tables : List (List (Option ℕ))} {held roomier new_held : Held} {table new_table : List (Option ℕ)} {present room : ℕ} {wrong_code : Option ℕ} (more : List Item) (more_room client number : ℕ) (bytes : List ℕ)
-    → Holds began (seen device) history limit tables held present room wrong_code
-    → is_some wrong_code ≡ false → IsOpen history client → IsNextNumber history client number → HasRoom limit history bytes → present ≤ more_room → AreMore held.objects.items more → length more ≤ PLACES_MOST
+    {tables : List (List (Option ℕ))} {held roomier new_held : Held} {table new_table : List (Option ℕ)} {present : ℕ} {wrong_code : Option ℕ} (more : List Item) (client number : ℕ) (bytes : List ℕ)
+    → Holds began (seen device) history limit tables held present wrong_code
+    → is_some wrong_code ≡ false → IsOpen history client → IsNextNumber history client number → HasRoom limit history bytes → AreMore held.objects.items more → length more ≤ PLACES_MOST
     → with_items held more ≡ roomier → table_of tables client ≡ table
     → Moves seen client device new roomier new_held table new_table
     → Stays (seen device).state (seen new).state roomier new_held table new_table
     → Rose (seen device).faults (seen new).faults × (last_of (seen new) ≡ None)
-    → Holds began (seen new) (history ++ fault_entry client number (seen new).faults bytes (error_reply RC_DEVICE_FAULT) ∷ []) limit tables new_held present more_room wrong_code
+    → Holds began (seen new) (history ++ fault_entry client number (seen new).faults bytes (error_reply RC_DEVICE_FAULT) ∷ []) limit tables new_held present wrong_code
 table_faulted seen {device = device} {new = new} {began = began} {history = history} {limit = limit} {tables = tables} {held = held} {roomier = roomier} {new_held = new_held} {new_table = new_table}
-    {present = present} {wrong_code = wrong_code} more more_room client number bytes h none opened next has_room le are most is_held is =
+    {present = present} {wrong_code = wrong_code} more client number bytes h none opened next has_room are most is_held is =
     subst (λ (t : List (Option ℕ)). Moves seen client device new roomier new_held t new_table
     → Stays (seen device).state (seen new).state roomier new_held t new_table
     → Rose (seen device).faults (seen new).faults × (last_of (seen new) ≡ None)
-    → Holds began (seen new) (history ++ fault_entry client number (seen new).faults bytes (error_reply RC_DEVICE_FAULT) ∷ []) limit tables new_held present more_room wrong_code)
+    → Holds began (seen new) (history ++ fault_entry client number (seen new).faults bytes (error_reply RC_DEVICE_FAULT) ∷ []) limit tables new_held present wrong_code)
     is (subst (λ (r : Held). Moves seen client device new r new_held (table_of tables client) new_table
     → Stays (seen device).state (seen new).state r new_held (table_of tables client) new_table
     → Rose (seen device).faults (seen new).faults × (last_of (seen new) ≡ None)
-    → Holds began (seen new) (history ++ fault_entry client number (seen new).faults bytes (error_reply RC_DEVICE_FAULT) ∷ []) limit tables new_held present more_room wrong_code)
-    is_held (holds_faulted seen more_room client number bytes h none opened next has_room le are most))
+    → Holds began (seen new) (history ++ fault_entry client number (seen new).faults bytes (error_reply RC_DEVICE_FAULT) ∷ []) limit tables new_held present wrong_code)
+    is_held (holds_faulted seen client number bytes h none opened next has_room are most))
 
 -- what a call on the machine may begin with
 pub table_now : {began : ℕ} {seen : Seen} {history : Entries} {limit : ℕ} {tables : List (List (Option ℕ))} {held : Held}
-    {present room : ℕ} {wrong_code : Option ℕ} (more : List Item) (client : ℕ) (table : List (Option ℕ)) → Holds began seen history limit tables held present room wrong_code
+    {present : ℕ} {wrong_code : Option ℕ} (more : List Item) (client : ℕ) (table : List (Option ℕ)) → Holds began seen history limit tables held present wrong_code
     → is_some wrong_code ≡ false → AreMore held.objects.items more → table_of tables client ≡ table → IsTable more client table
 table_now {history = history} {tables = tables} {held = held} {wrong_code = wrong_code} more client table h none are is =
     subst (λ (t : List (Option ℕ)). IsTable more client t) is ((more_tables (clients_of history).present tables held.objects.items more are (h.objects (none_is wrong_code none)).each).each client)
 
 pub moves_now : {D : Type 0} (seen : D → Seen) (device : D) {began : ℕ} {history : Entries} {limit : ℕ} {tables : List (List (Option ℕ))} {held roomier : Held}
-    {present room : ℕ} {wrong_code : Option ℕ} (more : List Item) → is_some (seen device).state ≡ is_some (seen device).base → Holds began (seen device) history limit tables held present room wrong_code
+    {present : ℕ} {wrong_code : Option ℕ} (more : List Item) → is_some (seen device).state ≡ is_some (seen device).base → Holds began (seen device) history limit tables held present wrong_code
     → AreMore held.objects.items more → with_items held more ≡ roomier → MayMove 2000 seen device roomier
 moves_now seen device {history = history} {tables = tables} {held = held} more same h are is_held =
     subst (λ (r : Held). MayMove 2000 seen device r) is_held (may_move seen device history tables held more same h.stands are (few-entries h.journal) h.slots_are)
@@ -540,6 +526,6 @@ are_more items more (inl same) = inl same
 are_more items more (inr longer) = inr longer.1
 
 pub few_more : {began : ℕ} {seen : Seen} {history : Entries} {limit : ℕ} {tables : List (List (Option ℕ))} {held : Held}
-    {present room : ℕ} {wrong_code : Option ℕ} (more : List Item) → Holds began seen history limit tables held present room wrong_code
+    {present : ℕ} {wrong_code : Option ℕ} (more : List Item) → Holds began seen history limit tables held present wrong_code
     → is_some wrong_code ≡ false → AreMore held.objects.items more → length more ≤ length history + 1
 few_more {held = held} {wrong_code = wrong_code} more h none are = omega (arith, (h.objects (none_is wrong_code none)).short, more_length held.objects.items more are)

@@ -73,9 +73,9 @@ below-without n P (m ∷ ms) all =
       | false ↦ (all.0, below-without n P ms all.1)
     ]
 
-pub journal-later : {history : List Entry} {limit faults faults_new opened present room more : ℕ} → JournalHolds history limit faults opened present room → faults ≤ faults_new → present ≤ more
-    → JournalHolds history limit faults_new opened present more
-journal-later {history = history} {faults = faults} {faults_new = faults_new} h count le = record {
+pub journal-later : {history : List Entry} {limit faults faults_new opened present : ℕ} → JournalHolds history limit faults opened present → faults ≤ faults_new
+    → JournalHolds history limit faults_new opened present
+journal-later {history = history} {faults = faults} {faults_new = faults_new} h count = record {
   counts = each-weaker (λ x. x.faults ≤ faults) (λ x. x.faults ≤ faults_new) history (λ x low. omega (arith, low, count)) h.counts;
   whole = h.whole;
   below = h.below;
@@ -86,12 +86,11 @@ journal-later {history = history} {faults = faults} {faults_new = faults_new} h 
   fewer = h.fewer;
   limited = h.limited;
   reserves = h.reserves;
-  closes = le;
 }
 
-pub journal-open : {history : List Entry} {limit faults opened present room more : ℕ} → JournalHolds history limit faults opened present room → HasRoomForClient limit history → present + 1 ≤ more
-    → JournalHolds (history ++ open_entry opened ∷ []) limit faults (opened + 1) (present + 1) more
-journal-open {history = history} {limit = limit} {faults = faults} {opened = opened} {present = present} h has_room le =
+pub journal-open : {history : List Entry} {limit faults opened present : ℕ} → JournalHolds history limit faults opened present → HasRoomForClient limit history
+    → JournalHolds (history ++ open_entry opened ∷ []) limit faults (opened + 1) (present + 1)
+journal-open {history = history} {limit = limit} {faults = faults} {opened = opened} {present = present} h has_room =
     let e : Entry = open_entry opened in
     let clients = clients_of-push history e in
     let present_new : (clients_of (history ++ e ∷ [])).present ≡ (clients_of history).present ++ opened ∷ [] = ap (λ c. c.present) clients in
@@ -109,15 +108,14 @@ journal-open {history = history} {limit = limit} {faults = faults} {opened = ope
       fewer = omega (arith, h.fewer);
       limited = h.limited;
       reserves = omega (arith, has_room.bytes, longer, kept-push history e);
-      closes = le;
     }
 
 -- the entry of a command, for which there was room
-pub journal-entry : {history : List Entry} {limit faults faults_new opened present room more : ℕ} (e : Entry) → JournalHolds history limit faults opened present room → faults ≤ faults_new
+pub journal-entry : {history : List Entry} {limit faults faults_new opened present : ℕ} (e : Entry) → JournalHolds history limit faults opened present → faults ≤ faults_new
     → present_by e.kind e.client (clients_of history).present ≡ (clients_of history).present → opened_by e.kind (clients_of history).opened ≡ (clients_of history).opened
-    → e.faults ≤ faults_new → IsWhole e.kind e.reply → HasRoom limit history e.command → length e.reply ≤ 4096 → present ≤ more
-    → JournalHolds (history ++ e ∷ []) limit faults_new opened present more
-journal-entry {history = history} {limit = limit} {faults = faults} {faults_new = faults_new} {opened = opened} e h count same_present same_opened low whole has_room short le =
+    → e.faults ≤ faults_new → IsWhole e.kind e.reply → HasRoom limit history e.command → length e.reply ≤ 4096
+    → JournalHolds (history ++ e ∷ []) limit faults_new opened present
+journal-entry {history = history} {limit = limit} {faults = faults} {faults_new = faults_new} {opened = opened} e h count same_present same_opened low whole has_room short =
     let clients = clients_of-push history e in
     let present_new : (clients_of (history ++ e ∷ [])).present ≡ (clients_of history).present = ap (λ c. c.present) clients ∙ same_present in
     let longer : length (clients_of (history ++ e ∷ [])).present ≡ length (clients_of history).present = ap length present_new in
@@ -132,12 +130,11 @@ journal-entry {history = history} {limit = limit} {faults = faults} {faults_new 
       fewer = h.fewer;
       limited = h.limited;
       reserves = omega (arith, has_room, longer, kept-push history e, short);
-      closes = le;
     }
 
-pub journal-close : {history : List Entry} {limit faults opened present room more : ℕ} (client : ℕ) → JournalHolds history limit faults opened present room → IsOpen history client → room ≤ more + 1
-    → JournalHolds (history ++ close_entry client ∷ []) limit faults opened (present - 1) more
-journal-close {history = history} {limit = limit} {faults = faults} {opened = opened} {present = present} client h is_open le =
+pub journal-close : {history : List Entry} {limit faults opened present : ℕ} (client : ℕ) → JournalHolds history limit faults opened present → IsOpen history client
+    → JournalHolds (history ++ close_entry client ∷ []) limit faults opened (present - 1)
+journal-close {history = history} {limit = limit} {faults = faults} {opened = opened} {present = present} client h is_open =
     let e : Entry = close_entry client in
     let clients = clients_of-push history e in
     let present_new : (clients_of (history ++ e ∷ [])).present ≡ without client (clients_of history).present = ap (λ c. c.present) clients in
@@ -153,9 +150,8 @@ journal-close {history = history} {limit = limit} {faults = faults} {opened = op
       fewer = omega (arith, h.fewer);
       limited = h.limited;
       reserves = omega (arith, h.reserves, shorter, kept-push history e);
-      closes = omega (arith, h.closes, le);
     }
 
 -- a journal has few entries
-pub few-entries : {history : List Entry} {limit faults opened present room : ℕ} → JournalHolds history limit faults opened present room → length history ≤ 2 ^ 52
+pub few-entries : {history : List Entry} {limit faults opened present : ℕ} → JournalHolds history limit faults opened present → length history ≤ 2 ^ 52
 few-entries {history = history} h = omega (arith, kept-least history, h.reserves, h.limited)

@@ -1,7 +1,7 @@
 -- What is seen of a broker, and what holds of each one.
 use Rattle.std.specs.Prelude.{◌≡◌, ◌<◌, ◌≤◌, ◌⊎◌, ℕ, ◌+◌, ◌^◌, ◌==◌, true, List, [], ◌∷◌, ◌++◌, length, set, Option, Some, None, IsSome, IfSome, Result, Ok, Err}
 use Rattle.std.specs.List.{AllByRecursion, count_by}
-use Rattle.tab_spec.specs.declared.TheConstants.{MOST_BYTES, RC_DEVICE_ANSWER, RC_DEVICE_FAULT, RC_JOURNAL_FULL, RC_MEMORY, OBJECT_SLOTS, RC_CANCELED}
+use Rattle.tab_spec.specs.declared.TheConstants.{MOST_BYTES, RC_DEVICE_ANSWER, RC_DEVICE_FAULT, RC_JOURNAL_FULL, OBJECT_SLOTS, RC_CANCELED}
 use Rattle.tab_spec.specs.declared.Admitted.{Admitted}
 use Rattle.tab_spec.specs.Count.{Rose, largest_count}
 use Rattle.tab_spec.specs.Admission.{Tables, client_admitted}
@@ -21,6 +21,7 @@ use Rattle.history_spec.specs.declared.TheConstants.{ENTRY_BYTES, SILENT_LIMIT}
 use Rattle.object_swap.specs.declared.TheConstants.{PLACES_MOST}
 use Rattle.history_spec.specs.declared.Pick.TheVariants.{Nothing}
 use Rattle.history_spec.specs.Entry.{Entry, HasRoom, LacksRoom, command_entry, fault_entry, clients_of, kept, reserved, canceled_entry}
+use Rattle.history_spec.specs.Told.{IsToldMemory}
 use Rattle.audit_journal.specs.Counts.{faults_in}
 use Rattle.audit_journal.specs.Journal.{JournalView}
 use Rattle.world_spec.specs.Legal.{Legal}
@@ -94,8 +95,8 @@ abbrev pub times_open : ℕ → List ℕ → ℕ
 times_open client present = count_by (λ other. other == client) present
 
 -- what holds of the journal, whatever the device is: how many clients were opened and are open, and the room that is kept for their
--- closes, within the limit and in memory
-pub record JournalHolds (history : List Entry) (limit faults opened present room : ℕ) : Type 0 where
+-- closes within the limit
+pub record JournalHolds (history : List Entry) (limit faults opened present : ℕ) : Type 0 where
   pub counts : AllByRecursion (λ e. e.faults ≤ faults) history
   pub whole : AreWhole history
   pub below : AllByRecursion (λ client. client < opened) (clients_of history).present
@@ -106,7 +107,6 @@ pub record JournalHolds (history : List Entry) (limit faults opened present room
   pub fewer : present ≤ opened
   pub limited : limit ≤ SILENT_LIMIT
   pub reserves : reserved history ≤ limit
-  pub closes : present ≤ room
 
 -- what holds of the objects and the sessions, where no wrong answer came
 pub record HeldHolds (began faults : ℕ) (history : List Entry) (tables : List (List (Option ℕ))) (held : Held) : Type 0 where
@@ -128,9 +128,9 @@ pub record AnswersHold (seen : Seen) (wrong_code : Option ℕ) : Type 0 where
   pub taken : IsSome seen.state → wrong_code ≡ None
 
 -- what holds of each broker, with what its device tells
-pub record Holds (began : ℕ) (seen : Seen) (history : List Entry) (limit : ℕ) (tables : List (List (Option ℕ))) (held : Held) (present room : ℕ) (wrong_code : Option ℕ) : Type 0 where
+pub record Holds (began : ℕ) (seen : Seen) (history : List Entry) (limit : ℕ) (tables : List (List (Option ℕ))) (held : Held) (present : ℕ) (wrong_code : Option ℕ) : Type 0 where
   pub stands : StandsFor seen.base seen.state history tables held
-  pub journal : JournalHolds history limit seen.faults (length tables) present room
+  pub journal : JournalHolds history limit seen.faults (length tables) present
   pub objects : wrong_code ≡ None → HeldHolds began seen.faults history tables held
   pub answers : AnswersHold seen wrong_code
   pub faulted : FaultsCounted began seen.faults history 0
@@ -148,16 +148,14 @@ seen_by b client = tables_seen client (table_of b.tables client) b.held.sessions
 abbrev pub checked : {D : Type 0} → BrokerView D → ℕ → List ℕ → Result Admitted ℕ
 checked b client bytes = client_admitted (seen_by b client) bytes
 
--- the journal can take the entry of this command with the largest reply: there is room in memory and within its limit
-pub record IsReadyFor (journal : JournalView) (command : List ℕ) : Type 0 where
-  pub room : 0 < journal.room
-  pub byte_room : length command + MOST_BYTES ≤ journal.byte_room
-  pub within : kept journal.entries + ENTRY_BYTES + length command + MOST_BYTES ≤ journal.limit
+-- the journal can take the entry of this command with the largest reply
+abbrev pub IsReadyFor : JournalView → List ℕ → Type 0
+IsReadyFor journal command = kept journal.entries + ENTRY_BYTES + length command + MOST_BYTES ≤ journal.limit
 
 -- what a client is told where there is no room for the entry of its command
 abbrev pub TellsNoRoom : Told → (limit : ℕ) (history : List Entry) (bytes reply : List ℕ) → Type 0
 TellsNoRoom tolds.Entered limit history bytes reply = ⊥
-TellsNoRoom tolds.Memory limit history bytes reply = HasRoom limit history bytes × (reply ≡ error_reply RC_MEMORY)
+TellsNoRoom tolds.Memory limit history bytes reply = ⊥
 TellsNoRoom (tolds.JournalFull count most) limit history bytes reply =
     LacksRoom limit history bytes × (reply ≡ error_reply RC_JOURNAL_FULL) × (count ≡ kept history) × (most ≡ limit)
 TellsNoRoom tolds.Answer limit history bytes reply = ⊥
@@ -212,7 +210,7 @@ pub record IsFull {D : Type 0} (old new : BrokerView D) (bytes reply : List ℕ)
 -- what a client is told, and what becomes of the broker
 abbrev pub Tells : {D : Type 0} (seen : D → Seen) → Told → (old new : BrokerView D) (client number : ℕ) (bytes reply : List ℕ) → Type 0
 Tells seen tolds.Entered old new client number bytes reply = IsEntered seen old new client number bytes reply
-Tells seen tolds.Memory old new client number bytes reply = (new ≡ old) × (reply ≡ error_reply RC_MEMORY) × HasRoom old.limit old.journal bytes
+Tells seen tolds.Memory old new client number bytes reply = (new ≡ old) × IsToldMemory bytes reply × HasRoom old.limit old.journal bytes
 Tells seen (tolds.JournalFull count limit) old new client number bytes reply = IsFull old new bytes reply count limit
 Tells seen tolds.Answer old new client number bytes reply = (new.journal ≡ old.journal) × (reply ≡ error_reply RC_DEVICE_ANSWER) × (new.tables ≡ old.tables)
 
@@ -233,7 +231,7 @@ pub record IsCanceled {D : Type 0} (old new : BrokerView D) (client number upto 
 -- what a client is told of a command that it canceled, and what becomes of the broker
 abbrev pub TellsCanceled : {D : Type 0} → Told → (old new : BrokerView D) (client number upto : ℕ) (bytes reply : List ℕ) → Type 0
 TellsCanceled tolds.Entered old new client number upto bytes reply = IsCanceled old new client number upto bytes reply
-TellsCanceled tolds.Memory old new client number upto bytes reply = (new ≡ old) × (reply ≡ error_reply RC_MEMORY) × HasRoom old.limit old.journal bytes
+TellsCanceled tolds.Memory old new client number upto bytes reply = ⊥
 TellsCanceled (tolds.JournalFull count limit) old new client number upto bytes reply = IsFull old new bytes reply count limit
 TellsCanceled tolds.Answer old new client number upto bytes reply = (new ≡ old) × (reply ≡ error_reply RC_DEVICE_ANSWER)
 

@@ -1,8 +1,8 @@
 ghost use Rattle.std.specs.Prelude.{IsTrue};
-ghost use Rattle.std.specs.Prelude.{◌≡◌, true, false, ◌≤◌, ◌<◌, ◌+◌, ◌↔◌, ◌⊎◌, ℕ, [], ◌∷◌, ◌++◌};
+ghost use Rattle.std.specs.Prelude.{◌≡◌, true, false, ◌≤◌, ◌<◌, ◌+◌, ◌↔◌, ℕ, [], ◌∷◌, ◌++◌};
 ghost use Rattle.std.specs.Prelude.{Some, None, Ok, Err, length, set};
 ghost use Rattle.std.specs.Prelude.{IsSome, IsSomeAnd, IfOk, IfErr, OnOk, OnErr, IfSome};
-ghost use Rattle.tab_spec.specs.declared.TheConstants.{MOST_BYTES, RC_CANCELED, RC_DEVICE_FAULT};
+ghost use Rattle.tab_spec.specs.declared.TheConstants.{RC_CANCELED, RC_DEVICE_FAULT};
 ghost use Rattle.tab_spec.specs.Commands.{startup_command};
 ghost use Rattle.tab_spec.specs.Reply.{error_reply};
 ghost use Rattle.device_spec.specs.Answers.{IsWrongAnswer, takes};
@@ -11,8 +11,7 @@ ghost use Rattle.session_swap.specs.Items.{no_items};
 ghost use Rattle.client_machine.specs.Dropping.{AreLeftByFaults, KeepsOthers};
 ghost use Rattle.client_machine.specs.Settled.{orphan_count};
 ghost use Rattle.device_spec.specs.Slots.{held};
-ghost use Rattle.history_spec.specs.declared.TheConstants.{ENTRY_BYTES};
-ghost use Rattle.history_spec.specs.declared.TheConstants.{MOST_CLIENTS, SILENT_LIMIT};
+ghost use Rattle.history_spec.specs.declared.TheConstants.{ENTRY_BYTES, SILENT_LIMIT};
 ghost use Rattle.history_spec.specs.Entry.{open_entry, close_entry, canceled_entry, command_entry};
 ghost use Rattle.history_spec.specs.Entry.{fault_entry, clients_of, HasRoom, HasRoomForClient};
 ghost use Rattle.history_spec.specs.Entry.{IsLimit};
@@ -38,7 +37,7 @@ use device_port::{Device, SwapError, takes};
 use history_spec::{EntryKind, MOST_CLIENTS, Pick};
 use object_swap::Objects;
 use session_swap::Sessions;
-use std::alloc::{AllocError, Global};
+use std::alloc::Global;
 use std::marker::Model;
 use tab_bytes::Buffer;
 use tab_spec::{
@@ -96,7 +95,7 @@ impl<D: Device> Model for Broker<D> {
     // The tables that are kept are those of the open clients.
     ghost invariant = { λ b.
         Holds b.began (D.seen b.machine.device) b.journal.entries b.journal.limit
-        b.tables.items b.machine.held b.present b.journal.room b.wrong_code
+        b.tables.items b.machine.held b.present b.wrong_code
         × (b.tables.present ≡ (clients_of b.journal.entries).present) };
 }
 
@@ -107,40 +106,24 @@ fn is_started(response: &[u8]) -> bool
     takes(&STARTUP, response, false, false)
 }
 
-// Takes room for the entry of a command with the largest reply, and for the close of each open
-// client. Where there is none, the client is told so. The journal's entries stay.
-fn take_room(
-    journal: &mut Journal,
-    present: u64,
-    bytes: &[u8],
-    reply: &mut Buffer,
-) -> Result<(), Told>
-    requires present { present ≡ length (clients_of journal.old.entries).present }
-    requires most { journal.old.limit ≤ SILENT_LIMIT }
-    ensures ok { OnOk result (HasRoom journal.old.limit journal.old.entries bytes.now
-        × IsReadyFor journal.new bytes.now × (present < journal.new.room)) }
+// Whether the journal has room for the entry of a command with the largest reply, and for the close
+// of each open client. Where there is none, the client is told so.
+fn find_room(journal: &Journal, present: u64, bytes: &[u8], reply: &mut Buffer) -> Result<(), Told>
+    requires present { present ≡ length (clients_of journal.now.entries).present }
+    requires most { journal.now.limit ≤ SILENT_LIMIT }
+    ensures ok { OnOk result (HasRoom journal.now.limit journal.now.entries bytes.now
+        × IsReadyFor journal.now bytes.now) }
     ensures err { IfErr result (λ told.
-        TellsNoRoom told journal.old.limit journal.old.entries bytes.now reply.new) }
-    // Want of memory is told only where the journal had to grow.
-    ensures grows { result ≡ Err tolds.Memory → (journal.old.room < present + 1)
-        ⊎ (journal.old.byte_room < length bytes.now + MOST_BYTES) }
-    ensures same { journal.new.entries ≡ journal.old.entries }
-    ensures limit { journal.new.limit ≡ journal.old.limit }
-    ensures room { journal.old.room ≤ journal.new.room }
+        TellsNoRoom told journal.now.limit journal.now.entries bytes.now reply.new) }
 {
-    if !journal.room(bytes.len() as u64, present) {
-        tab_wire::error_reply(RC_JOURNAL_FULL, reply);
-        return Err(Told::JournalFull {
-            kept: journal.kept(),
-            limit: journal.limit(),
-        });
+    if journal.room(bytes.len() as u64, present) {
+        return Ok(());
     }
-    let entries = present as usize + 1;
-    if journal.reserve(entries, bytes.len() + 4096).is_err() {
-        tab_wire::error_reply(RC_MEMORY, reply);
-        return Err(Told::Memory);
-    }
-    Ok(())
+    tab_wire::error_reply(RC_JOURNAL_FULL, reply);
+    Err(Told::JournalFull {
+        kept: journal.kept(),
+        limit: journal.limit(),
+    })
 }
 
 // Whether the journal has room for one more client, and there is a number left for it.
@@ -153,26 +136,6 @@ fn has_room_for_client(journal: &Journal, present: u64, opened: u32) -> bool
         return false;
     }
     journal.room_for_client(present)
-}
-
-// Takes memory for one more client: for the entry of its opening and the close of each client that
-// is open then, and for its table. It fails only where one of these had to grow.
-fn take_room_for_client(
-    journal: &mut Journal,
-    tables: &mut ClientTables,
-    present: u64,
-) -> Result<(), AllocError>
-    requires present { present < MOST_CLIENTS }
-    ensures ok { OnOk result ((present + 2 ≤ journal.new.room) × (1 ≤ tables.new.spare)) }
-    ensures grows { OnErr result ((journal.old.room < present + 2) ⊎ (tables.old.spare ≡ 0)) }
-    ensures same { journal.new.entries ≡ journal.old.entries }
-    ensures limit { journal.new.limit ≡ journal.old.limit }
-    ensures room { journal.old.room ≤ journal.new.room }
-    ensures items { tables.new.items ≡ tables.old.items }
-    ensures present { tables.new.present ≡ tables.old.present }
-{
-    journal.reserve(present as usize + 2, 0)?;
-    tables.reserve()
 }
 
 // Tells a client the code with which its command is refused, and adds the entry.
@@ -188,7 +151,6 @@ fn enter_refusal(
     ensures reply { reply.new ≡ error_reply code }
     ensures entered { journal.new.entries ≡ journal.old.entries
         ++ command_entry client number Nothing bytes.now reply.new ∷ [] }
-    ensures room { journal.old.room ≤ journal.new.room + 1 }
     ensures limit { journal.new.limit ≡ journal.old.limit }
 {
     tab_wire::error_reply(code, reply);
@@ -219,7 +181,6 @@ fn enter_reply(
     ensures entered { journal.new.entries ≡ journal.old.entries
         ++ command_entry client number (moves.pick_of admitted.now reply.now)
         bytes.now reply.now ∷ [] }
-    ensures room { journal.old.room ≤ journal.new.room + 1 }
     ensures limit { journal.new.limit ≡ journal.old.limit }
 {
     journal.push(&Entry {
@@ -247,7 +208,6 @@ fn enter_fault(
     ensures reply { reply.new ≡ error_reply RC_DEVICE_FAULT }
     ensures entered { journal.new.entries ≡ journal.old.entries
         ++ fault_entry client number faults bytes.now reply.new ∷ [] }
-    ensures room { journal.old.room ≤ journal.new.room + 1 }
     ensures limit { journal.new.limit ≡ journal.old.limit }
 {
     tab_wire::error_reply(RC_DEVICE_FAULT, reply);
@@ -275,7 +235,6 @@ fn enter_canceled(
     ensures reply { reply.new ≡ error_reply RC_CANCELED }
     ensures entered { journal.new.entries ≡ journal.old.entries
         ++ canceled_entry client number upto bytes.now reply.new ∷ [] }
-    ensures room { journal.old.room ≤ journal.new.room + 1 }
     ensures limit { journal.new.limit ≡ journal.old.limit }
 {
     tab_wire::error_reply(RC_CANCELED, reply);
@@ -292,10 +251,8 @@ fn enter_canceled(
 
 // Adds the entry of a client's close, for which the journal has room.
 fn enter_close(journal: &mut Journal, client: u32)
-    requires room { 0 < journal.old.room }
-    requires within { kept journal.old.entries + ENTRY_BYTES ≤ journal.old.limit }
+    requires { kept journal.old.entries + ENTRY_BYTES ≤ journal.old.limit }
     ensures entered { journal.new.entries ≡ journal.old.entries ++ close_entry client ∷ [] }
-    ensures room { journal.old.room ≤ journal.new.room + 1 }
     ensures limit { journal.new.limit ≡ journal.old.limit }
 {
     journal.push(&Entry {
@@ -311,7 +268,8 @@ fn enter_close(journal: &mut Journal, client: u32)
 
 impl<D: Device> Broker<D> {
     /// Starts the device, and keeps an empty journal of at most so many bytes, 8,192 to
-    /// 1,073,741,824, or one that only counts its entries, with the limit 2^58. An error hands the
+    /// 1,073,741,824, or one that only counts its entries, with the limit 2^58. The memory of the
+    /// journal and of the sessions is taken here, before anything is sent. An error hands the
     /// device back.
     pub fn begin(alloc: Global, device: D, limit: u64) -> Result<Broker<D>, (BeginError, D)>
         requires at_base { IsAtBase (D.seen device).base (D.seen device).state }
@@ -332,6 +290,9 @@ impl<D: Device> Broker<D> {
     {
         let mut device = device;
         let began = device.fault_count();
+        let Ok(journal) = Journal::new(alloc, limit) else {
+            return Err((BeginError::Memory, device));
+        };
         let Ok(objects) = Objects::new(alloc, OBJECT_SLOTS as u8) else {
             return Err((BeginError::Memory, device));
         };
@@ -359,7 +320,7 @@ impl<D: Device> Broker<D> {
                 translated,
                 scratch,
             },
-            journal: Journal::new(alloc, limit),
+            journal,
             tables: ClientTables::new(alloc),
             present: 0,
             wrong_code: None,
@@ -392,7 +353,7 @@ impl<D: Device> Broker<D> {
                 limit: self.journal.limit(),
             });
         }
-        if take_room_for_client(&mut self.journal, &mut self.tables, self.present).is_err() {
+        if self.tables.reserve().is_err() {
             return Err(OpenClientError::Memory);
         }
         let client = self.tables.open();
@@ -412,7 +373,8 @@ impl<D: Device> Broker<D> {
     /// Runs a client's command, and writes what the client is told over whatever `reply` holds. The
     /// number counts the client's commands from 1. The handles of objects are the client's own
     /// (Part 1, "Handles"). Other clients see nothing of a command but what it changes of what all
-    /// share; after a wrong answer each command of any client is told so.
+    /// share; after a wrong answer each command of any client is told so. Memory may lack only for
+    /// the object that a command makes: no other command takes any.
     pub fn command(&mut self, client: u32, number: u64, bytes: &[u8], reply: &mut Buffer) -> Told
         requires present { IsOpen self.old.journal client }
         requires number { IsNextNumber self.old.journal client number }
@@ -433,7 +395,7 @@ impl<D: Device> Broker<D> {
             tab_wire::error_reply(RC_DEVICE_ANSWER, reply);
             return Told::Answer;
         }
-        if let Err(told) = take_room(&mut self.journal, self.present, bytes, reply) {
+        if let Err(told) = find_room(&self.journal, self.present, bytes, reply) {
             return told;
         }
         let seen = Seen {
@@ -474,7 +436,7 @@ impl<D: Device> Broker<D> {
     /// Answers a client's command that was canceled before it ran (0x909, `TPM_RC_CANCELED`), and
     /// writes what the client is told over whatever `reply` holds. `upto` is the number up to which
     /// the client canceled its commands. The device isn't asked, and nothing changes but the
-    /// journal.
+    /// journal. It takes no memory.
     pub fn cancel(
         &mut self,
         client: u32,
@@ -497,7 +459,7 @@ impl<D: Device> Broker<D> {
             tab_wire::error_reply(RC_DEVICE_ANSWER, reply);
             return Told::Answer;
         }
-        if let Err(told) = take_room(&mut self.journal, self.present, bytes, reply) {
+        if let Err(told) = find_room(&self.journal, self.present, bytes, reply) {
             return told;
         }
         enter_canceled(&mut self.journal, client, number, upto, bytes, reply);

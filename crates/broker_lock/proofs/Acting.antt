@@ -61,7 +61,7 @@ adds known before after fixed (jobs.Cancel client number upto) bytes (dones.Told
   entered = does.entered;
   may = one_entry (canceled_entry client number upto bytes reply) may.0.client_known;
 }
-adds known before after fixed (jobs.Cancel client number upto) bytes (dones.Told tolds.Memory) reply does may = adds_nothing known before after does.0
+adds known before after fixed (jobs.Cancel client number upto) bytes (dones.Told tolds.Memory) reply does may = absurd does
 adds known before after fixed (jobs.Cancel client number upto) bytes (dones.Told (tolds.JournalFull count most)) reply does may = adds_nothing known before after does.same
 adds known before after fixed (jobs.Cancel client number upto) bytes (dones.Told tolds.Answer) reply does may = adds_nothing known before after does.0
 adds known before after fixed (jobs.Close client) bytes (dones.Closed closed) reply does may =

@@ -1,9 +1,10 @@
 -- What each call of a value under a lock answers and enters, by the history before it and the history after it.
 use Rattle.std.specs.Prelude.{◌≡◌, ◌≤◌, ◌⊎◌, ℕ, List, [], ◌∷◌, ◌++◌, Result, Ok, Err}
 use Rattle.tab_spec.specs.Count.{Rose}
-use Rattle.tab_spec.specs.declared.TheConstants.{RC_CANCELED, RC_DEVICE_ANSWER, RC_DEVICE_FAULT, RC_JOURNAL_FULL, RC_MEMORY}
+use Rattle.tab_spec.specs.declared.TheConstants.{RC_CANCELED, RC_DEVICE_ANSWER, RC_DEVICE_FAULT, RC_JOURNAL_FULL}
 use Rattle.tab_spec.specs.Reply.{error_reply}
 use Rattle.history_spec.specs.Entry.{Entry, HasRoom, HasRoomForClient, LacksRoom, canceled_entry, clients_of, close_entry, command_entry, fault_entry, kept, open_entry}
+use Rattle.history_spec.specs.Told.{IsToldMemory}
 use Rattle.broker_lock.specs.declared.calls.Closed.{Closed}
 use Rattle.broker_lock.specs.declared.calls.Closed.TheVariants as closes
 use Rattle.broker_lock.specs.declared.calls.OpenClientError.{OpenClientError}
@@ -63,7 +64,7 @@ pub record IsFull (limit : ℕ) (before after : List Entry) (bytes reply : List 
 
 abbrev pub Tells : Fixed → List Entry → List Entry → (client number : ℕ) (bytes reply : List ℕ) → Told → Type 0
 Tells fixed before after client number bytes reply tolds.Entered = IsEntered fixed before after client number bytes reply
-Tells fixed before after client number bytes reply tolds.Memory = (after ≡ before) × (reply ≡ error_reply RC_MEMORY) × HasRoom fixed.limit before bytes
+Tells fixed before after client number bytes reply tolds.Memory = (after ≡ before) × IsToldMemory bytes reply × HasRoom fixed.limit before bytes
 Tells fixed before after client number bytes reply (tolds.JournalFull count most) = IsFull fixed.limit before after bytes reply count most
 Tells fixed before after client number bytes reply tolds.Answer = (after ≡ before) × (reply ≡ error_reply RC_DEVICE_ANSWER) × IsUntold fixed
 
@@ -73,9 +74,10 @@ pub record IsCanceled (limit : ℕ) (before after : List Entry) (client number u
   pub reply_is : reply ≡ error_reply RC_CANCELED
   pub room : HasRoom limit before bytes
 
+-- it takes no memory
 abbrev pub TellsCanceled : Fixed → List Entry → List Entry → (client number upto : ℕ) (bytes reply : List ℕ) → Told → Type 0
 TellsCanceled fixed before after client number upto bytes reply tolds.Entered = IsCanceled fixed.limit before after client number upto bytes reply
-TellsCanceled fixed before after client number upto bytes reply tolds.Memory = (after ≡ before) × (reply ≡ error_reply RC_MEMORY) × HasRoom fixed.limit before bytes
+TellsCanceled fixed before after client number upto bytes reply tolds.Memory = ⊥
 TellsCanceled fixed before after client number upto bytes reply (tolds.JournalFull count most) = IsFull fixed.limit before after bytes reply count most
 TellsCanceled fixed before after client number upto bytes reply tolds.Answer = (after ≡ before) × (reply ≡ error_reply RC_DEVICE_ANSWER) × IsUntold fixed
 

@@ -17,7 +17,7 @@ pub enum OpenClientError {
 pub enum Told {
     /// It has an entry, with that reply.
     Entered,
-    /// There was no memory, and nothing was sent (`RC_MEMORY`).
+    /// There was no memory for the object that it makes, and nothing was sent (`RC_MEMORY`).
     Memory,
     /// The journal has no room for it, and nothing was sent (`RC_JOURNAL_FULL`): the bytes that
     /// the journal keeps, and its limit.

@@ -74,8 +74,7 @@ pub canceled : {D : Type 0} (result : Told) (old new : BrokerView D) (client num
     → TellsCanceled result old new client number upto bytes reply → IsDriven old.journal closed opened number → IsDriven new.journal closed opened (number + 1)
 canceled tolds.Entered old new client number upto bytes reply {closed} {opened} t d =
     subst (λ (v : BrokerView _). IsDriven v.journal closed opened (number + 1)) (sym t.same) (plain old.journal (canceled_entry client number upto bytes reply) refl refl d)
-canceled tolds.Memory old new client number upto bytes reply {closed} {opened} t d =
-    subst (λ (v : BrokerView _). IsDriven v.journal closed opened (number + 1)) (sym t.0) (more old.journal d)
+canceled tolds.Memory old new client number upto bytes reply {closed} {opened} t d = absurd t
 canceled (tolds.JournalFull count limit) old new client number upto bytes reply {closed} {opened} t d =
     subst (λ (v : BrokerView _). IsDriven v.journal closed opened (number + 1)) (sym t.same) (more old.journal d)
 canceled tolds.Answer old new client number upto bytes reply {closed} {opened} t d =

@@ -284,7 +284,7 @@ canceled_as fixed before after added client number upto command reply tolds.Ente
         room = tells.room;
       },
     )
-canceled_as fixed before after added client number upto command reply tolds.Memory covers front tells = inl (nothing_added before after added front tells.0)
+canceled_as fixed before after added client number upto command reply tolds.Memory covers front tells = absurd tells
 canceled_as fixed before after added client number upto command reply (tolds.JournalFull count most) covers front tells = inl (nothing_added before after added front tells.same)
 canceled_as fixed before after added client number upto command reply tolds.Answer covers front tells = inl (nothing_added before after added front tells.0)
 
@@ -352,8 +352,7 @@ pub told_canceled : (fixed : Fixed) (before after : List Entry) (client number u
 told_canceled fixed before after client number upto command reply tolds.Entered there tells =
     let found = found_canceled fixed.limit before after client number upto command reply there tells in
     inl (subst (λ (o : Option Entry). ToldBy o fixed.limit (part_before client number after) command reply) (sym found) (record { command_is = refl; reply_is = refl }))
-told_canceled fixed before after client number upto command reply tolds.Memory there tells =
-    told_nothing fixed before after client number command reply tells.0 (inl (told_without fixed.limit client number before command reply there (inl tells.1)))
+told_canceled fixed before after client number upto command reply tolds.Memory there tells = absurd tells
 told_canceled fixed before after client number upto command reply (tolds.JournalFull count most) there tells =
     told_nothing fixed before after client number command reply tells.same
     (inl (told_without fixed.limit client number before command reply there (inr (record { reply_is = tells.reply_is; lacks = tells.lacks }))))
@@ -402,7 +401,7 @@ decides_canceled : (fixed : Fixed) (before after : List Entry) (client number wo
     → TellsCanceled fixed before after client number word command reply told → Decides after client number word
 decides_canceled fixed before after client number word command reply tolds.Entered is there tells =
     decides_one after client number word (canceled_entry client number word command reply) (found_canceled fixed.limit before after client number word command reply there tells) (sym (covers_it number word is))
-decides_canceled fixed before after client number word command reply tolds.Memory is there tells = unentered_as before after client number word tells.0 there
+decides_canceled fixed before after client number word command reply tolds.Memory is there tells = absurd tells
 decides_canceled fixed before after client number word command reply (tolds.JournalFull count most) is there tells = unentered_as before after client number word tells.same there
 decides_canceled fixed before after client number word command reply tolds.Answer is there tells = unentered_as before after client number word tells.0 there
 

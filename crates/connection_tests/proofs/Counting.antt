@@ -1,10 +1,9 @@
 -- The counts of the tests' value, after one more entry.
-use Rattle.std.proofs.Common.{◌≡◌, ℕ, ◌+◌, ◌-◌, ◌*◌, ◌^◌, ◌<◌, ◌≤◌, Bool, true, false, cond, eqb, true≢false, List, [], ◌∷◌, ◌++◌, length, map, Some, None, Result, Ok, Err, refl, sym, ap, ◌∙◌, subst, arith, length-append, inl}
+use Rattle.std.proofs.Common.{◌≡◌, ℕ, ◌+◌, ◌-◌, ◌*◌, ◌^◌, ◌<◌, ◌≤◌, Bool, true, false, cond, eqb, List, [], ◌∷◌, ◌++◌, length, map, Some, None, refl, sym, ap, ◌∙◌, subst, arith, length-append, inl}
 use Rattle.std.specs.Prelude.{◌==◌, ◌||◌, not}
 use Rattle.std.specs.Str.{bytes_eq}
 use Rattle.std.proofs.lemmas.Slice.Eq.{bytes_eq-Decides}
 use Rattle.std.specs.List.{list_any}
-use Rattle.std.specs.Result.{OnOk, is_err}
 use Rattle.std.proofs.lemmas.List.{map_push}
 use Rattle.std.proofs.lemmas.List.Sums.{sum_by_push}
 use Rattle.tab_spec.specs.declared.TheConstants.{RC_CANCELED}
@@ -98,10 +97,6 @@ pub counted_with : {X : Type 0} (f : X → Entry) (old between new : List X) (x 
     → IsCounted (map f old ++ f x ∷ []) opened present bytes limit → IsCounted (map f new) opened present bytes limit
 counted_with f old between new x opened present bytes limit pushed same counted =
     subst (λ (l : List Entry). IsCounted l opened present bytes limit) (sym (ap (map f) (pushed ∙ ap (λ l. l ++ x ∷ []) same) ∙ map_push f old x)) counted
-
-pub from_ok : {A E : Type 0} (r : Result A E) (P : Type 0) → OnOk r P → is_err r ≡ false → P
-from_ok (Ok x) P p e = p
-from_ok (Err x) P p e = absurd (true≢false e)
 
 -- a command that isn't refused is the one that is known
 pub is_asked : (refused : Bool) (bytes known : List ℕ) → refused ≡ not (bytes_eq bytes known) → refused ≡ false → known ≡ asked → bytes ≡ asked

@@ -99,7 +99,7 @@ fn serve_links<G: Gate, R: Threads + Wait + Clock + Sync>(
 ) -> Result<Outcome, AllocError> {
     let mut acceptor = MemoryAcceptor::new(links_of(alloc, count)?, failing.to_vec(alloc)?);
     let value = WatchedBook {
-        book: Book::new(alloc, 1_000_000),
+        book: Book::new(alloc, 1_000_000)?,
         watch,
     };
     let Served {

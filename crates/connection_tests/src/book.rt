@@ -1,14 +1,14 @@
 //! The value of the tests: it keeps a history in memory, and there is no device.
 
-ghost use Rattle.std.specs.Prelude.{◌≡◌, ◌≤◌, [], ◌++◌, ◌∷◌, length};
+ghost use Rattle.std.specs.Prelude.{◌≡◌, ◌≤◌, [], ◌++◌, ◌∷◌, length, IfOk};
 ghost use Rattle.connection_tests.specs.Book.{answer};
 
 use broker_lock::{Closed, OpenClientError, Recorded, Serves, Told};
 use history_spec::{ENTRY_BYTES, EntryKind};
-use std::alloc::Global;
+use std::alloc::{AllocError, Global};
 use std::marker::Model;
 use tab_bytes::Buffer;
-use tab_spec::{RC_CANCELED, RC_DEVICE_ANSWER, RC_JOURNAL_FULL, RC_MEMORY};
+use tab_spec::{RC_CANCELED, RC_DEVICE_ANSWER, RC_JOURNAL_FULL};
 use tab_wire::error_reply;
 
 /// GetRandom of eight bytes (Part 3, "TPM2_GetRandom").
@@ -40,7 +40,7 @@ pub struct Book {
 }
 
 impl Model for Book {
-    ghost use Rattle.std.specs.Prelude.{◌+◌, ◌≤◌, map, vec_capacity, vec_len};
+    ghost use Rattle.std.specs.Prelude.{◌*◌, ◌<◌, ◌≤◌, map, vec_capacity, vec_len};
     ghost use Rattle.connection_tests.specs.Book.{BookView, IsCounted, book_entry};
 
     ghost Value = { BookView };
@@ -50,11 +50,11 @@ impl Model for Book {
       limit = b.limit;
     } };
 
-    // There is room for the Close of each open client.
+    // There is room for as many entries as the limit allows.
     ghost invariant = { λ b. IsCounted
         (map (λ i. book_entry i.client i.number i.kind i.place) b.items.items)
         b.opened b.present b.bytes b.limit
-        × (vec_len b.items + b.present ≤ vec_capacity b.items) };
+        × (64 * vec_len b.items ≤ b.bytes) × (b.limit < 64 * vec_capacity b.items) };
 }
 
 // Writes the reply that ends with this byte, over whatever the buffer holds.
@@ -69,17 +69,19 @@ fn write_answer(place: u8, reply: &mut Buffer)
 }
 
 impl Book {
-    pub fn new(alloc: Global, limit: u32) -> Book
-        ensures empty { result.entries ≡ [] }
-        ensures limit { result.limit ≡ limit }
+    /// An empty history, which takes all its memory here.
+    pub fn new(alloc: Global, limit: u32) -> Result<Book, AllocError>
+        ensures empty { IfOk result (λ b. b.entries ≡ []) }
+        ensures limit { IfOk result (λ b. b.limit ≡ limit) }
     {
-        Book {
-            items: Vec::new(alloc),
+        let most = limit as usize / ENTRY_BYTES as usize + 1;
+        Ok(Book {
+            items: Vec::with_capacity(alloc, most)?,
             opened: 0,
             present: 0,
             bytes: 0,
             limit,
-        }
+        })
     }
 
     pub fn items(&self) -> &[Item] {
@@ -133,9 +135,6 @@ impl Serves for Book {
                 limit: u64::from(self.limit),
             });
         }
-        if self.items.reserve(self.present as usize + 2).is_err() {
-            return Err(OpenClientError::Memory);
-        }
         let client = self.opened;
         self.items.push_reserved(Item {
             client,
@@ -161,10 +160,6 @@ impl Serves for Book {
                 kept: self.bytes,
                 limit: u64::from(self.limit),
             };
-        }
-        if self.items.reserve(self.present as usize + 1).is_err() {
-            error_reply(RC_MEMORY, reply);
-            return Told::Memory;
         }
         let place = (self.items.len() % 256) as u8;
         self.items.push_reserved(Item {
@@ -197,10 +192,6 @@ impl Serves for Book {
                 kept: self.bytes,
                 limit: u64::from(self.limit),
             };
-        }
-        if self.items.reserve(self.present as usize + 1).is_err() {
-            error_reply(RC_MEMORY, reply);
-            return Told::Memory;
         }
         self.items.push_reserved(Item {
             client,

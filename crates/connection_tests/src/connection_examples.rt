@@ -21,7 +21,9 @@ fn a_client_is_told_its_replies()
     ensures entered { IsTold (with_limit None 4408) one_client 0 1 asked (answer 1) }
     ensures another_reply { IsTold (with_limit None 4408) one_client 0 1 asked (answer 2) → ⊥ }
     ensures another_command { IsTold (with_limit None 4408) one_client 0 1 [] (answer 1) → ⊥ }
-    ensures memory { IsTold (with_limit None 4408) one_client 0 2 asked (error_reply RC_MEMORY) }
+    // It makes no object.
+    ensures memory { IsTold (with_limit None 4408) one_client 0 2 asked
+        (error_reply RC_MEMORY) → ⊥ }
     ensures full { IsTold (with_limit None 4395) one_client 0 2 asked
         (error_reply RC_JOURNAL_FULL) }
     ensures not_full { IsTold (with_limit None 4396) one_client 0 2 asked

@@ -213,7 +213,7 @@ pub fn serve_given<R: Threads + Wait + Clock + Sync>(
         open: given.open,
     };
     let value = WatchedBook {
-        book: Book::new(alloc, given.limit),
+        book: Book::new(alloc, given.limit)?,
         watch: &watch,
     };
     let (shared, pass) = match Shared::new(alloc, value) {

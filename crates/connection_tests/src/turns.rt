@@ -119,7 +119,7 @@ fn ask_over<R: Wait>(
     is_canceled: bool,
 ) -> Result<(Done, Buffer, usize), AllocError> {
     let mut reply = Buffer::new(alloc)?;
-    let (shared, mut pass) = match Shared::new(alloc, Book::new(alloc, limit)) {
+    let (shared, mut pass) = match Shared::new(alloc, Book::new(alloc, limit)?) {
         Ok(made) => made,
         Err((error, _)) => return Err(error),
     };
@@ -156,7 +156,7 @@ fn what_is_refused_has_no_entry(rt: HostRuntime) -> Result<(), Fail> {
 fn a_pass_is_cut_from_a_pass(rt: HostRuntime) -> Result<(), Fail> {
     let alloc = rt.alloc();
     let mut reply = Buffer::new(alloc)?;
-    let (shared, mut pass) = match Shared::new(alloc, Book::new(alloc, 1_000_000)) {
+    let (shared, mut pass) = match Shared::new(alloc, Book::new(alloc, 1_000_000)?) {
         Ok(made) => made,
         Err((error, _)) => return Err(Fail::from(error)),
     };

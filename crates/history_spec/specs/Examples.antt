@@ -8,6 +8,10 @@ use Rattle.history_spec.specs.Entry.{Entry, canceled_entry, close_entry, command
 abbrev pub get_random : ℕ → List ℕ
 get_random count = 0x80 ∷ 0x01 ∷ 0 ∷ 0 ∷ 0 ∷ 0x0c ∷ 0 ∷ 0 ∷ 0x01 ∷ 0x7b ∷ 0 ∷ count ∷ []
 
+-- Load under the object of the handle 0x80000000
+abbrev pub load_object : List ℕ
+load_object = 0x80 ∷ 0x02 ∷ 0 ∷ 0 ∷ 0 ∷ 0x0e ∷ 0 ∷ 0 ∷ 0x01 ∷ 0x57 ∷ 0x80 ∷ 0 ∷ 0 ∷ 0 ∷ []
+
 abbrev pub cancel_frame : List ℕ
 cancel_frame = 0x80 ∷ 0x01 ∷ 0 ∷ 0 ∷ 0 ∷ 0x0a ∷ 0x20 ∷ 0 ∷ 0 ∷ 0x01 ∷ []
 

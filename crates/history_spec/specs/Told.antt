@@ -1,9 +1,10 @@
 -- What a client is told of a command: the reply of its entry.
-use Rattle.std.specs.Prelude.{◌≡◌, ◌⊎◌, ℕ, ◌+◌, ◌==◌, List, [], ◌∷◌, ◌++◌, Option, Some, None}
+use Rattle.std.specs.Prelude.{◌≡◌, ◌⊎◌, ℕ, ◌+◌, ◌==◌, true, List, [], ◌∷◌, ◌++◌, Option, Some, None}
 use Rattle.std.specs.List.{find}
 use Rattle.tab_spec.specs.declared.TheConstants.{RC_JOURNAL_FULL, RC_MEMORY}
 use Rattle.history_spec.specs.Entry.{Entry, LacksRoom, own, part_before}
 use Rattle.tab_spec.specs.Reply.{error_reply}
+use Rattle.tab_spec.specs.Shape.{makes_object}
 
 -- a client's entry of this number
 abbrev pub entry_of : List Entry → ℕ → ℕ → Option Entry
@@ -18,10 +19,15 @@ pub record IsToldFull (limit : ℕ) (before : List Entry) (command reply : List 
   pub reply_is : reply ≡ error_reply RC_JOURNAL_FULL
   pub lacks : LacksRoom limit before command
 
+-- memory lacked for the object that the command makes: no other command is told so
+pub record IsToldMemory (command reply : List ℕ) : Type 0 where
+  pub reply_is : reply ≡ error_reply RC_MEMORY
+  pub makes : makes_object command ≡ true
+
 -- what is told where there is an entry, and where there is none: that memory lacked, or room
 abbrev pub ToldBy : Option Entry → ℕ → List Entry → List ℕ → List ℕ → Type 0
 ToldBy (Some e) limit before command reply = IsEntryOf command reply e
-ToldBy None limit before command reply = (reply ≡ error_reply RC_MEMORY) ⊎ IsToldFull limit before command reply
+ToldBy None limit before command reply = IsToldMemory command reply ⊎ IsToldFull limit before command reply
 
 -- with a journal of this limit the reply may be told to the client for its command of this number
 abbrev pub Told : List Entry → ℕ → ℕ → ℕ → List ℕ → List ℕ → Type 0

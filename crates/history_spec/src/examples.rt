@@ -9,7 +9,8 @@ ghost use Rattle.history_spec.specs.Entry.{kept, open_entry, own, part_before, r
 ghost use Rattle.history_spec.specs.AuditText.{audit_line, audit_text};
 ghost use Rattle.history_spec.specs.Told.{Answers, Told};
 ghost use Rattle.history_spec.specs.Examples.{canceled_before, eight_reply, failed_entry};
-ghost use Rattle.history_spec.specs.Examples.{four_reply, full_reply, get_random, memory_reply};
+ghost use Rattle.history_spec.specs.Examples.{four_reply, full_reply, get_random, load_object};
+ghost use Rattle.history_spec.specs.Examples.{memory_reply};
 ghost use Rattle.history_spec.specs.Examples.{plain_entry, two_clients};
 
 // Each of the seven entries counts as 64 bytes, beside the 36 of the commands and the 54 of the
@@ -21,11 +22,12 @@ fn a_history_has_entries_and_bytes()
     ensures kept { kept two_clients ≡ 538 }
 {}
 
-// Only a command without an entry is told that memory lacked, or the journal's room: that was told
-// after the history up to the client's next entry.
+// Only a command without an entry is told that memory lacked, and that only where it makes an
+// object, or the journal's room: that was told after the history up to the client's next entry.
 fn a_client_is_told_its_entry()
     ensures entry { Told two_clients 538 0 2 (get_random 4) four_reply }
-    ensures no_entry { Told two_clients 538 0 3 (get_random 4) memory_reply }
+    ensures no_entry { Told two_clients 538 0 3 load_object memory_reply }
+    ensures makes_none { Told two_clients 538 0 3 (get_random 4) memory_reply → ⊥ }
     ensures other { Told two_clients 538 0 2 (get_random 4) memory_reply → ⊥ }
     ensures in_order { Answers two_clients 538 0 (get_random 8 ∷ get_random 4 ∷ [])
         (eight_reply ++ four_reply) }

@@ -65,19 +65,28 @@ const DRAWN: Entry = Entry {
     ],
 };
 
+const CLOSED: Entry = Entry {
+    client: 0,
+    number: 0,
+    kind: EntryKind::Close,
+    pick: Pick::Nothing,
+    faults: 0,
+    command: &[],
+    reply: &[],
+};
+
 // Adds an entry, whose command and reply have at most 100 bytes each, where there is room for it,
 // for a reply of 4,096 bytes and for the close of one client. Whether there was.
-fn add(journal: &mut Journal, entry: &Entry) -> Result<bool, AllocError>
+fn add(journal: &mut Journal, entry: &Entry) -> bool
     requires command { length entry.now.command.now ≤ 100 }
     requires reply { length entry.now.reply.now ≤ 100 }
     ensures { journal.new.limit ≡ journal.old.limit }
 {
-    journal.reserve(1, 200)?;
     if !journal.room(entry.command.len() as u64, 1) {
-        return Ok(false);
+        return false;
     }
     journal.push(entry);
-    Ok(true)
+    true
 }
 
 // Whether the entry at a place is this one.
@@ -103,13 +112,11 @@ fn sizes(journal: &Journal) -> (u64, u64) {
 
 #[test]
 fn keeps_its_entries(rt: HostRuntime) -> Result<(), Fail> {
-    let mut journal = Journal::new(rt.alloc(), JOURNAL_LEAST);
+    let mut journal = Journal::new(rt.alloc(), JOURNAL_LEAST)?;
     let none = sizes(&journal);
-    let two = add(&mut journal, &OPENED)? && add(&mut journal, &FAILED)?;
+    let two = add(&mut journal, &OPENED) && add(&mut journal, &FAILED);
     let told = sizes(&journal);
-    // Much more room, where entries are there already.
-    journal.reserve(1000, 65_536)?;
-    let more = add(&mut journal, &RUN)? && add(&mut journal, &CANCELED)?;
+    let more = add(&mut journal, &RUN) && add(&mut journal, &CANCELED);
     assert!(rt; two && more && none == (0, 0) && told == (2, 2 * 64 + 5));
     assert!(rt; sizes(&journal) == (4, 4 * 64 + 13));
     assert!(rt; is_at(&journal, 0, &OPENED) && is_at(&journal, 1, &FAILED));
@@ -120,13 +127,13 @@ fn keeps_its_entries(rt: HostRuntime) -> Result<(), Fail> {
 
 #[test]
 fn counts_what_it_does_not_keep(rt: HostRuntime) -> Result<(), Fail> {
-    let mut journal = Journal::new(rt.alloc(), SILENT_LIMIT);
+    let mut journal = Journal::new(rt.alloc(), SILENT_LIMIT)?;
     let none = sizes(&journal);
-    let all = add(&mut journal, &OPENED)?
-        && add(&mut journal, &RUN)?
-        && add(&mut journal, &CANCELED)?
-        && add(&mut journal, &FAILED)?
-        && add(&mut journal, &DRAWN)?;
+    let all = add(&mut journal, &OPENED)
+        && add(&mut journal, &RUN)
+        && add(&mut journal, &CANCELED)
+        && add(&mut journal, &FAILED)
+        && add(&mut journal, &DRAWN);
     let counts = journal.counts();
     assert!(rt; all && none == (0, 0) && sizes(&journal) == (5, 5 * 64 + 45));
     assert!(rt; counts.commands == 2 && counts.canceled == 1 && counts.faults == 1);
@@ -136,14 +143,14 @@ fn counts_what_it_does_not_keep(rt: HostRuntime) -> Result<(), Fail> {
 }
 
 // How many draws are added, of so many that are tried.
-fn drawn(journal: &mut Journal, tries: u32) -> Result<u32, AllocError> {
+fn drawn(journal: &mut Journal, tries: u32) -> u32 {
     let mut count = 0;
     for at in 0..tries {
-        if add(journal, &DRAWN)? {
+        if add(journal, &DRAWN) {
             count = at + 1;
         }
     }
-    Ok(count)
+    count
 }
 
 // Whether there is room for a command of this length and the closes of so many clients, but for no
@@ -154,27 +161,71 @@ fn has_just_room(journal: &Journal, length: u64, clients: u64) -> bool {
 
 #[test]
 fn commands_have_room_up_to_the_limit(rt: HostRuntime) -> Result<(), Fail> {
-    let mut journal = Journal::new(rt.alloc(), JOURNAL_LEAST);
+    let mut journal = Journal::new(rt.alloc(), JOURNAL_LEAST)?;
     assert!(rt; journal.limit() == 8192 && has_just_room(&journal, 3968, 1));
-    let is_open = add(&mut journal, &OPENED)?;
-    let count = drawn(&mut journal, 40)?;
+    let is_open = add(&mut journal, &OPENED);
+    let count = drawn(&mut journal, 40);
     assert!(rt; is_open && count == 40 && journal.kept() == 3904);
     // 3,904 + 64 + 64 + 4,096 + 64 is 8,192.
     assert!(rt; has_just_room(&journal, 64, 1) && has_just_room(&journal, 0, 2));
     assert!(rt; journal.room(12, 1) && !journal.room(0, 3));
     // 4,000 + 64 + 32 + 4,096 is 8,192.
-    let count = drawn(&mut journal, 3)?;
+    let count = drawn(&mut journal, 3);
     assert!(rt; count == 1 && journal.kept() == 4000 && has_just_room(&journal, 32, 0));
     assert!(rt; journal.room(0, 0) && !journal.room(12, 1));
     Ok(())
 }
 
+// Adds draws while there is room for one, with the largest reply and no close behind it.
+fn add_draws(journal: &mut Journal) {
+    for _ in 0..100 {
+        if journal.room(12, 0) {
+            journal.push(&DRAWN);
+        }
+    }
+}
+
+// Adds closes while the limit allows one.
+fn add_closes(journal: &mut Journal) {
+    for _ in 0..100 {
+        if journal.limit() - journal.kept() >= 64 {
+            journal.push(&CLOSED);
+        }
+    }
+}
+
+// Whether this entry is at each place from this one up to that one.
+fn are_at(journal: &Journal, from: u64, to: u64, wanted: &Entry) -> bool {
+    for place in from..to {
+        if !is_at(journal, place, wanted) {
+            return false;
+        }
+    }
+    true
+}
+
+// A draw has room up to 8,192 - 64 - 12 - 4,096 kept bytes, which is 4,020. After the opening and
+// 41 draws 64 + 41 * 96 are kept, which is 4,000, so there is a 42nd draw, and then 4,096 are kept.
+// The other 4,096 are 64 closes: 1 + 42 + 64 entries together.
+#[test]
+fn its_memory_holds_what_the_limit_allows(rt: HostRuntime) -> Result<(), Fail> {
+    let mut journal = Journal::new(rt.alloc(), JOURNAL_LEAST)?;
+    let is_open = add(&mut journal, &OPENED);
+    add_draws(&mut journal);
+    let drawn = sizes(&journal);
+    add_closes(&mut journal);
+    assert!(rt; is_open && drawn == (43, 4096) && sizes(&journal) == (107, 8192));
+    assert!(rt; is_at(&journal, 0, &OPENED) && journal.at(107).is_none());
+    assert!(rt; are_at(&journal, 1, 43, &DRAWN) && are_at(&journal, 43, 107, &CLOSED));
+    Ok(())
+}
+
 #[test]
 fn clients_have_room_up_to_the_limit(rt: HostRuntime) -> Result<(), Fail> {
-    let mut journal = Journal::new(rt.alloc(), JOURNAL_LEAST);
+    let mut journal = Journal::new(rt.alloc(), JOURNAL_LEAST)?;
     // 128 + 64 * 126 is 8,192.
     assert!(rt; journal.room_for_client(126) && !journal.room_for_client(127));
-    let is_open = add(&mut journal, &OPENED)?;
+    let is_open = add(&mut journal, &OPENED);
     assert!(rt; is_open && journal.room_for_client(125) && !journal.room_for_client(126));
     assert!(rt; journal.room_for_client(0));
     Ok(())
@@ -193,7 +244,7 @@ fn has_no_room(journal: &Journal, count: u64) -> bool {
 // 4,159.
 #[test]
 fn large_counts_have_no_room(rt: HostRuntime) -> Result<(), Fail> {
-    let journal = Journal::new(rt.alloc(), JOURNAL_MOST);
+    let journal = Journal::new(rt.alloc(), JOURNAL_MOST)?;
     assert!(rt; journal.limit() == 1_073_741_824 && has_just_room(&journal, 1_073_737_664, 0));
     for count in [1 << 58, u64::MAX - 4159, u64::MAX - 1, u64::MAX] {
         assert!(rt; has_no_room(&journal, count), "room at {count}");
@@ -206,10 +257,10 @@ fn is_line(alloc: Global, entry: &Entry, line: &str) -> Result<bool, AllocError>
     if entry.command.len() > 100 || entry.reply.len() > 100 {
         return Ok(false);
     }
-    let mut journal = Journal::new(alloc, JOURNAL_LEAST);
+    let mut journal = Journal::new(alloc, JOURNAL_LEAST)?;
     let mut sink = MemorySink::new(alloc, 100, Vec::new(alloc))?;
     Ok(
-        add(&mut journal, entry)?
+        add(&mut journal, entry)
             && journal.len() == 1
             && journal.write_line(0, &mut sink).is_ok()
             && sink.written() == line.as_bytes(),
@@ -308,8 +359,8 @@ fn is_whole(alloc: Global, journal: &Journal, call: u64) -> Result<Option<bool>,
 #[test]
 fn a_sink_fails_at_each_call(rt: HostRuntime) -> Result<(), Fail> {
     let alloc = rt.alloc();
-    let mut journal = Journal::new(alloc, JOURNAL_LEAST);
-    let two = add(&mut journal, &OPENED)? && add(&mut journal, &DRAWN)?;
+    let mut journal = Journal::new(alloc, JOURNAL_LEAST)?;
+    let two = add(&mut journal, &OPENED) && add(&mut journal, &DRAWN);
     let mut failures = 0;
     for call in 0..100 {
         let is_whole = is_whole(alloc, &journal, call)?.ok_or("another text")?;

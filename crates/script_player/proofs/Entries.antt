@@ -2,11 +2,11 @@
 use Rattle.std.proofs.Common.{◌≡◌, ◌≤◌, ℕ, true, false, cond, arith, List, [], ◌∷◌, ◌++◌, Option, Some, None, Err, subst, sym, ◌∙◌, refl, inl, inr}
 use Rattle.std.specs.Prelude.{◌⊎◌, nat_le, IfSome}
 use Rattle.std.proofs.lemmas.Bool.Decides.{nat_tests}
-use Rattle.tab_spec.specs.declared.TheConstants.{RC_DEVICE_ANSWER, RC_MEMORY}
+use Rattle.tab_spec.specs.declared.TheConstants.{RC_DEVICE_ANSWER}
 use Rattle.tab_spec.specs.Reply.{error_reply}
 use Rattle.history_spec.specs.Cancels.{cover}
 use Rattle.history_spec.specs.Entry.{Entry, HasRoom}
-use Rattle.history_spec.specs.Told.{IsToldFull}
+use Rattle.history_spec.specs.Told.{IsToldFull, IsToldMemory}
 use Rattle.script_spec.specs.Plays.{IsEntryFor}
 use Rattle.broker_lock.specs.Known.{Fixed}
 use Rattle.broker_lock.specs.Serves.{IsAnswered, IsFailed, Opens}
@@ -38,7 +38,7 @@ pub record IsAdded (limit : ℕ) (old new : List Entry) (client number : ℕ) (b
 -- what a client is told of a command, canceled up to a number or run, where a canceled one meets no wrong answer
 abbrev pub ToldAs : ℕ → ToldOf → (old new : List Entry) (client number : ℕ) (bytes : List ℕ) (covered : Option ℕ) (reply : List ℕ) → Type 0
 ToldAs limit tolds.Entered old new client number bytes covered reply = IsAdded limit old new client number bytes covered reply
-ToldAs limit tolds.Memory old new client number bytes covered reply = (new ≡ old) × (reply ≡ error_reply RC_MEMORY)
+ToldAs limit tolds.Memory old new client number bytes covered reply = (new ≡ old) × IsToldMemory bytes reply
 ToldAs limit (tolds.JournalFull count most) old new client number bytes covered reply = (new ≡ old) × IsToldFull limit old bytes reply
 ToldAs limit tolds.Answer old new client number bytes covered reply =
     (new ≡ old) × (reply ≡ error_reply RC_DEVICE_ANSWER) × (covered ≡ None)
@@ -58,7 +58,7 @@ told_as None fixed (tolds.JournalFull count most) old new client number bytes re
 told_as None fixed tolds.Answer old new client number bytes reply run is = (is.0, is.1, refl)
 told_as (Some upto) fixed tolds.Entered old new client number bytes reply run is =
     record { e = _; entered = is.entered; reply_is = refl; entry = record { client_is = refl; number_is = refl; kind_is = refl; command_is = refl }; room = is.room }
-told_as (Some upto) fixed tolds.Memory old new client number bytes reply run is = (is.0, is.1)
+told_as (Some upto) fixed tolds.Memory old new client number bytes reply run is = absurd is
 told_as (Some upto) fixed (tolds.JournalFull count most) old new client number bytes reply run is = (is.same, record { reply_is = is.reply_is; lacks = is.lacks })
 told_as (Some upto) fixed tolds.Answer old new client number bytes reply run is = (is.0, is.1, run refl)
 

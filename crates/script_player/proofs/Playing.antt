@@ -8,9 +8,9 @@ use Rattle.history_spec.specs.declared.EntryKind.TheVariants.{Open, Command, Can
 use Rattle.history_spec.specs.declared.EntryKind.{EntryKind}
 use Rattle.history_spec.specs.Entry.{Entry, Clients, open_entry, close_entry, clients_of, clients_by, is_close_kind, opened_by, part_before, present_by, own, IsOpen, IsNextNumber}
 use Rattle.broker_lock.proofs.Orderly.{clients_of-push}
-use Rattle.history_spec.specs.Told.{IsToldFull, Told, entry_of}
+use Rattle.history_spec.specs.Told.{IsToldFull, IsToldMemory, Told, entry_of}
 use Rattle.script_spec.specs.Plays.{Stage, PlaysTo, Plays1, client_of, IsKindOf, IsEntryFor, MayAddEntry, IsAnswered, reply_line}
-use Rattle.tab_spec.specs.declared.TheConstants.{RC_MEMORY, RC_COMMAND_SIZE}
+use Rattle.tab_spec.specs.declared.TheConstants.{RC_COMMAND_SIZE}
 use Rattle.tab_spec.specs.Reply.{error_reply}
 use Rattle.link_port.specs.Port.{with_more}
 use Rattle.script_spec.specs.Calls.{Call, command as run_command, bad_size, closing}
@@ -294,7 +294,7 @@ told_entry : (limit : ℕ) (old : List Entry) (client number : ℕ) (e : Entry) 
 told_entry limit old client number e command covered reply next entry is_reply =
     rw (told_by_entry old client number e next entry.client_is entry.number_is) (record { command_is = entry.command_is; reply_is = sym is_reply })
 
-told_none : (limit : ℕ) (old : List Entry) (client number : ℕ) (command reply : List ℕ) → IsNextNumber old client number → reply ≡ error_reply RC_MEMORY → Told old limit client number command reply
+told_none : (limit : ℕ) (old : List Entry) (client number : ℕ) (command reply : List ℕ) → IsNextNumber old client number → IsToldMemory command reply → Told old limit client number command reply
 told_none limit old client number command reply next is_memory = rw (find-push_none (own old client) number next.above) (inl is_memory)
 
 told_full : (limit : ℕ) (old : List Entry) (client number : ℕ) (command reply : List ℕ) → IsNextNumber old client number → part_before client number old ≡ old → IsToldFull limit old command reply → Told old limit client number command reply

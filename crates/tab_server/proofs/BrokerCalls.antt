@@ -46,7 +46,7 @@ pub tells_canceled : {D : Type 0} (base : Option Persist) (told : Told) (old new
     → TellsCanceled told old new client number upto bytes reply → lock.TellsCanceled (fixed_of base old) old.journal new.journal client number upto bytes reply told
 tells_canceled {D} base tolds.Entered old new client number upto bytes reply not is =
     record { entered = ap (λ (b : BrokerView D). b.journal) is.same; reply_is = is.reply_is; room = is.room }
-tells_canceled {D} base tolds.Memory old new client number upto bytes reply not is = (ap (λ (b : BrokerView D). b.journal) is.0, is.1, is.2)
+tells_canceled {D} base tolds.Memory old new client number upto bytes reply not is = absurd is
 tells_canceled {D} base (tolds.JournalFull count limit) old new client number upto bytes reply not is =
     record { lacks = is.lacks; same = ap (λ (b : BrokerView D). b.journal) is.same; reply_is = is.reply_is; kept_is = is.kept_is; limit_is = is.limit_is }
 tells_canceled {D} base tolds.Answer old new client number upto bytes reply not is = absurd (not refl)

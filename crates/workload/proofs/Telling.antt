@@ -43,7 +43,7 @@ bytes_found p (e ∷ history) bytes =
 bytes_by : (entry : Option Entry) (limit : ℕ) (before : List Entry) (bytes reply : List ℕ) → IfSome entry (λ e. AreBytes e.reply)
     → ToldBy entry limit before bytes reply → AreBytes reply
 bytes_by (Some e) limit before bytes reply known told = subst AreBytes told.reply_is known
-bytes_by None limit before bytes reply known (inl memory) = subst AreBytes (sym memory) (listed_bytes (error_reply RC_MEMORY) refl)
+bytes_by None limit before bytes reply known (inl memory) = subst AreBytes (sym memory.reply_is) (listed_bytes (error_reply RC_MEMORY) refl)
 bytes_by None limit before bytes reply known (inr full) = subst AreBytes (sym full.reply_is) (listed_bytes (error_reply RC_JOURNAL_FULL) refl)
 
 bytes_told : (history : List Entry) (limit client number : ℕ) (bytes reply : List ℕ) → HaveBytes history → Told history limit client number bytes reply → AreBytes reply

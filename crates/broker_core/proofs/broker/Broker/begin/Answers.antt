@@ -26,11 +26,11 @@ invariant_of-result g c =
     let sent = sym c.is_err.ensures.value ∙ c.if-is_err.false in
     let answered = from_ok c.transmit.result _ c.transmit.ensures.answered sent in
     let taken : takes true true startup_command c.transmit.new.reply ≡ true = ap (takes true true startup_command) (sym c.as_slice.ensures.value) ∙ sym c.is_started.ensures ∙ c.if-not-is_started.false in
-    rw (c.new-5.ensures.empty, c.new-6.ensures.items, c.new-6.ensures.present) (
-      holds_begun _ _ _ c.transmit.new.reply _ _ _ _ (g.met.D.Device.told_together c.args.device) c.requires.at_base answered c.transmit.ensures.base
+    rw (c.in-Ok.ensures.empty, c.new-6.ensures.items, c.new-6.ensures.present) (
+      holds_begun _ _ _ c.transmit.new.reply _ _ _ (g.met.D.Device.told_together c.args.device) c.requires.at_base answered c.transmit.ensures.base
           (omega (arith, c.fault_count-began.ensures, c.transmit.ensures.count))
           (is_right_start _ c.transmit.new.reply _ (ap newest_command c.transmit.ensures.trace) (last_of c.transmit.result _ _ (ap newest_response c.transmit.ensures.trace) sent) taken)
-          (omega (arith, c.new-5.ensures.limit, limit_most _ c.requires.limit)) c.in-Ok.ensures c.in-Ok-new.ensures,
+          (omega (arith, c.in-Ok.ensures.limit, limit_most _ c.requires.limit)) c.in-Ok-new.ensures c.in-Ok-new-2.ensures,
       refl,
     )
 

@@ -1,4 +1,4 @@
-use Rattle.std.proofs.Common.{◌≤◌, ◌+◌, [], ◌∷◌, ◌++◌, set, sym, ap, subst, arith, ◌∙◌}
+use Rattle.std.proofs.Common.{[], ◌∷◌, ◌++◌, set, sym, ap, subst, arith, ◌∙◌}
 use Rattle.history_spec.specs.Entry.{close_entry, IsOpen}
 use Rattle.broker_core.specs.Broker.{BrokerView}
 use Rattle.broker_core.proofs.Closing.{holds_closed_after, holds_closed_wrong, moves_same, table_closed, table_same, view_closed}
@@ -14,9 +14,8 @@ close-table-requires g c =
 pub invariant_of-self : goal.invariant_of-self
 invariant_of-self g c =
     let opened = subst (λ (v : _). IsOpen v.journal c.args.client) (sym c.self.view_is) c.requires in
-    let room : c.self.inside.journal.room ≤ c.enter_close.new.journal.room + 1 = omega (arith, c.enter_close.ensures.room) in
     rw (c.enter_close.ensures.entered, c.enter_close.ensures.limit, c.close-table.ensures.items) (
-      holds_closed_after _ c.args.client c.self.invariant.0 (sym c.is_some.ensures ∙ c.if-is_some.true) opened room,
+      holds_closed_after c.args.client c.self.invariant.0 (sym c.is_some.ensures ∙ c.if-is_some.true) opened,
       kept_closed c.self.inside.journal.entries c.args.client c.self.invariant.1 c.close-table.ensures.present,
     )
 
@@ -39,10 +38,9 @@ pub invariant_of-self-in-Ok-eq0 : goal.invariant_of-self-in-Ok-eq0
 invariant_of-self-in-Ok-eq0 g c =
     let opened = subst (λ (v : _). IsOpen v.journal c.args.client) (sym c.self.view_is) c.requires in
     let none = sym c.is_some.ensures ∙ c.if-is_some.false in
-    let room : c.self.inside.journal.room ≤ c.enter_close.new.journal.room + 1 = omega (arith, c.enter_close.ensures.room) in
     let done = c.in-Ok-eq0.ensures in
     rw (c.enter_close.ensures.entered, c.enter_close.ensures.limit, c.close-table.ensures.items) (
-      table_closed g.D.Device.seen _ c.args.client _ c.self.invariant.0 none opened room (sym c.close-table.ensures.table) done.ok done.none,
+      table_closed g.D.Device.seen c.args.client _ c.self.invariant.0 none opened (sym c.close-table.ensures.table) done.ok done.none,
       kept_closed c.self.inside.journal.entries c.args.client c.self.invariant.1 c.close-table.ensures.present,
     )
 
@@ -50,10 +48,9 @@ pub invariant_of-self-in-Ok : goal.invariant_of-self-in-Ok
 invariant_of-self-in-Ok g c =
     let opened = subst (λ (v : _). IsOpen v.journal c.args.client) (sym c.self.view_is) c.requires in
     let none = sym c.is_some.ensures ∙ c.if-is_some.false in
-    let room : c.self.inside.journal.room ≤ c.enter_close.new.journal.room + 1 = omega (arith, c.enter_close.ensures.room) in
     let done = c.in-Ok.ensures in
     rw (c.enter_close.ensures.entered, c.enter_close.ensures.limit, c.close-table.ensures.items) (
-      table_closed g.D.Device.seen _ c.args.client _ c.self.invariant.0 none opened room (sym c.close-table.ensures.table) done.ok done.none,
+      table_closed g.D.Device.seen c.args.client _ c.self.invariant.0 none opened (sym c.close-table.ensures.table) done.ok done.none,
       kept_closed c.self.inside.journal.entries c.args.client c.self.invariant.1 c.close-table.ensures.present,
     )
 
@@ -63,10 +60,9 @@ orphans-requires g c = omega (arith, few_items c.self.invariant.0, c.drop_all.en
 pub invariant_of-self-in-Err : goal.invariant_of-self-in-Err
 invariant_of-self-in-Err g c =
     let opened = subst (λ (v : _). IsOpen v.journal c.args.client) (sym c.self.view_is) c.requires in
-    let room : c.self.inside.journal.room ≤ c.enter_close.new.journal.room + 1 = omega (arith, c.enter_close.ensures.room) in
     let done = c.in-Err.ensures in
     rw (c.enter_close.ensures.entered, c.enter_close.ensures.limit, c.close-table.ensures.items, c.from.ensures) (
-      holds_closed_wrong _ c.args.client c.in-Err.code c.self.invariant.0 opened room done.disowns.keeps.count done.disowns.slots done.disowns.length_is done.disowns.err,
+      holds_closed_wrong c.args.client c.in-Err.code c.self.invariant.0 opened done.disowns.keeps.count done.disowns.slots done.disowns.length_is done.disowns.err,
       kept_closed c.self.inside.journal.entries c.args.client c.self.invariant.1 c.close-table.ensures.present,
     )
 

@@ -1,4 +1,4 @@
-use Rattle.std.proofs.Common.{inl, refl, ◌≡◌, ◌≤◌, List, [], ◌∷◌, ◌++◌, None, sym, ap, subst, arith, ◌∙◌}
+use Rattle.std.proofs.Common.{inl, refl, ◌≡◌, ◌≤◌, List, None, sym, ap, subst, arith, ◌∙◌}
 use Rattle.std.proofs.lemmas.List.{length-set}
 use Rattle.tab_spec.specs.Admission.{client_admitted}
 use Rattle.tab_spec.specs.declared.TheConstants.{RC_DEVICE_FAULT}
@@ -18,36 +18,31 @@ use Rattle.broker_core.specs.Broker.{BrokerView, Holds, TellsNoRoom}
 use Rattle.client_machine.specs.Moves.{MayMove, pick_of}
 use Rattle.client_machine.specs.Settled.{orphan_count}
 use Rattle.client_machine.specs.Tables.{owned_handles, tables_seen}
-use Rattle.broker_core.proofs.Entering.{costs_admitted, entered_carried, entered_faulted, entered_refused, entered_seen, context_now, left_more, long_now, owners_more, told_unentered, view_entered}
-use Rattle.broker_core.proofs.Holding.{are_more, few_more, held_same, holds_refused, holds_roomier, holds_wrong, inside_tables, moves_now, none_is, table_carried, table_faulted, table_now, with_items_is}
+use Rattle.broker_core.proofs.Entering.{costs_admitted, entered_carried, entered_faulted, entered_refused, entered_seen, context_now, left_more, long_now, made_by, owners_more, told_unentered, view_entered}
+use Rattle.broker_core.proofs.Holding.{are_more, few_more, held_same, holds_refused, holds_wrong, inside_tables, moves_now, none_is, table_carried, table_faulted, table_now, with_items_is}
 use Rattle.broker_core.proofs.Placing.{kept_same, open_there, tables_same}
 use Rattle.broker_core.proofs.broker.Broker.command.Goals as goal
 
-pub invariant_of-self : goal.invariant_of-self
-invariant_of-self g c =
-    rw (c.take_room.ensures.same, c.take_room.ensures.limit) (holds_roomier _ c.self.invariant.0 c.take_room.ensures.room, c.self.invariant.1)
-
 pub returns-in-Err-clause-told : goal.returns-in-Err-clause-told
 returns-in-Err-clause-told g c =
-    told_unentered g.D.Device.seen c.in-Err.told c.args.self.now _ c.args.client c.args.number c.args.bytes.now c.take_room.new.reply
-    (subst (λ (v : BrokerView g.row.D.Denot). TellsNoRoom c.in-Err.told v.limit v.journal c.args.bytes.now c.take_room.new.reply) c.self.view_is c.in-Err.ensures.err)
-    (rw (c.take_room.ensures.same, c.take_room.ensures.limit) c.self.view_is)
+    told_unentered g.D.Device.seen c.in-Err.told c.args.self.now c.args.self.now c.args.client c.args.number c.args.bytes.now c.find_room.new.reply
+    (subst (λ (v : BrokerView g.row.D.Denot). TellsNoRoom c.in-Err.told v.limit v.journal c.args.bytes.now c.find_room.new.reply) c.self.view_is c.in-Err.ensures.err)
+    refl
 
 pub table-requires : goal.table-requires
 table-requires g c =
     let opened = subst (λ (v : _). IsOpen v.journal c.args.client) (sym c.self.view_is) c.requires.present in
     open_there c.self.inside.journal.entries c.args.client c.self.invariant.1 opened
 
-pub invariant_of-self-in-Err-admit_client : goal.invariant_of-self-in-Err-admit_client
-invariant_of-self-in-Err-admit_client g c =
+pub invariant_of-self : goal.invariant_of-self
+invariant_of-self g c =
     let opened = subst (λ (v : _). IsOpen v.journal c.args.client) (sym c.self.view_is) c.requires.present in
     let next = subst (λ (v : _). IsNextNumber v.journal c.args.client c.args.number) (sym c.self.view_is) c.requires.number in
     let ready = c.in_default.ensures.ok in
     let first = sym c.table.ensures in
     let refused = ap (λ (t : List _). client_admitted (tables_seen c.args.client t c.self.inside.machine.held.sessions.items) c.args.bytes.now) first ∙ sym c.admit_client.ensures.value ∙ c.in-Err-admit_client.is in
-    rw (c.enter_refusal.ensures.entered, c.enter_refusal.ensures.limit, c.take_room.ensures.same, c.take_room.ensures.limit, c.enter_refusal.ensures.reply) (
-      holds_refused _ c.args.client c.args.number c.args.bytes.now c.in-Err-admit_client.code c.self.invariant.0 (sym c.is_some.ensures ∙ c.if-is_some.false) opened next refused ready.0
-          (omega (arith, ready.2, c.enter_refusal.ensures.room)),
+    rw (c.enter_refusal.ensures.entered, c.enter_refusal.ensures.limit, c.enter_refusal.ensures.reply) (
+      holds_refused c.args.client c.args.number c.args.bytes.now c.in-Err-admit_client.code c.self.invariant.0 (sym c.is_some.ensures ∙ c.if-is_some.false) opened next refused ready.0,
       kept_same c.self.inside.journal.entries (command_entry c.args.client c.args.number Nothing c.args.bytes.now (error_reply c.in-Err-admit_client.code)) refl c.self.invariant.1,
     )
 
@@ -68,7 +63,7 @@ returns-in-Err-admit_client-clause-told g c =
     } in
     entered_seen g.D.Device.seen {old = old} c.self.view_is
     (entered_refused g.D.Device.seen old _ c.args.client c.args.number c.args.bytes.now c.enter_refusal.new.reply c.in-Err-admit_client.code refused c.enter_refusal.ensures.reply ready.0
-    (view_entered old c.enter_refusal.new.journal.entries c.enter_refusal.new.journal.limit e (c.enter_refusal.ensures.entered ∙ ap (λ (h : List _). h ++ e ∷ []) c.take_room.ensures.same) (c.enter_refusal.ensures.limit ∙ c.take_room.ensures.limit)))
+    (view_entered old c.enter_refusal.new.journal.entries c.enter_refusal.new.journal.limit e c.enter_refusal.ensures.entered c.enter_refusal.ensures.limit))
 
 pub invariant_of-seen : goal.invariant_of-seen
 invariant_of-seen g c =
@@ -87,17 +82,21 @@ invariant_of-self-then-is_err g c =
     let device = c.reserve.ensures.same.0 in
     let items = from_err c.reserve.result _ c.reserve.ensures.err (sym c.is_err.ensures.value ∙ c.if-is_err.true) in
     let held = held_same c.self.inside.machine.held c.reserve.new.self.held items c.reserve.ensures.same.1 c.reserve.ensures.same.2 in
-    rw (device, held, kept, c.take_room.ensures.same, c.take_room.ensures.limit) (holds_roomier _ c.self.invariant.0 c.take_room.ensures.room, c.self.invariant.1)
+    rw (device, held, kept) c.self.invariant
 
 pub returns-then-is_err-clause-told : goal.returns-then-is_err-clause-told
 returns-then-is_err-clause-told g c =
     let ready = c.in_default.ensures.ok in
+    let first = sym c.table.ensures in
+    let admitted = ap (λ (t : List _). client_admitted (tables_seen c.args.client t c.self.inside.machine.held.sessions.items) c.args.bytes.now) first ∙ sym c.admit_client.ensures.value ∙ c.in-Ok.is in
+    let failed = sym c.is_err.ensures.value ∙ c.if-is_err.true in
+    let grows = from_err c.reserve.result _ c.reserve.ensures.grows failed in
     let kept = tables_same c.self.inside.tables.items c.args.client c.reserve.new.table.items (c.reserve.ensures.same.3 ∙ c.table_mut-table.ensures.value) in
     let device = c.reserve.ensures.same.0 in
-    let items = from_err c.reserve.result _ c.reserve.ensures.err (sym c.is_err.ensures.value ∙ c.if-is_err.true) in
+    let items = from_err c.reserve.result _ c.reserve.ensures.err failed in
     let held = held_same c.self.inside.machine.held c.reserve.new.self.held items c.reserve.ensures.same.1 c.reserve.ensures.same.2 in (
-      rw (device, held, kept, c.take_room.ensures.same, c.take_room.ensures.limit) c.self.view_is,
-      c.error_reply-then-is_err.ensures,
+      rw (device, held, kept) c.self.view_is,
+      record { reply_is = c.error_reply-then-is_err.ensures; makes = made_by _ c.args.bytes.now c.in-Ok.admitted admitted grows.0 },
       subst (λ (v : BrokerView g.row.D.Denot). HasRoom v.limit v.journal c.args.bytes.now) c.self.view_is ready.0,
     )
 
@@ -157,11 +156,11 @@ invariant_of-self-in-Ok-answer g c =
     let device = c.reserve.ensures.same.0 in
     let done = c.in-Ok-answer.ensures in
     let holds = subst (λ (d : _). Holds c.self.inside.began (g.D.Device.seen d) c.self.inside.journal.entries c.self.inside.journal.limit
-    c.self.inside.tables.items c.self.inside.machine.held c.self.inside.present c.self.inside.journal.room c.self.inside.wrong_code) (sym device) c.self.invariant.0 in
+    c.self.inside.tables.items c.self.inside.machine.held c.self.inside.present c.self.inside.wrong_code) (sym device) c.self.invariant.0 in
     let is_held = with_items_is c.self.inside.machine.held c.reserve.new.self.held c.reserve.ensures.same.1 c.reserve.ensures.same.2 in
-    rw (c.enter_reply.ensures.entered, c.enter_reply.ensures.limit, c.take_room.ensures.same, c.take_room.ensures.limit) (
-      table_carried g.D.Device.seen c.reserve.new.self.held.objects.items _ c.args.client c.args.number (pick_of c.in-Ok.admitted c.answer.new.reply) c.args.bytes.now c.answer.new.reply holds none opened next ready.0
-          (omega (arith, ready.2, c.enter_reply.ensures.room)) are (c.reserve.ensures.most c.self.invariant.0.placed) is_held is done.serves.moves done.carries.steps done.carries.whole done.serves.right,
+    rw (c.enter_reply.ensures.entered, c.enter_reply.ensures.limit) (
+      table_carried g.D.Device.seen c.reserve.new.self.held.objects.items c.args.client c.args.number (pick_of c.in-Ok.admitted c.answer.new.reply) c.args.bytes.now c.answer.new.reply holds none opened next ready.0
+          are (c.reserve.ensures.most c.self.invariant.0.placed) is_held is done.serves.moves done.carries.steps done.carries.whole done.serves.right,
       kept_same c.self.inside.journal.entries (command_entry c.args.client c.args.number (pick_of c.in-Ok.admitted c.answer.new.reply) c.args.bytes.now c.answer.new.reply) refl c.self.invariant.1,
     )
 
@@ -177,12 +176,12 @@ invariant_of-self-in-Err-Failed g c =
     let done = c.in-Err-Failed.ensures in
     let cause = subst (λ (e : SwapError). HasCause g.D.Device.seen e c.reserve.new.self.device c.answer.new.self.device) c.in-Err-Failed.field-0-is done.serves.cause in
     let holds = subst (λ (d : _). Holds c.self.inside.began (g.D.Device.seen d) c.self.inside.journal.entries c.self.inside.journal.limit
-    c.self.inside.tables.items c.self.inside.machine.held c.self.inside.present c.self.inside.journal.room c.self.inside.wrong_code) (sym device) c.self.invariant.0 in
+    c.self.inside.tables.items c.self.inside.machine.held c.self.inside.present c.self.inside.wrong_code) (sym device) c.self.invariant.0 in
     let tables = tables_same c.self.inside.tables.items c.args.client c.answer.new.table.items (done.serves.stays.table_is ∙ sym is) in
     let is_held = with_items_is c.self.inside.machine.held c.reserve.new.self.held c.reserve.ensures.same.1 c.reserve.ensures.same.2 in
-    rw (c.enter_fault.ensures.entered, c.enter_fault.ensures.limit, c.take_room.ensures.same, c.take_room.ensures.limit, c.fault_count-faults.ensures, c.enter_fault.ensures.reply, tables) (
-      table_faulted g.D.Device.seen c.reserve.new.self.held.objects.items _ c.args.client c.args.number c.args.bytes.now holds none opened next ready.0
-          (omega (arith, ready.2, c.enter_fault.ensures.room)) are (c.reserve.ensures.most c.self.invariant.0.placed) is_held is done.serves.moves done.serves.stays cause,
+    rw (c.enter_fault.ensures.entered, c.enter_fault.ensures.limit, c.fault_count-faults.ensures, c.enter_fault.ensures.reply, tables) (
+      table_faulted g.D.Device.seen c.reserve.new.self.held.objects.items c.args.client c.args.number c.args.bytes.now holds none opened next ready.0
+          are (c.reserve.ensures.most c.self.invariant.0.placed) is_held is done.serves.moves done.serves.stays cause,
       kept_same c.self.inside.journal.entries (fault_entry c.args.client c.args.number (g.D.Device.seen c.answer.new.self.device).faults c.args.bytes.now (error_reply RC_DEVICE_FAULT)) refl c.self.invariant.1,
     )
 
@@ -194,8 +193,8 @@ invariant_of-self-in-Err-Answer g c =
     let length_is = length-set c.self.inside.tables.items c.args.client c.answer.new.table.items in
     let none = sym c.is_some.ensures ∙ c.if-is_some.false in
     let are = are_more _ _ c.reserve.ensures.items in
-    rw (c.take_room.ensures.same, c.take_room.ensures.limit, c.from.ensures, c.in-Err-Answer.code-is) (
-      holds_wrong {new_held = c.answer.new.self.held} _ c.in-Err-Answer.code c.self.invariant.0 length_is (omega (arith, done.serves.moves.keeps.count, ap (λ d. (g.D.Device.seen d).faults) device)) (omega (arith, c.self.invariant.0.journal.closes, c.take_room.ensures.room))
+    rw (c.from.ensures, c.in-Err-Answer.code-is) (
+      holds_wrong {new_held = c.answer.new.self.held} c.in-Err-Answer.code c.self.invariant.0 length_is (omega (arith, done.serves.moves.keeps.count, ap (λ d. (g.D.Device.seen d).faults) device))
           (done.serves.moves.slots ∙ ap (λ (v : ObjectsView). v.slots) c.reserve.ensures.same.1) (omega (arith, done.serves.moves.length_is, few_more _ c.self.invariant.0 none are)) (omega (arith, done.serves.moves.length_is, c.reserve.ensures.most c.self.invariant.0.placed)) cause,
       c.self.invariant.1,
     )
@@ -223,7 +222,7 @@ returns-in-Ok-answer-clause-told g c =
     } in
     entered_seen g.D.Device.seen {old = old} c.self.view_is
     (entered_carried g.D.Device.seen old _ c.args.client c.args.number c.args.bytes.now c.answer.new.reply c.in-Ok.admitted c.reserve.new.self.device c.reserve.new.self.held.objects.items _ c.answer.new.table.items
-    admitted ready.0 (c.enter_reply.ensures.entered ∙ ap (λ (h : List _). h ++ e ∷ []) c.take_room.ensures.same)
+    admitted ready.0 c.enter_reply.ensures.entered
     (inside_tables c.args.client c.self.invariant.0 opened) device are c.reserve.ensures.none is_held is refl done.carries.did done.carries.stays)
 
 pub returns-in-Err-Failed-clause-told : goal.returns-in-Err-Failed-clause-told
@@ -252,13 +251,13 @@ returns-in-Err-Failed-clause-told g c =
     let failed = subst (λ (d : _). Rose (g.D.Device.seen d).faults (g.D.Device.seen c.answer.new.self.device).faults × (last_of (g.D.Device.seen c.answer.new.self.device) ≡ None)) device cause in
     entered_seen g.D.Device.seen {old = old} c.self.view_is
     (entered_faulted g.D.Device.seen old _ c.args.client c.args.number c.fault_count-faults.result c.args.bytes.now c.enter_fault.new.reply c.in-Ok.admitted
-    admitted c.enter_fault.ensures.reply c.fault_count-faults.ensures ready.0 (c.enter_fault.ensures.entered ∙ ap (λ (h : List _). h ++ e ∷ []) c.take_room.ensures.same) failed tables sessions objects)
+    admitted c.enter_fault.ensures.reply c.fault_count-faults.ensures ready.0 c.enter_fault.ensures.entered failed tables sessions objects)
 
 pub returns-in-Err-Answer-clause-told : goal.returns-in-Err-Answer-clause-told
 returns-in-Err-Answer-clause-told g c =
     let is = sym (c.reserve.ensures.same.3 ∙ c.table_mut-table.ensures.value) in
     let tables = tables_same c.self.inside.tables.items c.args.client c.answer.new.table.items (c.in-Err-Answer.ensures.serves.stays.table_is ∙ sym is) in (
-      c.take_room.ensures.same ∙ ap (λ (v : BrokerView g.row.D.Denot). v.journal) c.self.view_is,
+      ap (λ (v : BrokerView g.row.D.Denot). v.journal) c.self.view_is,
       c.error_reply-in-Err-Answer.ensures,
       tables ∙ ap (λ (v : BrokerView g.row.D.Denot). v.tables) c.self.view_is,
     )

@@ -9,5 +9,6 @@ invariant_of-self c =
     let open_now = subst (λ (v : BookView). IsOpen v.entries c.args.client) (sym c.self.view_is) c.requires in (
       counted_with (λ i. book_entry i.client i.number i.kind i.place) c.self.inside.items.items c.self.inside.items.items _ _ _ _ _ _ c.push_reserved.ensures.items refl
           (counted_close _ _ _ _ _ _ c.self.invariant.0 open_now),
-      omega (arith, c.self.invariant.1, some_present _ _ _ _ _ _ c.self.invariant.0 open_now, c.push_reserved.ensures.len, c.push_reserved.ensures.capacity),
+      omega (arith, c.self.invariant.1, c.push_reserved.ensures.len),
+      omega (arith, c.self.invariant.2, c.push_reserved.ensures.capacity),
     )
