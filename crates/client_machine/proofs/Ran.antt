@@ -38,7 +38,7 @@ use Rattle.history_laws.proofs.Tables.{held_all, mapped}
 use Rattle.client_machine.specs.declared.held.Held.{Held}
 use Rattle.client_machine.specs.Costs.{SendsUpTo, StaysIn, new_bound, places_of, renewal_bound}
 use Rattle.client_machine.specs.Moves.{Adopts, AreTaken, CarriesOut, CountsOnBy, HasRoomFor, IsAtHand, IsCalm, IsPrepared, IsSent, IsTaken, KeepsOwners, MayAdopt, MayMove, MayStart, Moves, Prepares, Ran, Serves, StaysAs, StepsAs, UsesNamed, any_client, order_after, order_made, client_reply, first_handle, loads_kept, number_taken, other_than, pick_of, saved_list_after, saved_number, saves_one, saves_session, sessions_held_after, told_handle, SentBefore}
-use Rattle.client_machine.specs.Settled.{AreBelow, Sequences, Settled, orphan_count}
+use Rattle.client_machine.specs.Settled.{AreBelow, Sequences, Settled, call_contexts, orphan_count}
 use Rattle.client_machine.specs.Tables.{AreOpenOwners, IsOpenOwner, IsPlaceOf, IsPlaced, IsTable, OwnedHandle, device_handle, handle_or, held_items, is_open, objects_in, owned_handles, place_object, slot_handle, table_with, tables_seen, with_owner}
 use Rattle.client_machine.proofs.Adopting.{adopted_count, adopted_held, adopted_item, adopted_length, adopted_loads, adopted_new, adopted_others, adopted_table}
 use Rattle.client_machine.proofs.Handing.{handed_frame, slice_bytes, taken_frame}
@@ -503,7 +503,7 @@ pub record Prepared {D : Type 0} (seen : D → Seen) (old between : D)
 pub prepared : {D : Type 0} {seen : D → Seen} {old between : D} {held mid : Held}
     (client : ℕ) (table : List (Option ℕ)) (a : Admitted) (bytes : List ℕ) {translated command : List ℕ} → Prepares 100 seen old between held mid
     → IsTable held.objects.items client table → client_admitted (tables_seen client table held.sessions.items) bytes ≡ Ok a → is_sent a bytes ≡ true
-    → MayMove 2000 seen old held → ((i : ℕ) → Fits w8 (get_or bytes i 0)) → IsPrepared (seen between).state mid table a bytes translated
+    → MayMove call_contexts seen old held → ((i : ℕ) → Fits w8 (get_or bytes i 0)) → IsPrepared (seen between).state mid table a bytes translated
     → SendsUpTo seen (11 + orphan_count held + renewal_bound (gap_kept held.sessions)) old between
     → (gap_kept held.sessions < RENEWAL_GAP → StaysIn 1 (places_of a) None held mid) → (IsCalm held → UsesNamed held mid table a bytes)
     → command ≡ translated → Prepared seen old between held mid client table a bytes command

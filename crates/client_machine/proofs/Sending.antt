@@ -1,5 +1,5 @@
 -- Which responses are taken depends on what the broker holds: where it keeps less, and its clients have fewer sessions, more are.
-use Rattle.std.proofs.Common.{◌≡◌, ◌+◌, ℕ, Bool, true, false, List, drop, refl, ap, sym, ◌∙◌}
+use Rattle.std.proofs.Common.{◌≡◌, ◌+◌, ℕ, Bool, true, false, List, length, drop, refl, ap, sym, ◌∙◌}
 use Rattle.std.specs.Prelude.{Option, Some, None, Result, Ok, Err, IfSome, is_err, is_ok, not, nat_lt, ◌==◌, ◌&&◌, ◌||◌, if◌then◌else◌}
 use Rattle.tab_spec.specs.declared.TheConstants.{ACTIVE_SESSIONS, CC_CONTEXT_SAVE, CC_FLUSH_CONTEXT, CC_STARTUP, CC_START_AUTH_SESSION, HEADER_BYTES, HT_TRANSIENT, RC_INITIALIZE, RC_SUCCESS}
 use Rattle.tab_spec.specs.Commands.{row_of}
@@ -7,9 +7,11 @@ use Rattle.tab_spec.specs.Frame.{code_of, is_frame, reported_code, tag_of}
 use Rattle.tab_spec.specs.Session.{is_kind_number, kind_of, kind_octet}
 use Rattle.tab_spec.specs.Shape.{number_of_session, octet_of}
 use Rattle.tab_spec.specs.Values.{Reading}
-use Rattle.device_spec.specs.Answers.{IsRight, IsWrongAnswer, asks_of_tables, fits_handle, has_response_handle, is_error_form, is_hidden, is_started_handle, is_word, loads_object, loads_session, may_refuse, saved_handle_place, session_type_of, takes, word_at, wrong}
+use Rattle.device_spec.specs.Answers.{IsRight, IsWrongAnswer, asks_of_tables, fits_handle, has_response_handle, is_error_form, is_hidden, is_started_handle, is_success_form, is_word, loads_object, loads_session, may_refuse, saved_handle_place, session_type_of, takes, word_at, wrong}
 use Rattle.device_spec.specs.Slots.{SlotState, slot_step}
 use Rattle.device_port.specs.Device.{Answered}
+use Rattle.std.proofs.lemmas.Bool.{le-ltb}
+use Rattle.tab_laws.proofs.Cuts.{frame_long}
 use Rattle.device_laws.proofs.AnswerForms.{takes_more}
 
 -- ---- the handle of a response
@@ -152,3 +154,21 @@ untold None new_state is_kept number asked last told answered refused = (answere
 untold (Some slots) new_state is_kept number asked last told answered refused =
     let yes : takes is_kept (number last) asked last ≡ true = ap (λ (last : List ℕ). takes is_kept (number last) asked last) answered.1 ∙ told in
     absurd cc
+
+-- ---- a context that is kept
+
+-- a frame has a code
+code_read : (last : List ℕ) → is_frame last ≡ true → reported_code last ≡ code_of last
+code_read last frame = rw (le-ltb (length last) HEADER_BYTES (frame_long last frame)) refl
+
+-- whether the context that a command loads is kept matters to a refusal alone
+pub kept_or_refused : (kept is_taken : Bool) (asked last : List ℕ) (succeeds : Bool) → (reported_code last == RC_SUCCESS) ≡ succeeds
+    → takes (not succeeds && kept) is_taken asked last ≡ takes kept is_taken asked last
+kept_or_refused kept is_taken asked last false is = refl
+kept_or_refused kept is_taken asked last true is =
+    elim (is_frame last) as (λ b. is_frame last ≡ b
+    → (b && (if code_of last == RC_SUCCESS then is_success_form is_taken asked last else is_error_form last && may_refuse false asked (code_of last)))
+    ≡ (b && (if code_of last == RC_SUCCESS then is_success_form is_taken asked last else is_error_form last && may_refuse kept asked (code_of last)))) [
+      | true ↦ λ frame. let code : (code_of last == RC_SUCCESS) ≡ true = ap (λ n. n == RC_SUCCESS) (sym (code_read last frame)) ∙ is in rw code refl
+      | false ↦ λ frame. refl
+    ] refl

@@ -15,6 +15,13 @@ use Rattle.client_machine.specs.declared.held.Held.{Held}
 abbrev pub most_contexts : ℕ
 most_contexts = 200
 
+-- for so many contexts of either sort the device has numbers left before a call, and before each swap of it: far more than are made
+abbrev pub call_contexts : ℕ
+call_contexts = 2000
+
+abbrev pub swap_contexts : ℕ
+swap_contexts = 1000
+
 -- between two calls each object stands in a slot or in a context, and each session in a place or in a context. Each slot and each
 -- session number that is taken is that of one of them. The gap leaves room for what the next call saves
 pub record IsSettled (slots : SlotState) (held : Held) : Type 0 where

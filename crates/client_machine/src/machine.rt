@@ -1,5 +1,6 @@
-ghost use Rattle.std.specs.Prelude.{◌≡◌, ◌==◌, ◌⊎◌, ◌≤◌, ◌+◌, ◌++◌, ◌∷◌, ℕ, true, false, List};
-ghost use Rattle.std.specs.Prelude.{Option, None, Ok, [], length, IfOk, IfErr, IfSome, OnOk, OnErr};
+ghost use Rattle.std.specs.Prelude.{◌≡◌, ◌==◌, ◌⊎◌, ◌≤◌, ◌+◌, ◌++◌, ◌∷◌, ℕ, true, false, Bool};
+ghost use Rattle.std.specs.Prelude.{List, Option, None, Ok, [], length, IfOk, IfErr, IfSome, OnOk};
+ghost use Rattle.std.specs.Prelude.{OnErr};
 ghost use Rattle.std.specs.List.{count_by, list_any};
 ghost use Rattle.tab_spec.specs.declared.TheConstants.{ACTIVE_SESSIONS, CC_FLUSH_CONTEXT};
 ghost use Rattle.tab_spec.specs.declared.TheConstants.{OBJECT_SLOTS};
@@ -27,7 +28,7 @@ ghost use Rattle.client_machine.specs.Moves.{moves_for, number_taken, order_afte
 ghost use Rattle.client_machine.specs.Moves.{saved_list_after, saves_session, sessions_held_after};
 ghost use Rattle.client_machine.specs.Costs.{SendsUpTo, close_bound, residents_of};
 ghost use Rattle.client_machine.specs.Dropping.{Disowns, Drops, KeepsOthers};
-ghost use Rattle.client_machine.specs.Settled.{Settled, orphan_count};
+ghost use Rattle.client_machine.specs.Settled.{Settled, call_contexts, orphan_count};
 ghost use Rattle.client_machine.specs.Tables.{IsTable, flush_fault_of, tables_had, tables_seen};
 
 use crate::held::Held;
@@ -83,6 +84,17 @@ fn loads_kept(objects: &Objects, command: &[u8]) -> bool
         && objects.keeps_context(&command[HEADER_BYTES as usize..])
 }
 
+// Whether a command loads a context that is kept for an object, where the response refuses it. A
+// success is taken either way, so that a load that succeeds goes over no objects.
+fn refuses_kept(objects: &Objects, command: &[u8], reply: &[u8]) -> bool
+    requires { 10 ≤ length command.now }
+    ensures { (is_taken : Bool) → takes result is_taken command.now reply.now
+        ≡ takes (moves.loads_kept objects.now.items command.now)
+        is_taken command.now reply.now }
+{
+    tab_wire::reported_code(reply) != RC_SUCCESS && loads_kept(objects, command)
+}
+
 // Sends a client's command, and takes the answer.
 fn send<D: Device>(
     device: &mut D,
@@ -103,7 +115,7 @@ fn send<D: Device>(
     if device.transmit(command, reply).is_err() {
         return Err(SwapError::Failed(DeviceFailed));
     }
-    let is_kept = loads_kept(&held.objects, command);
+    let is_kept = refuses_kept(&held.objects, command, reply.as_slice());
     let is_taken = is_number_taken(&held.sessions, reply.as_slice());
     if !takes(command, reply.as_slice(), is_kept, is_taken) {
         return Err(SwapError::Answer(tab_wire::reported_code(reply.as_slice())));
@@ -308,7 +320,7 @@ impl<D: Device> Machine<D> {
         requires room { HasRoomFor admitted.now bytes.now
             table.old.spare self.old.held.objects.items }
         requires table { IsTable self.old.held.objects.items client table.old.items }
-        requires may { MayMove 2000 D.seen self.old.device self.old.held }
+        requires may { MayMove call_contexts D.seen self.old.device self.old.held }
         ensures serves { Serves D.seen client self.old.device self.new.device self.old.held
             self.new.held table.old.items table.new.items result }
         ensures carries { OnOk result
@@ -354,7 +366,7 @@ impl<D: Device> Machine<D> {
         requires room { HasRoomFor admitted.now bytes.now
             table.old.spare self.old.held.objects.items }
         requires table { IsTable self.old.held.objects.items client table.old.items }
-        requires may { MayMove 2000 D.seen self.old.device self.old.held }
+        requires may { MayMove call_contexts D.seen self.old.device self.old.held }
         ensures serves { Serves D.seen client self.old.device self.new.device self.old.held
             self.new.held table.old.items table.new.items result }
         ensures carries { OnOk result
@@ -412,7 +424,7 @@ impl<D: Device> Machine<D> {
         requires code { admitted.now.shape.row.code ≡ CC_FLUSH_CONTEXT }
         requires params { admitted.now.auths.params ≤ length bytes.now }
         requires table { IsTable self.old.held.objects.items client table.old.items }
-        requires may { MayMove 2000 D.seen self.old.device self.old.held }
+        requires may { MayMove call_contexts D.seen self.old.device self.old.held }
         ensures serves { Serves D.seen client self.old.device self.new.device self.old.held
             self.new.held table.old.items table.new.items result }
         ensures carries { OnOk result
@@ -448,7 +460,7 @@ impl<D: Device> Machine<D> {
     // where anything is sent.
     fn flush(&mut self, table: &mut ClientTable, handle: u32) -> Result<(), SwapError>
         requires there { (client : ℕ) × MayFlush client handle self.old.held table.old.items }
-        requires may { MayMove 2000 D.seen self.old.device self.old.held }
+        requires may { MayMove call_contexts D.seen self.old.device self.old.held }
         ensures serves { (client : ℕ) → MayFlush client handle self.old.held table.old.items
             → Serves D.seen client self.old.device self.new.device self.old.held self.new.held
             table.old.items table.new.items result }
@@ -489,7 +501,7 @@ impl<D: Device> Machine<D> {
     /// error is the code of a wrong answer.
     pub fn drop_all(&mut self, table: ClientTable, client: u32) -> Result<u32, u32>
         requires table { IsTable self.old.held.objects.items client table.items }
-        requires may { MayMove 2000 D.seen self.old.device self.old.held }
+        requires may { MayMove call_contexts D.seen self.old.device self.old.held }
         ensures ok { IfOk result (λ failed. Drops D.seen client self.old.device self.new.device
             self.old.held self.new.held table.items [] failed) }
         ensures none { OnOk result
@@ -509,7 +521,7 @@ impl<D: Device> Machine<D> {
 
     // The sessions of a client.
     fn drop_sessions(&mut self, client: u32) -> Result<u32, u32>
-        requires may { MayMove 2000 D.seen self.old.device self.old.held }
+        requires may { MayMove call_contexts D.seen self.old.device self.old.held }
         ensures ok { IfOk result (λ failed. (table : List (Option ℕ))
             → IsTable self.old.held.objects.items client table → Drops D.seen client self.old.device
             self.new.device self.old.held self.new.held table table failed) }

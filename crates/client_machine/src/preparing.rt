@@ -14,7 +14,7 @@ ghost use Rattle.client_machine.specs.Moves.{Clears, HasSessions, IsAtHand, IsCa
 ghost use Rattle.client_machine.specs.Moves.{IsPrepared, Loses, MayMove, MovesObjects};
 ghost use Rattle.client_machine.specs.Moves.{MovesSessions, NeedsNoSession, Prepares, UsesNamed};
 ghost use Rattle.client_machine.specs.Moves.{listed, moves_for, named_by};
-ghost use Rattle.client_machine.specs.Settled.{Settled, orphan_count};
+ghost use Rattle.client_machine.specs.Settled.{Settled, call_contexts, orphan_count, swap_contexts};
 ghost use Rattle.client_machine.specs.Tables.{IsTable, handle_or, slot_handle, tables_seen};
 
 use crate::held::Held;
@@ -51,7 +51,7 @@ pub(crate) fn flush_orphans<D: Device>(
 
 // Flushes what closed clients left, and renews old contexts.
 fn renew<D: Device>(held: &mut Held, device: &mut D, scratch: &mut Buffer) -> Result<(), SwapError>
-    requires may { MayMove 2000 D.seen device.old held.old }
+    requires may { MayMove call_contexts D.seen device.old held.old }
     ensures prepared { Prepares 65 D.seen device.old device.new held.old held.new }
     ensures clear { OnOk result (IsClear (D.seen device.new).state held.new) }
     ensures still { orphan_count held.old ≡ 0 → gap_kept held.old.sessions < RENEWAL_GAP
@@ -97,7 +97,7 @@ fn load_sessions<D: Device>(
     admitted: &Admitted,
     scratch: &mut Buffer,
 ) -> Result<(), SwapError>
-    requires may { MayMove 1000 D.seen device.old held.old }
+    requires may { MayMove swap_contexts D.seen device.old held.old }
     requires clear { IsClear (D.seen device.old).state held.old }
     requires named { AreNamed (named_sessions admitted.now) held.old.sessions.items }
     requires starts { starts_session admitted.now ≡ true → named_sessions admitted.now ≡ [] }
@@ -151,7 +151,7 @@ fn bring<D: Device>(
     requires named { IfSome named (λ item. Names held.old.objects.items item
         × (is_some (item_at held.old.objects.items item).client ≡ true)) }
     requires few { new_slots ≤ 1 }
-    requires may { MayMove 1000 D.seen device.old held.old }
+    requires may { MayMove swap_contexts D.seen device.old held.old }
     requires nobodys { orphan_count held.old ≡ 0 }
     ensures prepared { Prepares 3 D.seen device.old device.new held.old held.new }
     ensures rest { (objects.rest_of (D.seen device.new).state
@@ -191,7 +191,7 @@ pub(crate) fn prepare<D: Device>(
     requires admitted { (client : ℕ) × IsTable held.old.objects.items client table.now.items
         × (client_admitted (tables_seen client table.now.items held.old.sessions.items) bytes.now
         ≡ Ok admitted.now) }
-    requires may { MayMove 2000 D.seen device.old held.old }
+    requires may { MayMove call_contexts D.seen device.old held.old }
     ensures prepared { Prepares 100 D.seen device.old device.new held.old held.new }
     ensures ready { OnOk result (IsPrepared (D.seen device.new).state held.new table.now.items
         admitted.now bytes.now translated.new) }
