@@ -1,5 +1,6 @@
 -- A broker that has begun, and a device that doesn't take Startup.
 use Rattle.std.proofs.Common.{◌≡◌, ◌≤◌, ◌+◌, ℕ, zero, suc, Bool, true, false, true≢false, cond, List, [], ◌∷◌, Option, Some, None, refl, sym, ap, subst, ◌∙◌, arith, inl, inr}
+use Rattle.std.proofs.lemmas.Bool.{false≢true}
 use Rattle.std.proofs.lemmas.List.Sums.{sum_by-cons}
 use Rattle.std.specs.Prelude.{◌==◌, replicate, get_or, is_some, IfSome, not}
 use Rattle.std.specs.List.{count_by, list_any}
@@ -88,7 +89,7 @@ none_left (suc count) = omega (arith, count_cons sessions.is_orphan None (replic
 -- nothing is held
 abbrev pub held_nothing : ℕ → ℕ → Held
 held_nothing slots next = record {
-  objects = record { items = []; slots = slots; order = [] };
+  objects = record { items = []; slots = slots; order = []; owners = []; left = [] };
   sessions = record { items = no_items; next = next; order = []; saved = [] };
 }
 
@@ -135,14 +136,17 @@ stands_begun base (Some s) new reply count next same at_base answered b slots is
       };
     }
 
-nothing_held : (held : Held) (slots next : ℕ) → held.objects ≡ record { items = []; slots = slots; order = [] }
+nothing_held : (held : Held) (slots next : ℕ) → held.objects ≡ record { items = []; slots = slots; order = []; owners = []; left = [] }
     → held.sessions ≡ record { items = no_items; next = next; order = []; saved = [] } → held_nothing slots next ≡ held
 nothing_held held slots next objects sessions = λ i. record { objects = sym objects i; sessions = sym sessions i }
+
+not_own : {client : ℕ} → ◌≡◌ {A = Option ℕ} None (Some client) → ⊥
+not_own own = absurd cc
 
 holds_nothing : (began : ℕ) (base : Option Persist) (old : Option SlotState) (reply : List ℕ) (new : Seen) (limit count next : ℕ)
     → is_some old ≡ is_some base → IsAtBase base old → Answered old startup_command new.state reply → new.base ≡ base → began ≤ new.faults → IsRight (asked_of new) (last_of new)
     → limit ≤ SILENT_LIMIT → count ≡ OBJECT_SLOTS
-    → Holds began new [] limit [] (held_nothing count next) 0 None
+    → Holds began new [] limit [] [] (held_nothing count next) 0 None
 holds_nothing began base old reply new limit count next same at_base answered base_same risen right most slots_are = record {
   stands = subst (λ (b : Option Persist). StandsFor b new.state [] [] (held_nothing count next)) (sym base_same) (stands_begun base old new.state reply count next same at_base answered);
   journal = record {
@@ -158,9 +162,10 @@ holds_nothing began base old reply new limit count next same at_base answered ba
     reserves = omega arith;
   };
   objects = λ none. record {
-    each = record { closed = λ client _. refl; each = λ client. record { named = tt; apart = λ index. omega arith; few = omega arith; short = omega arith } };
+    each = record { closed = λ client _. refl; each = λ client. record { named = tt; apart = λ index. omega arith; all = λ index own. absurd (not_own own); few = omega arith; short = omega arith } };
     short = omega arith;
-    named = refl;
+    listed = refl;
+    lists_stand = record { own = λ client some. absurd (false≢true some); owned = λ list client own. absurd (not_own own) };
     owners = none_open 64;
     counted = inl (omega (arith, risen, none_left 64));
   };
@@ -173,10 +178,10 @@ holds_nothing began base old reply new limit count next same at_base answered ba
 
 pub holds_begun : (began : ℕ) (base : Option Persist) (old : Option SlotState) (reply : List ℕ) (new : Seen) (limit : ℕ) (held : Held)
     → is_some old ≡ is_some base → IsAtBase base old → Answered old startup_command new.state reply → new.base ≡ base → began ≤ new.faults → IsRight (asked_of new) (last_of new)
-    → limit ≤ SILENT_LIMIT → held.objects ≡ record { items = []; slots = OBJECT_SLOTS; order = [] }
-    → held.sessions ≡ record { items = no_items; next = 0; order = []; saved = [] } → Holds began new [] limit [] held 0 None
+    → limit ≤ SILENT_LIMIT → held.objects ≡ record { items = []; slots = OBJECT_SLOTS; order = []; owners = []; left = [] }
+    → held.sessions ≡ record { items = no_items; next = 0; order = []; saved = [] } → Holds began new [] limit [] [] held 0 None
 holds_begun began base old reply new limit held same at_base answered base_same risen right most objects sessions =
-    subst (λ (h : Held). Holds began new [] limit [] h 0 None) (nothing_held held OBJECT_SLOTS 0 objects sessions)
+    subst (λ (h : Held). Holds began new [] limit [] [] h 0 None) (nothing_held held OBJECT_SLOTS 0 objects sessions)
     (holds_nothing began base old reply new limit OBJECT_SLOTS 0 same at_base answered base_same risen right most refl)
 
 -- ---- a wrong answer to Startup

@@ -16,12 +16,14 @@ use Rattle.broker_core.specs.Broker.{BrokerView, HeldHolds, Holds, JournalHolds,
 use Rattle.client_machine.specs.Dropping.{Drops}
 use Rattle.client_machine.specs.Moves.{CountsOn, CountsOnBy, MayMove}
 use Rattle.client_machine.specs.Settled.{orphan_count}
-use Rattle.client_machine.specs.Tables.{AreOpenOwners, IsTable}
-use Rattle.broker_core.specs.Tables.{TablesStand, table_of}
+use Rattle.client_machine.specs.Tables.{AreOpenOwners}
+use Rattle.broker_core.specs.Tables.{TablesStand, list_of}
+use Rattle.object_swap.specs.Items.{HasNone}
 use Rattle.broker_core.proofs.Journaling.{counted-left, counted-push, journal-close, journal-later}
-use Rattle.broker_core.proofs.Holding.{Entries, after-push, counters_in, fewer-counted, longer, moves_now, no_answer, no_state, none_is, not_told, others_in, still_right, table_now, told_before}
+use Rattle.broker_core.proofs.Holding.{Entries, after-push, counters_in, fewer-counted, longer, moves_now, no_answer, no_state, none_is, not_told, others_in, still_right, told_before}
 use Rattle.client_machine.proofs.Settling.{settled_at}
-use Rattle.broker_core.proofs.Tabling.{named-set, open_inside, owners-close, tables-close}
+use Rattle.broker_core.proofs.Tabling.{open_inside, owners-close, tables-close}
+use Rattle.broker_core.proofs.Listing.{lists-close, lists_same}
 use Rattle.broker_core.proofs.WorldStands.{stands-close}
 
 -- no context is numbered
@@ -34,11 +36,11 @@ counts_on old new counts = record {
 }
 
 stands_closed : {D : Type 0} (seen : D → Seen) {device new : D} (history : Entries) (tables : List (List (Option ℕ))) {held new_held : Held}
-    (client failed : ℕ) → StandsFor (seen device).base (seen device).state history tables held → TablesStand (clients_of history).present tables held.objects.items
+    {owners : List (Option ℕ)} (client failed : ℕ) → StandsFor (seen device).base (seen device).state history tables held → TablesStand (clients_of history).present tables held.objects.items
     → IsOpen history client → client < length tables → times_open client (clients_of history).present ≤ 1
-    → Drops seen client device new held new_held (table_of tables client) [] failed → list_any (is_owned client) new_held.sessions.items ≡ false
+    → Drops seen client device new held new_held owners failed → list_any (is_owned client) new_held.sessions.items ≡ false
     → StandsFor (seen new).base (seen new).state (history ++ close_entry client ∷ []) (set tables client []) new_held
-stands_closed seen {device = device} {new = new} history tables {held} {new_held} client failed stands tables_stand opened inside one drops none = λ b after is_base is_after.
+stands_closed seen {device = device} {new = new} history tables {held} {new_held} {owners} client failed stands tables_stand opened inside one drops none = λ b after is_base is_after.
     let before = told_before (seen device).state (seen new).state after drops.keeps.tells is_after in
     let slots = before.0 in
     let so_far = stands b slots (sym drops.keeps.base_is ∙ is_base) before.1 in
@@ -50,18 +52,20 @@ stands_closed seen {device = device} {new = new} history tables {held} {new_held
     (others_in client (seen device).state (seen new).state slots after held.objects.items new_held.objects.items drops.other_objects before.1 is_after) (drops.persist slots after before.1 is_after)
     (drops.other_sessions slots after before.1 is_after) none)
 
-held_closed : {D : Type 0} (seen : D → Seen) {device new : D} {began : ℕ} (history : Entries) (tables : List (List (Option ℕ))) {held new_held : Held}
-    (client failed : ℕ) → HeldHolds began (seen device).faults history tables held → times_open client (clients_of history).present ≤ 1 → client < length tables
-    → Drops seen client device new held new_held (table_of tables client) [] failed → list_any (is_owned client) new_held.sessions.items ≡ false
-    → HeldHolds began (seen new).faults (history ++ close_entry client ∷ []) (set tables client []) new_held
-held_closed seen {new = new} {began = began} history tables {held} {new_held} client failed h one inside drops none =
+held_closed : {D : Type 0} (seen : D → Seen) {device new : D} {began : ℕ} (history : Entries) (tables : List (List (Option ℕ))) {lists : List ℕ} {held new_held : Held}
+    (client failed : ℕ) → HeldHolds began (seen device).faults history tables lists held → times_open client (clients_of history).present ≤ 1 → IsOpen history client → client < length tables
+    → Drops seen client device new held new_held (set held.objects.owners (list_of lists client) None) failed → HasNone new_held.objects.items client
+    → list_any (is_owned client) new_held.sessions.items ≡ false
+    → HeldHolds began (seen new).faults (history ++ close_entry client ∷ []) (set tables client []) (set lists client 0) new_held
+held_closed seen {new = new} {began = began} history tables {lists} {held} {new_held} client failed h one opened inside drops empty none =
     let e : Entry = close_entry client in
     let present_is : (clients_of (history ++ e ∷ [])).present ≡ without client (clients_of history).present = ap (λ c. c.present) (clients_of-push history e) in
     record {
       each = subst (λ (p : List ℕ). TablesStand p (set tables client []) new_held.objects.items) (sym present_is)
-          (tables-close (clients_of history).present tables held.objects.items new_held.objects.items client h.each one inside drops.others);
+          (tables-close (clients_of history).present tables held.objects.items new_held.objects.items client h.each inside drops.others drops.gained empty);
       short = omega (arith, h.short, drops.length_is, longer history e);
-      named = omega (arith, h.named, drops.counted, named-set tables client [] inside);
+      listed = length-set lists client 0 ∙ h.listed ∙ sym (length-set tables client []);
+      lists_stand = lists_same present_is drops.lists (lists-close (clients_of history).present lists held.objects.owners client h.lists_stand one opened);
       owners = subst (λ (p : List ℕ). AreOpenOwners p new_held.sessions.items) (sym present_is)
           (owners-close client (clients_of history).present new_held.sessions.items none (drops.owners (clients_of history).present h.owners));
       counted = fewer-counted began (history ++ e ∷ [])
@@ -77,12 +81,13 @@ journal_closed {history = history} {limit = limit} {faults = faults} {faults_new
 
 -- whose flushes were answered or failed
 holds_closed : {D : Type 0} (seen : D → Seen) {device new : D} {began : ℕ} {history : Entries} {limit : ℕ}
-    {tables : List (List (Option ℕ))} {held new_held : Held} {present : ℕ} {wrong_code : Option ℕ} (client failed : ℕ)
-    → Holds began (seen device) history limit tables held present wrong_code
+    {tables : List (List (Option ℕ))} {lists : List ℕ} {held new_held : Held} {present : ℕ} {wrong_code : Option ℕ} (client failed : ℕ)
+    → Holds began (seen device) history limit tables lists held present wrong_code
     → is_some wrong_code ≡ false → IsOpen history client
-    → Drops seen client device new held new_held (table_of tables client) [] failed → list_any (is_owned client) new_held.sessions.items ≡ false
-    → Holds began (seen new) (history ++ close_entry client ∷ []) limit (set tables client []) new_held (present - 1) wrong_code
-holds_closed seen {device = device} {new = new} {began = began} {history = history} {tables = tables} {wrong_code = wrong_code} client failed h none opened drops unowned =
+    → Drops seen client device new held new_held (set held.objects.owners (list_of lists client) None) failed → HasNone new_held.objects.items client
+    → list_any (is_owned client) new_held.sessions.items ≡ false
+    → Holds began (seen new) (history ++ close_entry client ∷ []) limit (set tables client []) (set lists client 0) new_held (present - 1) wrong_code
+holds_closed seen {device = device} {new = new} {began = began} {history = history} {tables = tables} {wrong_code = wrong_code} client failed h none opened drops empty unowned =
     let none = none_is wrong_code none in
     let holds = h.objects none in
     let inside = open_inside (clients_of history).present client (length tables) h.journal.below opened in
@@ -90,7 +95,7 @@ holds_closed seen {device = device} {new = new} {began = began} {history = histo
     record {
       stands = stands_closed seen history tables client failed h.stands holds.each opened inside one drops unowned;
       journal = journal_closed _ client h.journal opened drops.keeps.count;
-      objects = λ _. held_closed seen history tables client failed holds one inside drops unowned;
+      objects = λ _. held_closed seen history tables client failed holds one opened inside drops empty unowned;
       answers = record {
         answer = no_answer (asked_of (seen new)) (last_of (seen new)) wrong_code none;
         right = λ _. still_right seen device new (h.answers.right none) drops.right;
@@ -102,24 +107,25 @@ holds_closed seen {device = device} {new = new} {began = began} {history = histo
       placed = omega (arith, h.placed, drops.length_is);
     }
 
--- the same of a table that is known by itself
-pub table_closed : {D : Type 0} (seen : D → Seen) {device new : D} {began : ℕ} {history : Entries} {limit : ℕ}
-    {tables : List (List (Option ℕ))} {table : List (Option ℕ)} {held new_held : Held} {present : ℕ} {wrong_code : Option ℕ} (client failed : ℕ)
-    → Holds began (seen device) history limit tables held present wrong_code
-    → is_some wrong_code ≡ false → IsOpen history client → table_of tables client ≡ table
-    → Drops seen client device new held new_held table [] failed → list_any (is_owned client) new_held.sessions.items ≡ false
-    → Holds began (seen new) (history ++ close_entry client ∷ []) limit (set tables client []) new_held (present - 1) wrong_code
-table_closed seen {device = device} {new = new} {held = held} {new_held = new_held} client failed h none opened is drops unowned =
+-- the same of a list that is known by itself
+pub list_closed : {D : Type 0} (seen : D → Seen) {device new : D} {began : ℕ} {history : Entries} {limit : ℕ}
+    {tables : List (List (Option ℕ))} {lists : List ℕ} {list : ℕ} {held new_held : Held} {present : ℕ} {wrong_code : Option ℕ} (client failed : ℕ)
+    → Holds began (seen device) history limit tables lists held present wrong_code
+    → is_some wrong_code ≡ false → IsOpen history client → list ≡ list_of lists client
+    → Drops seen client device new held new_held (set held.objects.owners list None) failed → HasNone new_held.objects.items client
+    → list_any (is_owned client) new_held.sessions.items ≡ false
+    → Holds began (seen new) (history ++ close_entry client ∷ []) limit (set tables client []) (set lists client 0) new_held (present - 1) wrong_code
+list_closed seen {device = device} {new = new} {held = held} {new_held = new_held} client failed h none opened is drops empty unowned =
     holds_closed seen client failed h none opened
-    (subst (λ (t : List (Option ℕ)). Drops seen client device new held new_held t [] failed) (sym is) drops) unowned
+    (subst (λ (l : ℕ). Drops seen client device new held new_held (set held.objects.owners l None) failed) is drops) empty unowned
 
 -- to whose flush a wrong answer came
 pub holds_closed_wrong : {began : ℕ} {seen new_seen : Seen} {history : Entries} {limit : ℕ}
-    {tables : List (List (Option ℕ))} {held new_held : Held} {present : ℕ} {wrong_code : Option ℕ} (client code : ℕ)
-    → Holds began seen history limit tables held present wrong_code → IsOpen history client → seen.faults ≤ new_seen.faults
+    {tables : List (List (Option ℕ))} {lists : List ℕ} {held new_held : Held} {present : ℕ} {wrong_code : Option ℕ} (client code : ℕ)
+    → Holds began seen history limit tables lists held present wrong_code → IsOpen history client → seen.faults ≤ new_seen.faults
     → new_held.objects.slots ≡ held.objects.slots → length new_held.objects.items ≡ length held.objects.items
     → IsWrongAnswer (asked_of new_seen) (last_of new_seen) code × (new_seen.state ≡ None)
-    → Holds began new_seen (history ++ close_entry client ∷ []) limit (set tables client []) new_held (present - 1) (Some code)
+    → Holds began new_seen (history ++ close_entry client ∷ []) limit (set tables client []) (set lists client 0) new_held (present - 1) (Some code)
 holds_closed_wrong {began = began} {new_seen = new_seen} {history = history} client code h opened count same_slots same_length answer = record {
   stands = λ b slots is_base is_state. absurd (no_state new_seen.state slots answer.1 is_state);
   journal = journal_closed _ client h.journal opened count;
@@ -135,10 +141,10 @@ not_none : (wrong_code : Option ℕ) → is_some wrong_code ≡ true → wrong_c
 not_none wrong_code some none = let no : is_some wrong_code ≡ false = ap is_some none in absurd cc
 
 -- after a wrong answer
-pub holds_closed_after : {began : ℕ} {seen : Seen} {history : Entries} {limit : ℕ} {tables : List (List (Option ℕ))} {held : Held}
-    {present : ℕ} {wrong_code : Option ℕ} (client : ℕ) → Holds began seen history limit tables held present wrong_code
+pub holds_closed_after : {began : ℕ} {seen : Seen} {history : Entries} {limit : ℕ} {tables : List (List (Option ℕ))} {lists : List ℕ} {held : Held}
+    {present : ℕ} {wrong_code : Option ℕ} (client : ℕ) → Holds began seen history limit tables lists held present wrong_code
     → is_some wrong_code ≡ true → IsOpen history client
-    → Holds began seen (history ++ close_entry client ∷ []) limit (set tables client []) held (present - 1) wrong_code
+    → Holds began seen (history ++ close_entry client ∷ []) limit (set tables client []) (set lists client 0) held (present - 1) wrong_code
 holds_closed_after {began = began} {seen = seen} {history = history} {wrong_code = wrong_code} client h some opened = record {
   stands = λ b slots is_base is_state. absurd (not_none wrong_code some (h.answers.taken (let yes : is_some seen.state ≡ true = ap is_some is_state in yes)));
   journal = journal_closed _ client h.journal opened (omega arith);
@@ -151,13 +157,8 @@ holds_closed_after {began = began} {seen = seen} {history = history} {wrong_code
 }
 
 -- what a close may begin with
-pub table_same : {began : ℕ} {seen : Seen} {history : Entries} {limit : ℕ} {tables : List (List (Option ℕ))} {held : Held}
-    {present : ℕ} {wrong_code : Option ℕ} (client : ℕ) (table : List (Option ℕ)) → Holds began seen history limit tables held present wrong_code
-    → is_some wrong_code ≡ false → table_of tables client ≡ table → IsTable held.objects.items client table
-table_same {held = held} client table h none is = table_now held.objects.items client table h none (inl refl) is
-
-pub moves_same : {D : Type 0} (seen : D → Seen) (device : D) {began : ℕ} {history : Entries} {limit : ℕ} {tables : List (List (Option ℕ))} {held : Held}
-    {present : ℕ} {wrong_code : Option ℕ} → is_some (seen device).state ≡ is_some (seen device).base → Holds began (seen device) history limit tables held present wrong_code
+pub moves_same : {D : Type 0} (seen : D → Seen) (device : D) {began : ℕ} {history : Entries} {limit : ℕ} {tables : List (List (Option ℕ))} {lists : List ℕ} {held : Held}
+    {present : ℕ} {wrong_code : Option ℕ} → is_some (seen device).state ≡ is_some (seen device).base → Holds began (seen device) history limit tables lists held present wrong_code
     → MayMove 2000 seen device held
 moves_same seen device {held = held} same h = moves_now seen device held.objects.items same h (inl refl) refl
 

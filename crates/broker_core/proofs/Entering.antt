@@ -32,7 +32,7 @@ use Rattle.client_machine.specs.Moves.{Executes, IsAtHand, IsCalm, IsFlushSent, 
 use Rattle.client_machine.specs.Settled.{orphan_count}
 use Rattle.client_machine.specs.Tables.{device_handle, flush_fault_of, flush_sent, flush_sent_unless, flushed_handle, owned_handles, slot_handle, tables_had}
 use Rattle.broker_core.specs.Tables.{table_of}
-use Rattle.broker_core.proofs.Holding.{AreMore, more_orphans, still_right}
+use Rattle.broker_core.proofs.Holding.{AreMore, still_right}
 use Rattle.client_machine.proofs.Bringing.{command_shape}
 use Rattle.client_machine.proofs.Doing.{no_handle}
 use Rattle.broker_core.proofs.Tabling.{item_pushed, names_pushed, residents-more, table_own}
@@ -124,7 +124,7 @@ flush_more tables table items more (Ok handle) are = unless_more table items mor
 at_hand_more : (held : Held) (more : List Item) (table : List (Option ℕ)) (a : Admitted) (bytes : List ℕ) → AreMore held.objects.items more
     → IsAtHand held table a bytes → IsAtHand (with_items held more) table a bytes
 at_hand_more held more table a bytes are at_hand = record {
-  nobodys = omega (arith, at_hand.nobodys, more_orphans held.objects.items more are);
+  nobodys = at_hand.nobodys;
   narrow = at_hand.narrow;
   placed = λ transient.
       ap (λ (slot : Option ℕ). is_some slot) (slot_more held.objects.items more (held_under table (first_handle a)) are) ∙ at_hand.placed transient;
@@ -149,7 +149,7 @@ stays_more held {new_held = new_held} more saves are is_held stays = λ narrow.
 
 -- nor how much is nobody's
 count_more : (held : Held) (more : List Item) → AreMore held.objects.items more → orphan_count (with_items held more) ≡ orphan_count held
-count_more held more are = omega (arith, more_orphans held.objects.items more are)
+count_more held more are = refl
 
 -- nor what has to move
 residents_more : (items more : List Item) → AreMore items more → residents more ≡ residents items

@@ -1,7 +1,7 @@
 -- What holds of a broker holds of it after each of its calls.
 use Rattle.std.proofs.Common.{◌≡◌, ◌<◌, ◌≤◌, ◌+◌, ◌^◌, ℕ, true, false, List, [], ◌∷◌, ◌++◌, length, Option, Some, None, Err, refl, sym, ap, subst, ◌∙◌, arith, inl, inr, length-append}
 use Rattle.std.specs.Prelude.{◌⊎◌, is_some, IsSome, IfSome, set}
-use Rattle.std.specs.List.{AllByRecursion, count_by, list_any}
+use Rattle.std.specs.List.{AllByRecursion, list_any}
 use Rattle.std.proofs.lemmas.Bool.{and_parts, leb-true}
 use Rattle.std.proofs.lemmas.List.{length-set}
 use Rattle.tab_spec.specs.declared.TheConstants.{CONTEXT_LIMIT, OBJECT_SLOTS, RC_CANCELED, RC_DEVICE_FAULT}
@@ -16,7 +16,7 @@ use Rattle.device_spec.specs.Slots.{SlotState}
 use Rattle.device_port.specs.Device.{Seen, asked_of, last_of}
 use Rattle.device_laws.proofs.Frames.{error_is_frame}
 use Rattle.object_swap.specs.Items as objects
-use Rattle.object_swap.specs.Items.{Item, is_vacant, no_item}
+use Rattle.object_swap.specs.Items.{Item, ObjectsView, has_list, is_vacant, no_item, owner_at}
 use Rattle.session_swap.specs.Items as sessions
 use Rattle.history_spec.specs.declared.Pick.{Pick}
 use Rattle.history_spec.specs.declared.Pick.TheVariants.{Nothing}
@@ -30,14 +30,15 @@ use Rattle.broker_core.specs.Broker.{FaultsCounted, HeldHolds, Holds, JournalHol
 use Rattle.client_machine.specs.Moves.{CountsOn, KeepsObjectsOf, MayMove, Moves, Stays, StaysAs, StepsAs, client_state, other_than}
 use Rattle.client_machine.specs.Settled.{IsSettled, Settled, orphan_count}
 use Rattle.broker_core.specs.Stands.{Stands, sequences_of}
-use Rattle.client_machine.specs.Tables.{AreOpenOwners, IsTable, held_items, tables_seen}
-use Rattle.broker_core.specs.Tables.{TablesStand, table_of}
+use Rattle.client_machine.specs.Tables.{AreOpenOwners, IsTable, tables_seen}
+use Rattle.broker_core.specs.Tables.{TablesStand, list_of, table_of, with_owners}
+use Rattle.broker_core.proofs.Listing.{Gives, lists-opened, lists_same, no_list}
 use Rattle.object_swap.specs.declared.TheConstants.{PLACES_MOST}
 use Rattle.broker_core.proofs.Journaling.{counted-fault, counted-later, counted-push, few-entries, journal-entry, journal-later, journal-open}
 use Rattle.client_machine.proofs.Keeping.{right_none}
 use Rattle.broker_core.proofs.Placing.{present_same, tables_same}
 use Rattle.client_machine.proofs.Settling.{settled_at}
-use Rattle.broker_core.proofs.Tabling.{held-more, named-pushed, named-set, none-named, open_inside, orphans-more, owners-open, tables-more, tables-open, tables-step}
+use Rattle.broker_core.proofs.Tabling.{AreNowhere, none_rests, open_inside, open_none, owners-open, tables-more, tables-open, tables-step}
 use Rattle.broker_core.proofs.WorldStands.{RoseBoth, Stepped, held_slots, stands-longer, stands-more, stands-open, stands-stay, stands-step, steps-refused, with_items}
 
 -- ---- what a device tells
@@ -72,14 +73,6 @@ more_stands : (world : World) (slots : SlotState) (tables : List (List (Option �
     → Stands world slots tables held n → Stands world slots tables (with_items held more) n
 more_stands world slots tables held more n (inl same) stands = subst (λ (i : List Item). Stands world slots tables (with_items held i) n) (sym same) stands
 more_stands world slots tables held more n (inr longer) stands = subst (λ (i : List Item). Stands world slots tables (with_items held i) n) (sym longer) (stands-more world slots tables held n stands)
-
-more_held : (items more : List Item) → AreMore items more → held_items more ≡ held_items items
-more_held items more (inl same) = ap held_items same
-more_held items more (inr longer) = ap held_items longer ∙ held-more items
-
-pub more_orphans : (items more : List Item) → AreMore items more → count_by objects.is_orphan more ≡ count_by objects.is_orphan items
-more_orphans items more (inl same) = ap (count_by objects.is_orphan) same
-more_orphans items more (inr longer) = ap (count_by objects.is_orphan) longer ∙ orphans-more items
 
 more_length : (items more : List Item) → AreMore items more → length more ≤ length items + 1
 more_length items more (inl same) = omega (arith, ap length same)
@@ -150,7 +143,7 @@ stepped_by base history client number pick bytes reply world slots new tables ne
 
 stands_carried : {D : Type 0} {seen : D → Seen} {device new : D} (history : Entries) (tables : List (List (Option ℕ))) {held new_held : Held}
     (client number : ℕ) (pick : Pick) {new_table : List (Option ℕ)} (bytes reply : List ℕ) → StandsFor (seen device).base (seen device).state history tables held → TablesStand (clients_of history).present tables held.objects.items
-    → IsOpen history client → client < length tables → IsNextNumber history client number → Moves seen client device new held new_held (table_of tables client) new_table
+    → IsOpen history client → client < length tables → IsNextNumber history client number → Moves seen client device new held new_held new_table
     → StepsAs (λ s. client_step client s bytes pick) (seen device).state (seen new).state held new_held (table_of tables client) new_table reply
     → StandsFor (seen new).base (seen new).state (history ++ command_entry client number pick bytes reply ∷ []) (set tables client new_table) new_held
 stands_carried {seen = seen} {device = device} {new = new} history tables {held} {new_held} client number pick {new_table} bytes reply stands tables_stand opened inside next moves steps = λ b after is_base is_after.
@@ -183,7 +176,7 @@ stands_canceled base state history tables held client number upto bytes stands o
 
 stands_faulted : {D : Type 0} {seen : D → Seen} {device new : D} (history : Entries) (tables : List (List (Option ℕ))) {held new_held : Held}
     (client number : ℕ) {new_table : List (Option ℕ)} (bytes : List ℕ) → StandsFor (seen device).base (seen device).state history tables held → TablesStand (clients_of history).present tables held.objects.items
-    → IsOpen history client → IsNextNumber history client number → Moves seen client device new held new_held (table_of tables client) new_table
+    → IsOpen history client → IsNextNumber history client number → Moves seen client device new held new_held new_table
     → StaysAs (seen device).state (seen new).state held new_held (table_of tables client) → AllByRecursion (λ x. x.faults ≤ (seen device).faults) history → Rose (seen device).faults (seen new).faults
     → StandsFor (seen new).base (seen new).state (history ++ fault_entry client number (seen new).faults bytes (error_reply RC_DEVICE_FAULT) ∷ []) tables new_held
 stands_faulted {seen = seen} {device = device} {new = new} history tables {held} {new_held} client number {new_table} bytes stands tables_stand opened next moves stays counts rose = λ b after is_base is_after.
@@ -199,94 +192,103 @@ stands_faulted {seen = seen} {device = device} {new = new} history tables {held}
     (others_in client (seen device).state (seen new).state slots after held.objects.items new_held.objects.items moves.other_objects before.1 is_after)
     (stays slots after (sequences_of (world_of b history)) before.1 is_after))
 
-stands_opened : (base : Option Persist) (state : Option SlotState) (history : Entries) (tables : List (List (Option ℕ))) (held : Held) (number : ℕ) → number ≡ (clients_of history).opened
-    → StandsFor base state history tables held → StandsFor base state (history ++ open_entry number ∷ []) (tables ++ [] ∷ []) held
-stands_opened base state history tables held number is_next stands = λ b slots is_base is_state.
+stands_opened : (base : Option Persist) (state : Option SlotState) (history : Entries) (tables : List (List (Option ℕ))) (held : Held) (owners : List (Option ℕ)) (number : ℕ)
+    → number ≡ (clients_of history).opened → StandsFor base state history tables held
+    → StandsFor base state (history ++ open_entry number ∷ []) (tables ++ [] ∷ []) (with_owners held owners)
+stands_opened base state history tables held owners number is_next stands = λ b slots is_base is_state.
     let so_far = stands b slots is_base is_state in
     let e : Entry = open_entry number in
-    after-push b slots history e tables held (opened_world (world_of b history) number) so_far (ap open_entry is_next) slots (tables ++ [] ∷ []) held (world_of-push b history e)
-    (stands-open (world_of b history) slots tables held (length history) number so_far.stands)
+    after-push b slots history e tables held (opened_world (world_of b history) number) so_far (ap open_entry is_next) slots (tables ++ [] ∷ []) (with_owners held owners) (world_of-push b history e)
+    (stands-open (world_of b history) slots tables held owners (length history) number so_far.stands)
 
 -- ---- the objects and the sessions
 
 pub longer : (history : Entries) (e : Entry) → length (history ++ e ∷ []) ≡ length history + 1
 longer history e = length-append history (e ∷ [])
 
-held_carried : {D : Type 0} {seen : D → Seen} {device new : D} {began before after : ℕ} (history : Entries) (e : Entry) (tables : List (List (Option ℕ))) {held new_held : Held} {more : List Item} {client : ℕ} {new_table : List (Option ℕ)}
-    → HeldHolds began before history tables held → AreMore held.objects.items more → present_by e.kind e.client (clients_of history).present ≡ (clients_of history).present
-    → IsOpen history client → client < length tables → Moves seen client device new (with_items held more) new_held (table_of tables client) new_table
+held_carried : {D : Type 0} {seen : D → Seen} {device new : D} {began before after : ℕ} (history : Entries) (e : Entry) (tables : List (List (Option ℕ))) {lists : List ℕ} {held new_held : Held} {more : List Item} {client : ℕ} {new_table : List (Option ℕ)}
+    → HeldHolds began before history tables lists held → AreMore held.objects.items more → present_by e.kind e.client (clients_of history).present ≡ (clients_of history).present
+    → IsOpen history client → client < length tables → Moves seen client device new (with_items held more) new_held new_table
     → FaultsCounted began after (history ++ e ∷ []) (orphan_count held)
-    → HeldHolds began after (history ++ e ∷ []) (set tables client new_table) new_held
-held_carried {began = began} history e tables {held} {new_held} {more} {client} {new_table} h are same opened inside moves counted =
+    → HeldHolds began after (history ++ e ∷ []) (set tables client new_table) lists new_held
+held_carried {began = began} history e tables {lists} {held} {new_held} {more} {client} {new_table} h are same opened inside moves counted =
     let items = held.objects.items in
     let new_items = new_held.objects.items in
-    let orphans = more_orphans items more are in
     let present_is = present_same history e same in
     record {
       each = subst (λ (p : List ℕ). TablesStand p (set tables client new_table) new_items) (sym present_is)
-          (tables-step (clients_of history).present tables more new_items client new_table (more_tables (clients_of history).present tables items more are h.each) opened inside moves.others moves.own_table);
+          (tables-step (clients_of history).present tables more new_items client new_table (more_tables (clients_of history).present tables items more are h.each) opened inside moves.others moves.gained moves.own_table);
       short = omega (arith, h.short, more_length items more are, moves.length_is, longer history e);
-      named = omega (arith, h.named, more_held items more are, orphans, moves.counted, named-set tables client new_table inside);
+      listed = h.listed ∙ sym (length-set tables client new_table);
+      lists_stand = lists_same present_is moves.lists h.lists_stand;
       owners = subst (λ (p : List ℕ). AreOpenOwners p new_held.sessions.items) (sym present_is) (moves.owners (clients_of history).present opened h.owners);
-      counted = fewer-counted began (history ++ e ∷ []) counted (omega (arith, moves.orphans, orphans));
+      counted = fewer-counted began (history ++ e ∷ []) counted (omega (arith, moves.orphans));
     }
 
-held_refused : {began faults : ℕ} (history : Entries) (e : Entry) {tables : List (List (Option ℕ))} {held : Held}
-    → HeldHolds began faults history tables held → present_by e.kind e.client (clients_of history).present ≡ (clients_of history).present → is_fault e ≡ false
-    → HeldHolds began faults (history ++ e ∷ []) tables held
-held_refused {began = began} history e {tables} {held} h same no_fault = record {
+held_refused : {began faults : ℕ} (history : Entries) (e : Entry) {tables : List (List (Option ℕ))} {lists : List ℕ} {held : Held}
+    → HeldHolds began faults history tables lists held → present_by e.kind e.client (clients_of history).present ≡ (clients_of history).present → is_fault e ≡ false
+    → HeldHolds began faults (history ++ e ∷ []) tables lists held
+held_refused {began = began} history e {tables} {lists} {held} h same no_fault = record {
   each = subst (λ (p : List ℕ). TablesStand p tables held.objects.items) (sym (present_same history e same)) h.each;
   short = omega (arith, h.short, longer history e);
-  named = h.named;
+  listed = h.listed;
+  lists_stand = lists_same (present_same history e same) refl h.lists_stand;
   owners = subst (λ (p : List ℕ). AreOpenOwners p held.sessions.items) (sym (present_same history e same)) h.owners;
   counted = counted-push began history e (orphan_count held) h.counted (omega arith) no_fault;
 }
 
-held_opened : {began faults : ℕ} (history : Entries) {tables : List (List (Option ℕ))} {held : Held}
-    → HeldHolds began faults history tables held
-    → HeldHolds began faults (history ++ open_entry (length tables) ∷ []) (tables ++ [] ∷ []) held
-held_opened {began = began} history {tables} {held} h =
+held_opened : {began faults : ℕ} (history : Entries) {tables : List (List (Option ℕ))} {lists : List ℕ} {held : Held} (list : ℕ) (owners : List (Option ℕ))
+    → AllByRecursion (λ client. client < length tables) (clients_of history).present → HeldHolds began faults history tables lists held → Gives held.objects.owners owners list (length tables)
+    → HeldHolds began faults (history ++ open_entry (length tables) ∷ []) (tables ++ [] ∷ []) (lists ++ list ∷ []) (with_owners held owners)
+held_opened {began = began} history {tables} {lists} {held} list owners below h gives =
     let e : Entry = open_entry (length tables) in
     let present_is : (clients_of (history ++ e ∷ [])).present ≡ (clients_of history).present ++ length tables ∷ [] = ap (λ c. c.present) (clients_of-push history e) in
     record {
       each = subst (λ (p : List ℕ). TablesStand p (tables ++ [] ∷ []) held.objects.items) (sym present_is) (tables-open (clients_of history).present tables held.objects.items h.each);
       short = omega (arith, h.short, longer history e);
-      named = omega (arith, h.named, named-pushed tables);
+      listed = omega (arith, h.listed, length-append tables ([] ∷ []), length-append lists (list ∷ []));
+      lists_stand = lists_same present_is refl (lists-opened (clients_of history).present lists held.objects.owners owners list (length tables) (sym h.listed) below h.lists_stand gives);
       owners = subst (λ (p : List ℕ). AreOpenOwners p held.sessions.items) (sym present_is) (owners-open (clients_of history).present (length tables) held.sessions.items h.owners);
       counted = counted-push began history e (orphan_count held) h.counted (omega arith) refl;
     }
 
 -- what the device holds where no client is open
-held_closed : {began faults : ℕ} (history : Entries) (tables : List (List (Option ℕ))) (held : Held) (slots : SlotState)
-    → HeldHolds began faults history tables held → (clients_of history).present ≡ [] → IsSettled slots held → FaultsCounted began faults history (device.held slots)
-held_closed {began = began} {faults = faults} history tables held slots h none settled =
-    let nobody = none-named tables held.objects.items (subst (λ (p : List ℕ). TablesStand p tables held.objects.items) none h.each) in
+held_closed : {began faults : ℕ} (history : Entries) (tables : List (List (Option ℕ))) {lists : List ℕ} (held : Held) (slots : SlotState)
+    → HeldHolds began faults history tables lists held → (clients_of history).present ≡ [] → IsSettled slots held → AreNowhere held.objects.items
+    → FaultsCounted began faults history (device.held slots)
+held_closed {began = began} {faults = faults} history tables held slots h none settled nowhere =
+    let nobody = none_rests tables held.objects.items (subst (λ (p : List ℕ). TablesStand p tables held.objects.items) none h.each) nowhere in
     let owners = subst (λ (p : List ℕ). AreOpenOwners p held.sessions.items) none h.owners in
-    let most : device.held slots ≤ orphan_count held = omega (arith, held_slots slots held settled owners, h.named, nobody) in
-    fewer-counted began history h.counted most
+    fewer-counted began history h.counted (held_slots slots held settled owners nobody)
 
-pub held_told : (began : ℕ) (base : Option Persist) (state : Option SlotState) (faults : ℕ) (history : Entries) (tables : List (List (Option ℕ))) (held : Held) (wrong_code : Option ℕ)
-    → is_some state ≡ is_some base → StandsFor base state history tables held → (wrong_code ≡ None → HeldHolds began faults history tables held) → (IsSome state → wrong_code ≡ None)
-    → (clients_of history).present ≡ [] → IfSome state (λ slots. FaultsCounted began faults history (device.held slots))
-held_told began base None faults history tables held wrong_code same stands holds taken none = tt
-held_told began (Some b) (Some slots) faults history tables held wrong_code same stands holds taken none =
-    held_closed history tables held slots (holds (taken refl)) none (stands b slots refl refl).stands.settled
-held_told began None (Some slots) faults history tables held wrong_code same stands holds taken none = absurd cc
+pub held_told : (began : ℕ) (base : Option Persist) (state : Option SlotState) (faults : ℕ) (history : Entries) (tables : List (List (Option ℕ))) {lists : List ℕ} (held : Held) (wrong_code : Option ℕ)
+    → is_some state ≡ is_some base → StandsFor base state history tables held → (wrong_code ≡ None → HeldHolds began faults history tables lists held) → (IsSome state → wrong_code ≡ None)
+    → AreNowhere held.objects.items → (clients_of history).present ≡ [] → IfSome state (λ slots. FaultsCounted began faults history (device.held slots))
+held_told began base None faults history tables held wrong_code same stands holds taken nowhere none = tt
+held_told began (Some b) (Some slots) faults history tables held wrong_code same stands holds taken nowhere none =
+    held_closed history tables held slots (holds (taken refl)) none (stands b slots refl refl).stands.settled nowhere
+held_told began None (Some slots) faults history tables held wrong_code same stands holds taken nowhere none = absurd cc
 
 -- ---- a broker
 
+pub none_is : {A : Type 0} (o : Option A) → is_some o ≡ false → o ≡ None
+none_is (Some x) none = absurd cc
+none_is None none = refl
+
 -- a client was opened
-pub holds_opened : {began : ℕ} {seen : Seen} {history : Entries} {limit : ℕ} {tables : List (List (Option ℕ))} {held : Held}
-    {present : ℕ} {wrong_code : Option ℕ} (number : ℕ) → Holds began seen history limit tables held present wrong_code
-    → number ≡ length tables → HasRoomForClient limit history
-    → Holds began seen (history ++ open_entry number ∷ []) limit (tables ++ [] ∷ []) held (present + 1) wrong_code
-holds_opened {began = began} {seen = seen} {history = history} {limit = limit} {tables = tables} {held = held} {present = present} number h is_next room =
+holds_opened : {began : ℕ} {seen : Seen} {history : Entries} {limit : ℕ} {tables : List (List (Option ℕ))} {lists : List ℕ} {held : Held}
+    {present : ℕ} {wrong_code : Option ℕ} (number list : ℕ) (owners : List (Option ℕ)) → Holds began seen history limit tables lists held present wrong_code
+    → number ≡ length tables → HasRoomForClient limit history → Gives held.objects.owners owners list number
+    → Holds began seen (history ++ open_entry number ∷ []) limit (tables ++ [] ∷ []) (lists ++ list ∷ []) (with_owners held owners) (present + 1) wrong_code
+holds_opened {began = began} {seen = seen} {history = history} {limit = limit} {tables = tables} {lists = lists} {held = held} {present = present} number list owners h is_next room gives =
     let e : Entry = open_entry number in
+    let gives_next = subst (Gives held.objects.owners owners list) is_next gives in
     record {
-      stands = stands_opened seen.base seen.state history tables held number (is_next ∙ h.journal.opened_is) h.stands;
+      stands = stands_opened seen.base seen.state history tables held owners number (is_next ∙ h.journal.opened_is) h.stands;
       journal = subst (λ (n : ℕ). JournalHolds (history ++ open_entry n ∷ []) limit seen.faults (length (tables ++ [] ∷ [])) (present + 1)) (sym is_next)
           (subst (λ (n : ℕ). JournalHolds (history ++ open_entry (length tables) ∷ []) limit seen.faults n (present + 1)) (sym (length-append tables ([] ∷ []))) (journal-open h.journal room));
-      objects = λ none. subst (λ (n : ℕ). HeldHolds began seen.faults (history ++ open_entry n ∷ []) (tables ++ [] ∷ []) held) (sym is_next) (held_opened history (h.objects none));
+      objects = λ none. subst (λ (n : ℕ). HeldHolds began seen.faults (history ++ open_entry n ∷ []) (tables ++ [] ∷ []) (lists ++ list ∷ []) (with_owners held owners)) (sym is_next)
+          (held_opened history list owners h.journal.below (h.objects none) gives_next);
       answers = h.answers;
       faulted = counted-push began history e 0 h.faulted (omega arith) refl;
       slots_are = h.slots_are;
@@ -294,18 +296,38 @@ holds_opened {began = began} {seen = seen} {history = history} {limit = limit} {
       placed = h.placed;
     }
 
+-- the same of what is held with a list more that is given
+pub view_opened : {began : ℕ} {seen : Seen} {history : Entries} {limit : ℕ} {tables : List (List (Option ℕ))} {lists : List ℕ} {held : Held}
+    {present : ℕ} {wrong_code : Option ℕ} (number list : ℕ) (view : ObjectsView) → Holds began seen history limit tables lists held present wrong_code
+    → number ≡ length tables → HasRoomForClient limit history → Gives held.objects.owners view.owners list number → view ≡ record held.objects { owners = view.owners }
+    → Holds began seen (history ++ open_entry number ∷ []) limit (tables ++ [] ∷ []) (lists ++ list ∷ []) (record { objects = view; sessions = held.sessions }) (present + 1) wrong_code
+view_opened {began = began} {seen = seen} {history = history} {limit = limit} {tables = tables} {lists = lists} {held = held} {present = present} {wrong_code = wrong_code} number list view h is_next room gives is =
+    subst (λ (v : ObjectsView). Holds began seen (history ++ open_entry number ∷ []) limit (tables ++ [] ∷ []) (lists ++ list ∷ []) (record { objects = v; sessions = held.sessions }) (present + 1) wrong_code)
+    (sym is) (holds_opened number list view.owners h is_next room gives)
+
+-- a client that is opened has no list yet
+pub none_listed : {began : ℕ} {seen : Seen} {history : Entries} {limit : ℕ} {tables : List (List (Option ℕ))} {lists : List ℕ} {held : Held}
+    {present : ℕ} {wrong_code : Option ℕ} (number : ℕ) → Holds began seen history limit tables lists held present wrong_code
+    → is_some wrong_code ≡ false → number ≡ length tables → has_list held.objects.owners number ≡ false
+none_listed {history = history} {tables = tables} {lists = lists} {held = held} {wrong_code = wrong_code} number h none is_next =
+    no_list (clients_of history).present lists held.objects.owners number (h.objects (none_is wrong_code none)).lists_stand
+    (open_none (clients_of history).present number (length tables) h.journal.below (omega (arith, is_next)))
+
+-- the list of an open client is its own
+pub own_list : {began : ℕ} {seen : Seen} {history : Entries} {limit : ℕ} {tables : List (List (Option ℕ))} {lists : List ℕ} {held : Held}
+    {present : ℕ} {wrong_code : Option ℕ} (client list : ℕ) → Holds began seen history limit tables lists held present wrong_code
+    → is_some wrong_code ≡ false → IsOpen history client → list ≡ list_of lists client → owner_at held.objects.owners list ≡ Some client
+own_list {held = held} {wrong_code = wrong_code} client list h none opened is =
+    ap (owner_at held.objects.owners) is ∙ (h.objects (none_is wrong_code none)).lists_stand.own client opened
+
 -- ---- a command
 
-pub none_is : {A : Type 0} (o : Option A) → is_some o ≡ false → o ≡ None
-none_is (Some x) none = absurd cc
-none_is None none = refl
-
-pub inside_tables : {began : ℕ} {seen : Seen} {history : Entries} {limit : ℕ} {tables : List (List (Option ℕ))} {held : Held}
-    {present : ℕ} {wrong_code : Option ℕ} (client : ℕ) → Holds began seen history limit tables held present wrong_code → IsOpen history client → client < length tables
+pub inside_tables : {began : ℕ} {seen : Seen} {history : Entries} {limit : ℕ} {tables : List (List (Option ℕ))} {lists : List ℕ} {held : Held}
+    {present : ℕ} {wrong_code : Option ℕ} (client : ℕ) → Holds began seen history limit tables lists held present wrong_code → IsOpen history client → client < length tables
 inside_tables {history = history} {tables = tables} client h opened = open_inside (clients_of history).present client (length tables) h.journal.below opened
 
-pub few_items : {began : ℕ} {seen : Seen} {history : Entries} {limit : ℕ} {tables : List (List (Option ℕ))} {held : Held}
-    {present : ℕ} {wrong_code : Option ℕ} → Holds began seen history limit tables held present wrong_code → length held.objects.items ≤ 2 ^ 31
+pub few_items : {began : ℕ} {seen : Seen} {history : Entries} {limit : ℕ} {tables : List (List (Option ℕ))} {lists : List ℕ} {held : Held}
+    {present : ℕ} {wrong_code : Option ℕ} → Holds began seen history limit tables lists held present wrong_code → length held.objects.items ≤ 2 ^ 31
 few_items h = h.placed
 
 size_most : (size : ℕ) → is_size size ≡ true → size ≤ 4096
@@ -329,11 +351,11 @@ pub no_state : (state : Option SlotState) (slots : SlotState) → state ≡ None
 no_state state slots none some = let yes : is_some state ≡ true = ap is_some some in let no : is_some state ≡ false = ap is_some none in cc
 
 -- one that the broker refused by itself
-pub holds_refused : {began : ℕ} {seen : Seen} {history : Entries} {limit : ℕ} {tables : List (List (Option ℕ))} {held : Held}
-    {present : ℕ} {wrong_code : Option ℕ} (client number : ℕ) (bytes : List ℕ) (code : ℕ) → Holds began seen history limit tables held present wrong_code
+pub holds_refused : {began : ℕ} {seen : Seen} {history : Entries} {limit : ℕ} {tables : List (List (Option ℕ))} {lists : List ℕ} {held : Held}
+    {present : ℕ} {wrong_code : Option ℕ} (client number : ℕ) (bytes : List ℕ) (code : ℕ) → Holds began seen history limit tables lists held present wrong_code
     → is_some wrong_code ≡ false → IsOpen history client → IsNextNumber history client number → client_admitted (tables_seen client (table_of tables client) held.sessions.items) bytes ≡ Err code
     → HasRoom limit history bytes
-    → Holds began seen (history ++ command_entry client number Nothing bytes (error_reply code) ∷ []) limit tables held present wrong_code
+    → Holds began seen (history ++ command_entry client number Nothing bytes (error_reply code) ∷ []) limit tables lists held present wrong_code
 holds_refused {began = began} {seen = seen} {history = history} {tables = tables} {held = held} {wrong_code = wrong_code} client number bytes code h none opened next refused has_room =
     let e : Entry = command_entry client number Nothing bytes (error_reply code) in
     let holds = h.objects (none_is wrong_code none) in
@@ -349,10 +371,10 @@ holds_refused {began = began} {seen = seen} {history = history} {tables = tables
     }
 
 -- one that was canceled before it ran
-pub holds_canceled : {began : ℕ} {seen : Seen} {history : Entries} {limit : ℕ} {tables : List (List (Option ℕ))} {held : Held}
-    {present : ℕ} {wrong_code : Option ℕ} (client number upto : ℕ) (bytes : List ℕ) → Holds began seen history limit tables held present wrong_code
+pub holds_canceled : {began : ℕ} {seen : Seen} {history : Entries} {limit : ℕ} {tables : List (List (Option ℕ))} {lists : List ℕ} {held : Held}
+    {present : ℕ} {wrong_code : Option ℕ} (client number upto : ℕ) (bytes : List ℕ) → Holds began seen history limit tables lists held present wrong_code
     → is_some wrong_code ≡ false → IsOpen history client → IsNextNumber history client number → number ≤ upto → HasRoom limit history bytes
-    → Holds began seen (history ++ canceled_entry client number upto bytes (error_reply RC_CANCELED) ∷ []) limit tables held present wrong_code
+    → Holds began seen (history ++ canceled_entry client number upto bytes (error_reply RC_CANCELED) ∷ []) limit tables lists held present wrong_code
 holds_canceled {began = began} {seen = seen} {history = history} {tables = tables} {held = held} {wrong_code = wrong_code} client number upto bytes h none opened next covers has_room =
     let e : Entry = canceled_entry client number upto bytes (error_reply RC_CANCELED) in
     let whole = error_is_frame RC_CANCELED in
@@ -369,13 +391,13 @@ holds_canceled {began = began} {seen = seen} {history = history} {tables = table
 
 -- one that was carried out
 holds_carried : {D : Type 0} (seen : D → Seen) {device new : D} {began : ℕ} {history : Entries} {limit : ℕ}
-    {tables : List (List (Option ℕ))} {held new_held : Held} {more : List Item} {new_table : List (Option ℕ)} {present : ℕ} {wrong_code : Option ℕ} (client number : ℕ) (pick : Pick) (bytes reply : List ℕ)
-    → Holds began (seen device) history limit tables held present wrong_code
+    {tables : List (List (Option ℕ))} {lists : List ℕ} {held new_held : Held} {more : List Item} {new_table : List (Option ℕ)} {present : ℕ} {wrong_code : Option ℕ} (client number : ℕ) (pick : Pick) (bytes reply : List ℕ)
+    → Holds began (seen device) history limit tables lists held present wrong_code
     → is_some wrong_code ≡ false → IsOpen history client → IsNextNumber history client number → HasRoom limit history bytes → AreMore held.objects.items more → length more ≤ PLACES_MOST
-    → Moves seen client device new (with_items held more) new_held (table_of tables client) new_table
+    → Moves seen client device new (with_items held more) new_held new_table
     → StepsAs (λ s. client_step client s bytes pick) (seen device).state (seen new).state (with_items held more) new_held (table_of tables client) new_table reply
     → is_frame reply ≡ true → (new ≡ device) ⊎ IsRight (asked_of (seen new)) (last_of (seen new))
-    → Holds began (seen new) (history ++ command_entry client number pick bytes reply ∷ []) limit (set tables client new_table) new_held present wrong_code
+    → Holds began (seen new) (history ++ command_entry client number pick bytes reply ∷ []) limit (set tables client new_table) lists new_held present wrong_code
 holds_carried seen {device = device} {new = new} {began = began} {history = history} {limit = limit} {tables = tables} {held = held} {new_held = new_held} {more = more}
     {new_table = new_table} {present = present} {wrong_code = wrong_code} client number pick bytes reply h none opened next has_room are most moves steps whole right =
     let e : Entry = command_entry client number pick bytes reply in
@@ -401,14 +423,14 @@ holds_carried seen {device = device} {new = new} {began = began} {history = hist
 
 -- one whose transmission failed, or one of the broker's own before it
 holds_faulted : {D : Type 0} (seen : D → Seen) {device new : D} {began : ℕ} {history : Entries} {limit : ℕ}
-    {tables : List (List (Option ℕ))} {held new_held : Held} {more : List Item} {new_table : List (Option ℕ)} {present : ℕ} {wrong_code : Option ℕ} (client number : ℕ) (bytes : List ℕ)
-    → Holds began (seen device) history limit tables held present wrong_code
+    {tables : List (List (Option ℕ))} {lists : List ℕ} {held new_held : Held} {more : List Item} {new_table : List (Option ℕ)} {present : ℕ} {wrong_code : Option ℕ} (client number : ℕ) (bytes : List ℕ)
+    → Holds began (seen device) history limit tables lists held present wrong_code
     → is_some wrong_code ≡ false → IsOpen history client → IsNextNumber history client number → HasRoom limit history bytes → AreMore held.objects.items more → length more ≤ PLACES_MOST
-    → Moves seen client device new (with_items held more) new_held (table_of tables client) new_table
+    → Moves seen client device new (with_items held more) new_held new_table
     → Stays (seen device).state (seen new).state (with_items held more) new_held (table_of tables client) new_table
     → Rose (seen device).faults (seen new).faults × (last_of (seen new) ≡ None)
-    → Holds began (seen new) (history ++ fault_entry client number (seen new).faults bytes (error_reply RC_DEVICE_FAULT) ∷ []) limit tables new_held present wrong_code
-holds_faulted seen {device = device} {new = new} {began = began} {history = history} {limit = limit} {tables = tables} {held = held} {new_held = new_held} {more = more}
+    → Holds began (seen new) (history ++ fault_entry client number (seen new).faults bytes (error_reply RC_DEVICE_FAULT) ∷ []) limit tables lists new_held present wrong_code
+holds_faulted seen {device = device} {new = new} {began = began} {history = history} {limit = limit} {tables = tables} {lists = lists} {held = held} {new_held = new_held} {more = more}
     {new_table = new_table} {present = present} {wrong_code = wrong_code} client number bytes h none opened next has_room are most moves stays failed =
     let e : Entry = fault_entry client number (seen new).faults bytes (error_reply RC_DEVICE_FAULT) in
     let none = none_is wrong_code none in
@@ -420,7 +442,7 @@ holds_faulted seen {device = device} {new = new} {began = began} {history = hist
     record {
       stands = stands_faulted history tables client number bytes (stands_with (seen device).base (seen device).state history tables held more are h.stands) tables_stand opened next moves stays.client h.journal.counts failed.0;
       journal = journal-entry e h.journal moves.keeps.count refl refl (omega arith) whole has_room (frame_short (error_reply RC_DEVICE_FAULT) whole);
-      objects = λ _. subst (λ (t : List (List (Option ℕ))). HeldHolds began (seen new).faults (history ++ e ∷ []) t new_held) same_tables
+      objects = λ _. subst (λ (t : List (List (Option ℕ))). HeldHolds began (seen new).faults (history ++ e ∷ []) t lists new_held) same_tables
           (held_carried history e tables holds are refl opened inside moves (counted-fault began history e _ holds.counted moves.keeps.count failed.0 refl));
       answers = record { answer = no_answer (asked_of (seen new)) (last_of (seen new)) wrong_code none; right = λ _. right_none (asked_of (seen new)) (last_of (seen new)) failed.1; taken = λ _. none };
       faulted = counted-fault began history e 0 h.faulted moves.keeps.count failed.0 refl;
@@ -431,11 +453,11 @@ holds_faulted seen {device = device} {new = new} {began = began} {history = hist
 
 -- one after which a wrong answer came
 pub holds_wrong : {began : ℕ} {seen new_seen : Seen} {history : Entries} {limit : ℕ}
-    {tables tables_new : List (List (Option ℕ))} {held new_held : Held} {present : ℕ} {wrong_code : Option ℕ} (code : ℕ)
-    → Holds began seen history limit tables held present wrong_code → length tables_new ≡ length tables → seen.faults ≤ new_seen.faults
+    {tables tables_new : List (List (Option ℕ))} {lists : List ℕ} {held new_held : Held} {present : ℕ} {wrong_code : Option ℕ} (code : ℕ)
+    → Holds began seen history limit tables lists held present wrong_code → length tables_new ≡ length tables → seen.faults ≤ new_seen.faults
     → new_held.objects.slots ≡ held.objects.slots → length new_held.objects.items ≤ length history + 1 → length new_held.objects.items ≤ PLACES_MOST
     → IsWrongAnswer (asked_of new_seen) (last_of new_seen) code × (new_seen.state ≡ None)
-    → Holds began new_seen history limit tables_new new_held present (Some code)
+    → Holds began new_seen history limit tables_new lists new_held present (Some code)
 holds_wrong {began = began} {new_seen = new_seen} {history = history} {limit = limit} {present = present} code h same count same_slots few placed answer = record {
   stands = λ b slots is_base is_state. absurd (no_state new_seen.state slots answer.1 is_state);
   journal = subst (λ (n : ℕ). JournalHolds history limit new_seen.faults n present) (sym same) (journal-later h.journal count);
@@ -466,56 +488,56 @@ with_items_is held roomier objects sessions = λ i. record { objects = sym objec
 
 -- the same of a table, and of what is held, that are known by themselves
 pub table_carried : {D : Type 0} (seen : D → Seen) {device new : D} {began : ℕ} {history : Entries} {limit : ℕ}
-    {tables : List (List (Option ℕ))} {held roomier new_held : Held} {table new_table : List (Option ℕ)} {present : ℕ} {wrong_code : Option ℕ} (more : List Item) (client number : ℕ) (pick : Pick) (bytes reply : List ℕ)
-    → Holds began (seen device) history limit tables held present wrong_code
+    {tables : List (List (Option ℕ))} {lists : List ℕ} {held roomier new_held : Held} {table new_table : List (Option ℕ)} {present : ℕ} {wrong_code : Option ℕ} (more : List Item) (client number : ℕ) (pick : Pick) (bytes reply : List ℕ)
+    → Holds began (seen device) history limit tables lists held present wrong_code
     → is_some wrong_code ≡ false → IsOpen history client → IsNextNumber history client number → HasRoom limit history bytes → AreMore held.objects.items more → length more ≤ PLACES_MOST
     → with_items held more ≡ roomier → table_of tables client ≡ table
-    → Moves seen client device new roomier new_held table new_table
+    → Moves seen client device new roomier new_held new_table
     → StepsAs (λ s. client_step client s bytes pick) (seen device).state (seen new).state roomier new_held table new_table reply
     → is_frame reply ≡ true → (new ≡ device) ⊎ IsRight (asked_of (seen new)) (last_of (seen new))
-    → Holds began (seen new) (history ++ command_entry client number pick bytes reply ∷ []) limit (set tables client new_table) new_held present wrong_code
-table_carried seen {device = device} {new = new} {began = began} {history = history} {limit = limit} {tables = tables} {held = held} {roomier = roomier} {new_held = new_held} {new_table = new_table}
+    → Holds began (seen new) (history ++ command_entry client number pick bytes reply ∷ []) limit (set tables client new_table) lists new_held present wrong_code
+table_carried seen {device = device} {new = new} {began = began} {history = history} {limit = limit} {tables = tables} {lists = lists} {held = held} {roomier = roomier} {new_held = new_held} {new_table = new_table}
     {present = present} {wrong_code = wrong_code} more client number pick bytes reply h none opened next has_room are most is_held is =
-    subst (λ (t : List (Option ℕ)). Moves seen client device new roomier new_held t new_table
+    subst (λ (t : List (Option ℕ)). Moves seen client device new roomier new_held new_table
     → StepsAs (λ s. client_step client s bytes pick) (seen device).state (seen new).state roomier new_held t new_table reply
     → is_frame reply ≡ true → (new ≡ device) ⊎ IsRight (asked_of (seen new)) (last_of (seen new))
-    → Holds began (seen new) (history ++ command_entry client number pick bytes reply ∷ []) limit (set tables client new_table) new_held present wrong_code)
-    is (subst (λ (r : Held). Moves seen client device new r new_held (table_of tables client) new_table
+    → Holds began (seen new) (history ++ command_entry client number pick bytes reply ∷ []) limit (set tables client new_table) lists new_held present wrong_code)
+    is (subst (λ (r : Held). Moves seen client device new r new_held new_table
     → StepsAs (λ s. client_step client s bytes pick) (seen device).state (seen new).state r new_held (table_of tables client) new_table reply
     → is_frame reply ≡ true → (new ≡ device) ⊎ IsRight (asked_of (seen new)) (last_of (seen new))
-    → Holds began (seen new) (history ++ command_entry client number pick bytes reply ∷ []) limit (set tables client new_table) new_held present wrong_code)
+    → Holds began (seen new) (history ++ command_entry client number pick bytes reply ∷ []) limit (set tables client new_table) lists new_held present wrong_code)
     is_held (holds_carried seen client number pick bytes reply h none opened next has_room are most))
 
 pub table_faulted : {D : Type 0} (seen : D → Seen) {device new : D} {began : ℕ} {history : Entries} {limit : ℕ}
-    {tables : List (List (Option ℕ))} {held roomier new_held : Held} {table new_table : List (Option ℕ)} {present : ℕ} {wrong_code : Option ℕ} (more : List Item) (client number : ℕ) (bytes : List ℕ)
-    → Holds began (seen device) history limit tables held present wrong_code
+    {tables : List (List (Option ℕ))} {lists : List ℕ} {held roomier new_held : Held} {table new_table : List (Option ℕ)} {present : ℕ} {wrong_code : Option ℕ} (more : List Item) (client number : ℕ) (bytes : List ℕ)
+    → Holds began (seen device) history limit tables lists held present wrong_code
     → is_some wrong_code ≡ false → IsOpen history client → IsNextNumber history client number → HasRoom limit history bytes → AreMore held.objects.items more → length more ≤ PLACES_MOST
     → with_items held more ≡ roomier → table_of tables client ≡ table
-    → Moves seen client device new roomier new_held table new_table
+    → Moves seen client device new roomier new_held new_table
     → Stays (seen device).state (seen new).state roomier new_held table new_table
     → Rose (seen device).faults (seen new).faults × (last_of (seen new) ≡ None)
-    → Holds began (seen new) (history ++ fault_entry client number (seen new).faults bytes (error_reply RC_DEVICE_FAULT) ∷ []) limit tables new_held present wrong_code
-table_faulted seen {device = device} {new = new} {began = began} {history = history} {limit = limit} {tables = tables} {held = held} {roomier = roomier} {new_held = new_held} {new_table = new_table}
+    → Holds began (seen new) (history ++ fault_entry client number (seen new).faults bytes (error_reply RC_DEVICE_FAULT) ∷ []) limit tables lists new_held present wrong_code
+table_faulted seen {device = device} {new = new} {began = began} {history = history} {limit = limit} {tables = tables} {lists = lists} {held = held} {roomier = roomier} {new_held = new_held} {new_table = new_table}
     {present = present} {wrong_code = wrong_code} more client number bytes h none opened next has_room are most is_held is =
-    subst (λ (t : List (Option ℕ)). Moves seen client device new roomier new_held t new_table
+    subst (λ (t : List (Option ℕ)). Moves seen client device new roomier new_held new_table
     → Stays (seen device).state (seen new).state roomier new_held t new_table
     → Rose (seen device).faults (seen new).faults × (last_of (seen new) ≡ None)
-    → Holds began (seen new) (history ++ fault_entry client number (seen new).faults bytes (error_reply RC_DEVICE_FAULT) ∷ []) limit tables new_held present wrong_code)
-    is (subst (λ (r : Held). Moves seen client device new r new_held (table_of tables client) new_table
+    → Holds began (seen new) (history ++ fault_entry client number (seen new).faults bytes (error_reply RC_DEVICE_FAULT) ∷ []) limit tables lists new_held present wrong_code)
+    is (subst (λ (r : Held). Moves seen client device new r new_held new_table
     → Stays (seen device).state (seen new).state r new_held (table_of tables client) new_table
     → Rose (seen device).faults (seen new).faults × (last_of (seen new) ≡ None)
-    → Holds began (seen new) (history ++ fault_entry client number (seen new).faults bytes (error_reply RC_DEVICE_FAULT) ∷ []) limit tables new_held present wrong_code)
+    → Holds began (seen new) (history ++ fault_entry client number (seen new).faults bytes (error_reply RC_DEVICE_FAULT) ∷ []) limit tables lists new_held present wrong_code)
     is_held (holds_faulted seen client number bytes h none opened next has_room are most))
 
 -- what a call on the machine may begin with
-pub table_now : {began : ℕ} {seen : Seen} {history : Entries} {limit : ℕ} {tables : List (List (Option ℕ))} {held : Held}
-    {present : ℕ} {wrong_code : Option ℕ} (more : List Item) (client : ℕ) (table : List (Option ℕ)) → Holds began seen history limit tables held present wrong_code
+pub table_now : {began : ℕ} {seen : Seen} {history : Entries} {limit : ℕ} {tables : List (List (Option ℕ))} {lists : List ℕ} {held : Held}
+    {present : ℕ} {wrong_code : Option ℕ} (more : List Item) (client : ℕ) (table : List (Option ℕ)) → Holds began seen history limit tables lists held present wrong_code
     → is_some wrong_code ≡ false → AreMore held.objects.items more → table_of tables client ≡ table → IsTable more client table
 table_now {history = history} {tables = tables} {held = held} {wrong_code = wrong_code} more client table h none are is =
     subst (λ (t : List (Option ℕ)). IsTable more client t) is ((more_tables (clients_of history).present tables held.objects.items more are (h.objects (none_is wrong_code none)).each).each client)
 
-pub moves_now : {D : Type 0} (seen : D → Seen) (device : D) {began : ℕ} {history : Entries} {limit : ℕ} {tables : List (List (Option ℕ))} {held roomier : Held}
-    {present : ℕ} {wrong_code : Option ℕ} (more : List Item) → is_some (seen device).state ≡ is_some (seen device).base → Holds began (seen device) history limit tables held present wrong_code
+pub moves_now : {D : Type 0} (seen : D → Seen) (device : D) {began : ℕ} {history : Entries} {limit : ℕ} {tables : List (List (Option ℕ))} {lists : List ℕ} {held roomier : Held}
+    {present : ℕ} {wrong_code : Option ℕ} (more : List Item) → is_some (seen device).state ≡ is_some (seen device).base → Holds began (seen device) history limit tables lists held present wrong_code
     → AreMore held.objects.items more → with_items held more ≡ roomier → MayMove 2000 seen device roomier
 moves_now seen device {history = history} {tables = tables} {held = held} more same h are is_held =
     subst (λ (r : Held). MayMove 2000 seen device r) is_held (may_move seen device history tables held more same h.stands are (few-entries h.journal) h.slots_are)
@@ -525,7 +547,7 @@ pub are_more : (items more : List Item) → (more ≡ items) ⊎ ((list_any is_v
 are_more items more (inl same) = inl same
 are_more items more (inr longer) = inr longer.1
 
-pub few_more : {began : ℕ} {seen : Seen} {history : Entries} {limit : ℕ} {tables : List (List (Option ℕ))} {held : Held}
-    {present : ℕ} {wrong_code : Option ℕ} (more : List Item) → Holds began seen history limit tables held present wrong_code
+pub few_more : {began : ℕ} {seen : Seen} {history : Entries} {limit : ℕ} {tables : List (List (Option ℕ))} {lists : List ℕ} {held : Held}
+    {present : ℕ} {wrong_code : Option ℕ} (more : List Item) → Holds began seen history limit tables lists held present wrong_code
     → is_some wrong_code ≡ false → AreMore held.objects.items more → length more ≤ length history + 1
 few_more {held = held} {wrong_code = wrong_code} more h none are = omega (arith, (h.objects (none_is wrong_code none)).short, more_length held.objects.items more are)

@@ -1,6 +1,7 @@
 pub mod Journaling
 pub mod Placing
 pub mod Tabling
+pub mod Listing
 pub mod WorldStands
 pub mod Holding
 pub mod Beginning

@@ -20,6 +20,7 @@ use Rattle.world_spec.specs.Legal.{Legal}
 use Rattle.broker_lock.specs.Known.{Fixed, IsLegalOver}
 use Rattle.broker_lock.specs.Serves as lock
 use Rattle.client_machine.specs.declared.held.Held.{Held}
+use Rattle.broker_core.specs.Tables.{with_owners}
 use Rattle.broker_core.specs.Broker.{BrokerView, FaultsCounted, IsCarriedOut, IsFaulted, IsRefused, StandsFor, Tells, TellsLeft}
 
 -- ---- what a device tells
@@ -58,7 +59,7 @@ fixed_of base b = record { base = base; limit = b.limit; began = b.began }
 
 pub opens : {D : Type 0} (base : Option Persist) (old new : BrokerView D) (result : Result ℕ OpenClientError)
     → IfOk result (λ client. (client ≡ (clients_of old.journal).opened) × HasRoomForClient old.limit old.journal
-    × (new ≡ record old { journal = old.journal ++ open_entry client ∷ []; tables = old.tables ++ [] ∷ [] }))
+    × (new ≡ record old { journal = old.journal ++ open_entry client ∷ []; tables = old.tables ++ [] ∷ []; held = with_owners old.held new.held.objects.owners }))
     → OnErr result (new ≡ old)
     → ((count limit : ℕ) → result ≡ Err (open_errors.JournalFull count limit) → (HasRoomForClient old.limit old.journal → ⊥) × (count ≡ kept old.journal) × (limit ≡ old.limit))
     → (result ≡ Err open_errors.Memory → HasRoomForClient old.limit old.journal)

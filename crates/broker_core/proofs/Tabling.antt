@@ -1,23 +1,21 @@
 -- The tables of the clients alone, and whose the sessions are: what becomes of them where a client opens, runs a command or closes, and
 -- where an item is added.
-use Rattle.std.proofs.Common.{◌≡◌, ◌+◌, ◌<◌, ◌≤◌, inl, inr, ℕ, zero, suc, Bool, true, false, cond, List, [], ◌∷◌, ◌++◌, length, set, refl, sym, ap, subst, ◌∙◌, arith}
-use Rattle.std.specs.Prelude.{◌==◌, not, Option, Some, None, IfSome, is_some}
+use Rattle.std.proofs.Common.{◌≡◌, ◌<◌, ◌≤◌, inl, inr, ℕ, zero, suc, Bool, true, false, cond, List, [], ◌∷◌, ◌++◌, length, set, refl, sym, ap, subst, ◌∙◌, arith}
+use Rattle.std.specs.Prelude.{◌==◌, ◌&&◌, not, Option, Some, None, IfSome, is_some}
 use Rattle.std.specs.List.{AllByRecursion, count_by, list_any}
-use Rattle.std.proofs.lemmas.Bool.{eqb-false, eqb-true, ne_eqb, or_cases, or_from, or_left, or_parts, or_right, true≢false}
+use Rattle.std.proofs.lemmas.Bool.{cases_Bool, eqb-false, eqb-true, ne_eqb, or_cases, or_from, or_left, or_parts, or_right, true≢false}
 use Rattle.std.proofs.lemmas.List.{get_or-set_other, get_or-set_same, length_push}
-use Rattle.std.proofs.lemmas.List.Sums.{sum_by-cons, sum_by-set, sum_by_push}
-use Rattle.object_swap.specs.Items.{Item, Names, is_orphan, is_vacant, item_at, no_item, is_resident, residents}
+use Rattle.std.proofs.lemmas.List.Sums.{sum_by-cons, sum_by_push}
+use Rattle.object_swap.specs.Items.{HasNone, Item, Names, is_vacant, item_at, no_item, is_resident, residents}
 use Rattle.session_swap.specs.Items as sessions
 use Rattle.session_swap.specs.Items.{is_owned, is_owner, owner_by}
 use Rattle.history_spec.specs.Entry.{without}
-use Rattle.history_spec.specs.Table.{count_held}
 use Rattle.world_laws.proofs.Clients.{stay}
 use Rattle.world_laws.proofs.Histories.{each-weaker}
-use Rattle.broker_core.specs.Broker.{times_open}
-use Rattle.client_machine.specs.Moves.{KeepsOwners, other_than}
+use Rattle.client_machine.specs.Moves.{GainsNone, KeepsOwners, other_than}
 use Rattle.client_machine.proofs.Dropping.{no_table}
-use Rattle.client_machine.specs.Tables.{AreOpenOwners, IsOpenOwner, IsPlaceOf, IsTable, held_items, is_open}
-use Rattle.broker_core.specs.Tables.{TablesStand, named_items, table_of}
+use Rattle.client_machine.specs.Tables.{AreOpenOwners, IsOpenOwner, IsPlaceOf, IsTable, is_open, naming_in}
+use Rattle.broker_core.specs.Tables.{TablesStand, table_of}
 
 -- ---- the table of a client
 
@@ -51,6 +49,13 @@ open_inside (other ∷ present) client opened all some =
       | inr later ↦ open_inside present client opened all.1 later
     ]
 
+pub open_none : (present : List ℕ) (client opened : ℕ) → AllByRecursion (λ c. c < opened) present → opened ≤ client → is_open client present ≡ false
+open_none present client opened all past =
+    elim (cases_Bool (is_open client present)) [
+      | inl some ↦ absurd (omega (arith, open_inside present client opened all some, past))
+      | inr none ↦ none
+    ]
+
 -- ---- one more client
 
 pub tables-open : (present : List ℕ) (tables : List (List (Option ℕ))) (items : List Item) → TablesStand present tables items
@@ -72,25 +77,26 @@ place_kept client other items new_items keeps apart None is = tt
 place_kept client other items new_items keeps apart (Some index) is = keeps index other is.0 is.1 (is_other client other apart)
 
 pub table_kept : (client other : ℕ) (items new_items : List Item) (table : List (Option ℕ)) → KeepsOwners (other_than client) items new_items
-    → (client == other) ≡ false → IsTable items other table → IsTable new_items other table
-table_kept client other items new_items table keeps apart is = record {
+    → GainsNone (other_than client) items new_items → (client == other) ≡ false → IsTable items other table → IsTable new_items other table
+table_kept client other items new_items table keeps gained apart is = record {
   named = each-weaker (λ place. IsPlaceOf other items place) (λ place. IsPlaceOf other new_items place) table
       (place_kept client other items new_items keeps apart) is.named;
   apart = is.apart;
+  all = λ index own. is.all index (gained index other own (is_other client other apart));
   few = is.few;
   short = is.short;
 }
 
 -- the table of any client after one has another
 each_by : (client other : ℕ) (here : Bool) (tables : List (List (Option ℕ))) (items new_items : List Item) (new_table : List (Option ℕ))
-    → (client == other) ≡ here → client < length tables → KeepsOwners (other_than client) items new_items → IsTable new_items client new_table
-    → IsTable items other (table_of tables other) → IsTable new_items other (table_of (set tables client new_table) other)
-each_by client other true tables items new_items new_table is inside keeps own old =
+    → (client == other) ≡ here → client < length tables → KeepsOwners (other_than client) items new_items → GainsNone (other_than client) items new_items
+    → IsTable new_items client new_table → IsTable items other (table_of tables other) → IsTable new_items other (table_of (set tables client new_table) other)
+each_by client other true tables items new_items new_table is inside keeps gained own old =
     subst (λ (c : ℕ). IsTable new_items c (table_of (set tables client new_table) c)) (eqb-true client other is)
     (subst (λ (table : List (Option ℕ)). IsTable new_items client table) (sym (table_own tables client new_table inside)) own)
-each_by client other false tables items new_items new_table is inside keeps own old =
+each_by client other false tables items new_items new_table is inside keeps gained own old =
     subst (λ (table : List (Option ℕ)). IsTable new_items other table) (sym (table_other tables client other new_table is))
-    (table_kept client other items new_items (table_of tables other) keeps is old)
+    (table_kept client other items new_items (table_of tables other) keeps gained is old)
 
 -- one that isn't open isn't this one
 not_open : (client other : ℕ) (here : Bool) (present : List ℕ) → (client == other) ≡ here → is_open client present ≡ true → is_open other present ≡ false
@@ -101,12 +107,12 @@ not_open client other false present is some none = is
 
 pub tables-step : (present : List ℕ) (tables : List (List (Option ℕ))) (items new_items : List Item) (client : ℕ) (new_table : List (Option ℕ))
     → TablesStand present tables items → is_open client present ≡ true → client < length tables → KeepsOwners (other_than client) items new_items
-    → IsTable new_items client new_table → TablesStand present (set tables client new_table) new_items
-tables-step present tables items new_items client new_table stand some inside keeps own = record {
+    → GainsNone (other_than client) items new_items → IsTable new_items client new_table → TablesStand present (set tables client new_table) new_items
+tables-step present tables items new_items client new_table stand some inside keeps gained own = record {
   closed = λ other none.
       table_other tables client other new_table (not_open client other (client == other) present refl some none) ∙ stand.closed other none;
   each = λ other.
-      each_by client other (client == other) tables items new_items new_table refl inside keeps own (stand.each other);
+      each_by client other (client == other) tables items new_items new_table refl inside keeps gained own (stand.each other);
 }
 
 -- ---- a client that closes
@@ -120,12 +126,12 @@ closed_by client other false present tables is inside closed none =
     table_other tables client other [] is ∙ closed (sym (stay client other present is) ∙ none)
 
 pub tables-close : (present : List ℕ) (tables : List (List (Option ℕ))) (items new_items : List Item) (client : ℕ) → TablesStand present tables items
-    → times_open client present ≤ 1 → client < length tables → KeepsOwners (other_than client) items new_items
+    → client < length tables → KeepsOwners (other_than client) items new_items → GainsNone (other_than client) items new_items → HasNone new_items client
     → TablesStand (without client present) (set tables client []) new_items
-tables-close present tables items new_items client stand once inside keeps = record {
+tables-close present tables items new_items client stand inside keeps gained none = record {
   closed = λ other none. closed_by client other (client == other) present tables refl inside (stand.closed other) none;
   each = λ other.
-      each_by client other (client == other) tables items new_items [] refl inside keeps (no_table new_items client) (stand.each other);
+      each_by client other (client == other) tables items new_items [] refl inside keeps gained (no_table new_items client none) (stand.each other);
 }
 
 -- ---- one more item
@@ -155,45 +161,43 @@ tables-more present tables items stand = record {
     named = each-weaker (λ place. IsPlaceOf client items place) (λ place. IsPlaceOf client (items ++ no_item ∷ []) place) (table_of tables client)
         (place_pushed items client) (stand.each client).named;
     apart = (stand.each client).apart;
+    all = λ index own. (stand.each client).all index (sym (ap (λ (item : Item). item.client) (item_pushed items index)) ∙ own);
     few = (stand.each client).few;
     short = (stand.each client).short;
   };
 }
 
--- ---- how many there are
-
-pub named-set : (tables : List (List (Option ℕ))) (client : ℕ) (new_table : List (Option ℕ)) → client < length tables
-    → named_items (set tables client new_table) + count_held (table_of tables client) ≡ named_items tables + count_held new_table
-named-set tables client new_table inside = sum_by-set (λ (table : List (Option ℕ)). count_held table) tables client new_table [] inside
-
-pub named-pushed : (tables : List (List (Option ℕ))) → named_items (tables ++ [] ∷ []) ≡ named_items tables
-named-pushed tables = omega (arith, sum_by_push (λ (table : List (Option ℕ)). count_held table) tables [])
-
-pub held-more : (items : List Item) → held_items (items ++ no_item ∷ []) ≡ held_items items
-held-more items = omega (arith, sum_by_push (λ (item : Item). cond (not (is_vacant item)) 1 0) items no_item)
-
-pub orphans-more : (items : List Item) → count_by is_orphan (items ++ no_item ∷ []) ≡ count_by is_orphan items
-orphans-more items = omega (arith, sum_by_push (λ (item : Item). cond (is_orphan item) 1 0) items no_item)
+-- ---- where no client is open
 
 pub residents-more : (items : List Item) → residents (items ++ no_item ∷ []) ≡ residents items
 residents-more items = omega (arith, sum_by_push (λ (item : Item). cond (is_resident item) 1 0) items no_item)
 
-all_empty : (tables : List (List (Option ℕ))) → ((client : ℕ) → table_of tables client ≡ []) → named_items tables ≡ 0
-all_empty [] empty = refl
-all_empty (table ∷ tables) empty =
-    omega (
-      arith,
-      sum_by-cons (λ (table : List (Option ℕ)). count_held table) table tables,
-      ap (λ (table : List (Option ℕ)). count_held table) (empty 0),
-      all_empty tables (λ client. empty (suc client)),
-    )
+-- no item is anybody's
+none_owned : (tables : List (List (Option ℕ))) (items : List Item) (index : ℕ) (owner : Option ℕ) → TablesStand [] tables items → (item_at items index).client ≡ owner
+    → owner ≡ None
+none_owned tables items index None stand is = refl
+none_owned tables items index (Some client) stand is =
+    let named = (stand.each client).all index is in
+    let least : naming_in index (table_of tables client) ≡ 0 = ap (naming_in index) (stand.closed client refl) in
+    absurd (omega (arith, named, least))
 
-pub none-named : (tables : List (List (Option ℕ))) (items : List Item) → TablesStand [] tables items → named_items tables ≡ 0
-none-named tables items stand = all_empty tables (λ client. stand.closed client refl)
+vacant_rests : (slot blob : Bool) → (not slot && not blob) ≡ true → slot ≡ false
+vacant_rests true blob is = absurd cc
+vacant_rests false blob is = refl
+
+-- so none is in a slot, where one that is nobody's is nowhere
+abbrev pub AreNowhere : List Item → Type 0
+AreNowhere items = (index : ℕ) → (item_at items index).client ≡ None → is_vacant (item_at items index) ≡ true
+
+pub none_rests : (tables : List (List (Option ℕ))) (items : List Item) → TablesStand [] tables items → AreNowhere items
+    → (index : ℕ) → is_resident (item_at items index) ≡ false
+none_rests tables items stand vacant = λ index.
+    let item = item_at items index in
+    vacant_rests (is_some item.slot) (is_some item.blob) (vacant index (none_owned tables items index item.client stand refl))
 
 -- ---- whose the sessions are
 
-open_after : (client n : ℕ) (present : List ℕ) → is_open client present ≡ true → is_open client (present ++ n ∷ []) ≡ true
+pub open_after : (client n : ℕ) (present : List ℕ) → is_open client present ≡ true → is_open client (present ++ n ∷ []) ≡ true
 open_after client n [] some = absurd cc
 open_after client n (other ∷ present) some =
     elim (or_cases (other == client) (is_open client present) some) [

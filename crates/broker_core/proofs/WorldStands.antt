@@ -1,18 +1,17 @@
 -- What a device tells of the objects and the sessions stands for the world, after each sort of entry.
-use Rattle.std.proofs.Common.{◌≡◌, ◌+◌, ◌*◌, ◌^◌, ◌<◌, ◌≤◌, ◌∙◌, ℕ, Bool, true, false, List, [], ◌∷◌, ◌++◌, length, set, refl, sym, ap, subst, arith}
-use Rattle.std.specs.Prelude.{◌==◌, ◌&&◌, not, Option, Some, None, Err, is_some, if◌then◌else◌}
+use Rattle.std.proofs.Common.{◌≡◌, ◌+◌, ◌*◌, ◌^◌, ◌<◌, ◌≤◌, ◌∙◌, ℕ, zero, suc, Bool, true, false, List, [], ◌∷◌, ◌++◌, length, set, refl, sym, ap, subst, arith}
+use Rattle.std.specs.Prelude.{◌==◌, not, Option, Some, None, Err, get_or, is_some, if◌then◌else◌}
 use Rattle.std.specs.List.{count_by, list_any}
-use Rattle.std.proofs.lemmas.Bool.{eqb-true, or_parts}
-use Rattle.std.proofs.lemmas.List.Sums.{sum_by-le-sum_by, sum_by_push}
+use Rattle.std.proofs.lemmas.Bool.{eqb-true, ne_eqb, or_parts}
+use Rattle.std.proofs.lemmas.List.Sums.{sum_by_push}
 use Rattle.tab_spec.specs.Admission.{client_admitted}
 use Rattle.tab_spec.specs.Object.{Object}
 use Rattle.tab_spec.specs.Reply.{error_reply}
 use Rattle.tab_spec.specs.Session.{Session}
 use Rattle.tab_spec.specs.Shape.{octet_of}
-use Rattle.device_spec.specs.Slots.{SlotState, active_count, inactive, is_active, is_free}
+use Rattle.device_spec.specs.Slots.{SlotState, active_count, inactive, is_active}
 use Rattle.device_spec.specs.Slots as device
-use Rattle.object_swap.specs.Items.{Item, ItemStands, is_named, is_resident, is_vacant, item_object, no_item, residents}
-use Rattle.object_swap.proofs.Room.{free_count}
+use Rattle.object_swap.specs.Items.{Item, ItemStands, ObjectsStand, is_named, is_resident, item_at, item_object, naming, no_item}
 use Rattle.session_swap.specs.Items as sessions
 use Rattle.session_swap.specs.Items.{SessionsStand, is_owned, is_owner, item_session, owner_by, place_at}
 use Rattle.session_swap.proofs.Counts.{count_same}
@@ -26,10 +25,10 @@ use Rattle.history_laws.proofs.Tables.{mapped}
 use Rattle.client_laws.proofs.Steps.{step_refused}
 use Rattle.client_machine.specs.declared.held.Held.{Held}
 use Rattle.client_machine.specs.Moves.{KeepsObjectsOf, client_state, other_than}
-use Rattle.client_machine.specs.Settled.{AreBelow, IsSettled, Sequences, most_contexts, owned_by_client, owned_in, sessions_in}
+use Rattle.client_machine.specs.Settled.{AreBelow, IsSettled, Sequences, most_contexts, orphan_count, owned_by_client, owned_in, sessions_in}
 use Rattle.broker_core.specs.Stands.{Stands, sequences_of}
-use Rattle.client_machine.specs.Tables.{AreOpenOwners, IsPlaceOf, IsTable, held_items, objects_in, place_object, tables_seen}
-use Rattle.broker_core.specs.Tables.{TablesStand, table_of}
+use Rattle.client_machine.specs.Tables.{AreOpenOwners, IsPlaceOf, IsTable, objects_in, place_object, tables_seen}
+use Rattle.broker_core.specs.Tables.{TablesStand, table_of, with_owners}
 use Rattle.client_machine.proofs.Seeing.{admitted_seen}
 use Rattle.broker_core.proofs.Tabling.{is_other, item_pushed, nobodys_sessions, table_other, table_own, table_pushed}
 
@@ -81,11 +80,15 @@ other_stays slots new tables items new_items client other new_table keeps apart 
 
 -- ---- a client opens
 
-pub stands-open : (world : World) (slots : SlotState) (tables : List (List (Option ℕ))) (held : Held) (n number : ℕ)
-    → Stands world slots tables held n → Stands (opened_world world number) slots (tables ++ [] ∷ []) held (n + 1)
-stands-open world slots tables held n number stands = record {
+-- whose the lists of objects are doesn't count
+settled_owners : (slots : SlotState) (held : Held) (owners : List (Option ℕ)) → IsSettled slots held → IsSettled slots (with_owners held owners)
+settled_owners slots held owners settled = record { objects = settled.objects; sessions = settled.sessions; gap = settled.gap }
+
+pub stands-open : (world : World) (slots : SlotState) (tables : List (List (Option ℕ))) (held : Held) (owners : List (Option ℕ)) (n number : ℕ)
+    → Stands world slots tables held n → Stands (opened_world world number) slots (tables ++ [] ∷ []) (with_owners held owners) (n + 1)
+stands-open world slots tables held owners n number stands = record {
   persist = stands.persist;
-  settled = stands.settled;
+  settled = settled_owners slots held owners stands.settled;
   clients = λ client.
       opened_table world.clients number client ∙ stands.clients client
       ∙ ap (λ (table : List (Option ℕ)). objects_in slots held.objects.items table) (sym (table_pushed tables client));
@@ -295,22 +298,75 @@ stands-more world slots tables held n stands = record {
 
 -- ---- how much the device holds
 
-taken_or_free : (held : List (Option Object)) → count_by is_some held + count_by is_free held ≡ length held
-taken_or_free [] = refl
-taken_or_free (None ∷ held) =
-    omega (arith, count_cons (λ (slot : Option Object). is_some slot) None held, count_cons is_free None held, taken_or_free held)
-taken_or_free (Some o ∷ held) =
-    omega (arith, count_cons (λ (slot : Option Object). is_some slot) (Some o) held, count_cons is_free (Some o) held, taken_or_free held)
+-- the device has three slots
+taken_three : (held : List (Option Object)) → length held ≡ 3
+    → count_by is_some held ≡ one_if (is_some (get_or held 0 None)) + one_if (is_some (get_or held 1 None)) + one_if (is_some (get_or held 2 None))
+taken_three [] is = absurd (omega arith)
+taken_three (a ∷ []) is = absurd (omega arith)
+taken_three (a ∷ b ∷ []) is = absurd (omega arith)
+taken_three (a ∷ b ∷ c ∷ []) is =
+    omega (
+      arith,
+      count_cons (λ (slot : Option Object). is_some slot) a (b ∷ c ∷ []),
+      count_cons (λ (slot : Option Object). is_some slot) b (c ∷ []),
+      count_cons (λ (slot : Option Object). is_some slot) c [],
+    )
+taken_three (a ∷ b ∷ c ∷ d ∷ held) is = absurd (omega arith)
 
-resident_by : (slot blob : Bool) → one_if slot ≤ one_if (not (not slot && not blob))
-resident_by true blob = omega arith
-resident_by false true = omega arith
-resident_by false false = omega arith
+one_of_three : (n : ℕ) → one_if (n == 0) + one_if (n == 1) + one_if (n == 2) ≤ 1
+one_of_three zero = omega arith
+one_of_three (suc zero) = omega arith
+one_of_three (suc (suc zero)) = omega arith
+one_of_three (suc (suc (suc n))) =
+    let m = suc (suc (suc n)) in
+    omega (
+      arith,
+      ap one_if (ne_eqb m 0 (λ same. omega (arith, same))),
+      ap one_if (ne_eqb m 1 (λ same. omega (arith, same))),
+      ap one_if (ne_eqb m 2 (λ same. omega (arith, same))),
+    )
 
-residents_held : (items : List Item) → residents items ≤ held_items items
-residents_held items =
-    sum_by-le-sum_by (λ (item : Item). one_if (is_resident item)) (λ (item : Item). one_if (not (is_vacant item))) items
-    (λ item. resident_by (is_some item.slot) (is_some item.blob))
+count_three : (left : List ℕ) → count_by (λ (n : ℕ). n == 0) left + count_by (λ (n : ℕ). n == 1) left + count_by (λ (n : ℕ). n == 2) left ≤ length left
+count_three [] = omega arith
+count_three (n ∷ left) =
+    omega (
+      arith,
+      one_of_three n,
+      count_three left,
+      count_cons (λ (m : ℕ). m == 0) n left,
+      count_cons (λ (m : ℕ). m == 1) n left,
+      count_cons (λ (m : ℕ). m == 2) n left,
+    )
+
+names_none : (named : Option ℕ) (slot : ℕ) → is_some named ≡ false → one_if (is_named named slot) ≡ 0
+names_none None slot none = refl
+names_none (Some n) slot none = absurd cc
+
+naming_none : (items : List Item) (slot : ℕ) → ((index : ℕ) → is_resident (item_at items index) ≡ false) → naming items slot ≡ 0
+naming_none [] slot none = refl
+naming_none (item ∷ items) slot none =
+    omega (
+      arith,
+      count_cons (λ (i : Item). is_named i.slot slot) item items,
+      names_none item.slot slot (none 0),
+      naming_none items slot (λ index. none (suc index)),
+    )
+
+-- where no item is in a slot, each slot that is taken is that of an object of nobody
+slots_left : (slots : SlotState) (items : List Item) (left : List ℕ) → ObjectsStand slots items left → ((index : ℕ) → is_resident (item_at items index) ≡ false)
+    → count_by is_some slots.slots ≤ length left
+slots_left slots items left stand none =
+    omega (
+      arith,
+      taken_three slots.slots stand.sound.count,
+      stand.owned 0,
+      stand.owned 1,
+      stand.owned 2,
+      naming_none items 0 none,
+      naming_none items 1 none,
+      naming_none items 2 none,
+      count_three left,
+    )
 
 flags_same : (a b : Bool) → sessions.flag a ≡ sessions.flag b → a ≡ b
 flags_same true true is = refl
@@ -324,19 +380,15 @@ sessions_held slots view stand =
     count_same (λ (item : Option sessions.Item). is_some item) is_active view.items slots.sessions None inactive (stand.count ∙ sym stand.sound.numbers)
     (λ number inside. flags_same (is_some (sessions.item_at view.items number)) (is_active (place_at slots number)) (omega (arith, stand.owned number)))
 
--- where no client is open, it holds objects that are held, and sessions of nobody
+-- where no client is open, it holds what is nobody's
 pub held_slots : (slots : SlotState) (held : Held) → IsSettled slots held → AreOpenOwners [] held.sessions.items
-    → device.held slots ≤ held_items held.objects.items + count_by sessions.is_orphan held.sessions.items
-held_slots slots held settled owners =
-    let three : length slots.slots ≡ 3 = settled.objects.sound.count in
+    → ((index : ℕ) → is_resident (item_at held.objects.items index) ≡ false) → device.held slots ≤ orphan_count held
+held_slots slots held settled owners none =
     omega (
       arith,
-      three,
+      slots_left slots held.objects.items held.objects.left settled.objects none,
       sessions_held slots held.sessions settled.sessions,
       nobodys_sessions held.sessions.items owners,
-      taken_or_free slots.slots,
-      free_count slots held.objects.items settled.objects,
-      residents_held held.objects.items,
     )
 
 -- ---- a command that the broker refuses by itself

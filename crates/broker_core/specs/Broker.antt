@@ -12,7 +12,6 @@ use Rattle.tab_spec.specs.Reply.{error_reply}
 use Rattle.device_spec.specs.Answers.{IsRight, IsWrongAnswer}
 use Rattle.device_spec.specs.Slots.{SlotState, IsSlots, HoldsNothing, held}
 use Rattle.device_port.specs.Device.{Seen, asked_of, last_of}
-use Rattle.object_swap.specs.Items.{is_orphan}
 use Rattle.session_swap.specs.Items.{gap_kept}
 use Rattle.session_swap.specs.declared.TheConstants.{RENEWAL_GAP}
 use Rattle.history_spec.specs.declared.EntryKind.{EntryKind}
@@ -31,8 +30,8 @@ use Rattle.client_machine.specs.Costs.{SendsUpTo, StaysIn, new_bound}
 use Rattle.client_machine.specs.Moves.{Executes, IsAtHand, IsCalm, IsSent, KeepsOwners, any_client, moves_for, pick_of, saved_number}
 use Rattle.client_machine.specs.Settled.{orphan_count}
 use Rattle.broker_core.specs.Stands.{Stands}
-use Rattle.client_machine.specs.Tables.{AreOpenOwners, held_items, owned_handles, tables_seen}
-use Rattle.broker_core.specs.Tables.{TablesStand, named_items, table_of}
+use Rattle.client_machine.specs.Tables.{AreOpenOwners, owned_handles, tables_seen}
+use Rattle.broker_core.specs.Tables.{ListsStand, TablesStand, table_of}
 use Rattle.broker_core.specs.declared.broker.BeginError.{BeginError}
 use Rattle.broker_core.specs.declared.broker.BeginError.TheVariants as begin_errors
 use Rattle.broker_lock.specs.declared.calls.Closed.{Closed}
@@ -109,12 +108,12 @@ pub record JournalHolds (history : List Entry) (limit faults opened present : �
   pub reserves : reserved history ≤ limit
 
 -- what holds of the objects and the sessions, where no wrong answer came
-pub record HeldHolds (began faults : ℕ) (history : List Entry) (tables : List (List (Option ℕ))) (held : Held) : Type 0 where
+pub record HeldHolds (began faults : ℕ) (history : List Entry) (tables : List (List (Option ℕ))) (lists : List ℕ) (held : Held) : Type 0 where
   pub each : TablesStand (clients_of history).present tables held.objects.items
   -- an item is added only where none is vacant, for a command that is entered
   pub short : length held.objects.items ≤ length history
-  -- an object that no client has under a handle is nobody's, and in a slot
-  pub named : held_items held.objects.items ≡ named_items tables + count_by is_orphan held.objects.items
+  pub listed : length lists ≡ length tables
+  pub lists_stand : ListsStand (clients_of history).present lists held.objects.owners
   -- a session is that of an open client, or nobody's
   pub owners : AreOpenOwners (clients_of history).present held.sessions.items
   pub counted : FaultsCounted began faults history (orphan_count held)
@@ -128,10 +127,10 @@ pub record AnswersHold (seen : Seen) (wrong_code : Option ℕ) : Type 0 where
   pub taken : IsSome seen.state → wrong_code ≡ None
 
 -- what holds of each broker, with what its device tells
-pub record Holds (began : ℕ) (seen : Seen) (history : List Entry) (limit : ℕ) (tables : List (List (Option ℕ))) (held : Held) (present : ℕ) (wrong_code : Option ℕ) : Type 0 where
+pub record Holds (began : ℕ) (seen : Seen) (history : List Entry) (limit : ℕ) (tables : List (List (Option ℕ))) (lists : List ℕ) (held : Held) (present : ℕ) (wrong_code : Option ℕ) : Type 0 where
   pub stands : StandsFor seen.base seen.state history tables held
   pub journal : JournalHolds history limit seen.faults (length tables) present
-  pub objects : wrong_code ≡ None → HeldHolds began seen.faults history tables held
+  pub objects : wrong_code ≡ None → HeldHolds began seen.faults history tables lists held
   pub answers : AnswersHold seen wrong_code
   pub faulted : FaultsCounted began seen.faults history 0
   pub slots_are : held.objects.slots ≡ OBJECT_SLOTS

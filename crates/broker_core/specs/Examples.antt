@@ -16,10 +16,6 @@ abbrev pub three_items : List Item
 three_items = record { client = Some 0; slot = None; blob = Some [] } ∷ record { client = Some 0; slot = Some 1; blob = None }
     ∷ record { client = Some 1; slot = Some 0; blob = Some [] } ∷ []
 
--- nobody's object, in the slot 2
-abbrev pub nobodys_item : Item
-nobodys_item = record { client = None; slot = Some 2; blob = None }
-
 -- the table of the client 0: its handles are 0x80000000 and 0x80000002
 abbrev pub first_table : List (Option ℕ)
 first_table = Some 1 ∷ None ∷ Some 0 ∷ []
@@ -37,12 +33,18 @@ abbrev pub two_sessions : List (Option sessions.Item)
 two_sessions = Some (record { client = Some 0; handle = 0x03000000; saved = None; handed = None })
     ∷ Some nobodys_session ∷ []
 
--- these objects, and these sessions under the first numbers
+-- these objects, and these sessions under the first numbers; what lists the clients have doesn't count
 abbrev pub held_with : List Item → List (Option sessions.Item) → Held
 held_with items first = record {
-  objects = record { items = items; slots = 3; order = [] };
+  objects = record { items = items; slots = 3; order = []; owners = []; left = [] };
   sessions = record { items = first ++ replicate (64 - length first) None; next = 0; order = []; saved = [] };
 }
+
+-- the same with an object of nobody in the slot 2
+abbrev pub held_beside : List Item → List (Option sessions.Item) → Held
+held_beside items first =
+    let held = held_with items first in
+    record held { objects = record held.objects { left = 2 ∷ [] } }
 
 -- a device with those two sessions, and the world of the one that is a client's
 abbrev pub two_session_device : SlotState

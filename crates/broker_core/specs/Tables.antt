@@ -1,8 +1,7 @@
--- The tables of a broker's clients.
-use Rattle.std.specs.Prelude.{◌≡◌, ℕ, false, List, [], get_or, Option}
-use Rattle.std.specs.List.{sum_by}
-use Rattle.history_spec.specs.Table.{count_held}
-use Rattle.object_swap.specs.Items.{Item}
+-- The tables of a broker's clients, and their lists of objects.
+use Rattle.std.specs.Prelude.{◌≡◌, ℕ, true, false, List, [], get_or, Option, Some}
+use Rattle.object_swap.specs.Items.{Item, owner_at}
+use Rattle.client_machine.specs.declared.held.Held.{Held}
 use Rattle.client_machine.specs.Tables.{IsTable, is_open}
 
 -- the table of a client; the tables stand by the numbers of the clients
@@ -14,6 +13,15 @@ pub record TablesStand (present : List ℕ) (tables : List (List (Option ℕ))) 
   pub closed : (client : ℕ) → is_open client present ≡ false → table_of tables client ≡ []
   pub each : (client : ℕ) → IsTable items client (table_of tables client)
 
--- how many objects have a handle
-abbrev pub named_items : List (List (Option ℕ)) → ℕ
-named_items tables = sum_by (λ table. count_held table) tables
+-- the number of a client's list of objects; these too stand by the numbers of the clients
+abbrev pub list_of : List ℕ → ℕ → ℕ
+list_of lists client = get_or lists client 0
+
+-- the list of each open client is its own, and each list that is anybody's is that of an open client
+pub record ListsStand (present lists : List ℕ) (owners : List (Option ℕ)) : Type 0 where
+  pub own : (client : ℕ) → is_open client present ≡ true → owner_at owners (list_of lists client) ≡ Some client
+  pub owned : (list client : ℕ) → owner_at owners list ≡ Some client → (is_open client present ≡ true) × (list ≡ list_of lists client)
+
+-- what is held, where these are the owners of the lists of objects
+abbrev pub with_owners : Held → List (Option ℕ) → Held
+with_owners held owners = record held { objects = record held.objects { owners = owners } }

@@ -1,5 +1,5 @@
 ghost use Rattle.std.specs.Prelude.{IsTrue};
-ghost use Rattle.std.specs.Prelude.{◌≡◌, true, false, ◌≤◌, ◌<◌, ◌+◌, ◌↔◌, ℕ, [], ◌∷◌, ◌++◌};
+ghost use Rattle.std.specs.Prelude.{◌≡◌, true, false, ◌≤◌, ◌<◌, ◌+◌, ◌*◌, ◌↔◌, ℕ, [], ◌∷◌, ◌++◌};
 ghost use Rattle.std.specs.Prelude.{Some, None, Ok, Err, length, set};
 ghost use Rattle.std.specs.Prelude.{IsSome, IsSomeAnd, IfOk, IfErr, OnOk, OnErr, IfSome};
 ghost use Rattle.tab_spec.specs.declared.TheConstants.{RC_CANCELED, RC_DEVICE_FAULT};
@@ -23,8 +23,8 @@ ghost use Rattle.broker_lock.specs.declared.calls.Closed.TheVariants as closes;
 ghost use Rattle.broker_core.specs.Broker.{AnswersHold, AreWhole, Costs, FaultsCounted};
 ghost use Rattle.broker_core.specs.Broker.{HasCause, IsAtBase, IsReadyFor, StandsFor, Tells};
 ghost use Rattle.broker_core.specs.Broker.{TellsCanceled, TellsLeft, TellsNoRoom};
-ghost use Rattle.broker_core.specs.Tables.{table_of};
-ghost use Rattle.client_machine.specs.Costs.{SendsUpTo, close_bound};
+ghost use Rattle.broker_core.specs.Tables.{with_owners};
+ghost use Rattle.client_machine.specs.Costs.{SendsUpTo, close_bound, own_objects};
 ghost use Rattle.client_machine.specs.Moves as moves;
 ghost use Rattle.client_machine.specs.Moves.{Keeps, IsSent, tells_context};
 ghost use Rattle.client_laws.specs.Ready.{tells_session};
@@ -35,10 +35,12 @@ use client_machine::{Held, Machine, Seen, pick_of};
 use client_tables::ClientTables;
 use device_port::{Device, SwapError, takes};
 use history_spec::{EntryKind, MOST_CLIENTS, Pick};
-use object_swap::Objects;
+use linked_records::Steps;
+use object_swap::{Objects, Uncounted, Visits};
 use session_swap::Sessions;
 use std::alloc::Global;
 use std::marker::Model;
+use std::sync::ledger::Ledger;
 use tab_bytes::Buffer;
 use tab_spec::{
     Admitted, OBJECT_SLOTS, RC_CANCELED, RC_DEVICE_ANSWER, RC_DEVICE_FAULT, RC_JOURNAL_FULL,
@@ -66,7 +68,8 @@ pub enum BeginError {
 pub struct Broker<D: Device> {
     machine: Machine<D>,
     pub(crate) journal: Journal,
-    // The tables of the open clients. A closed one has none.
+    // The tables of the open clients, and which list has the objects of each. A closed one has
+    // none.
     tables: ClientTables,
     // How many clients are open.
     present: u64,
@@ -95,7 +98,7 @@ impl<D: Device> Model for Broker<D> {
     // The tables that are kept are those of the open clients.
     ghost invariant = { λ b.
         Holds b.began (D.seen b.machine.device) b.journal.entries b.journal.limit
-        b.tables.items b.machine.held b.present b.wrong_code
+        b.tables.items b.tables.lists b.machine.held b.present b.wrong_code
         × (b.tables.present ≡ (clients_of b.journal.entries).present) };
 }
 
@@ -328,12 +331,14 @@ impl<D: Device> Broker<D> {
         })
     }
 
-    /// Opens the next client, numbered from 0, which holds nothing. An error changes nothing.
+    /// Opens the next client, numbered from 0, which holds nothing, and gives it a list for its
+    /// objects. An error changes nothing.
     pub fn open_client(&mut self) -> Result<u32, OpenClientError>
         ensures ok { IfOk result (λ client. (client ≡ (clients_of self.old.journal).opened)
             × HasRoomForClient self.old.limit self.old.journal × (self.new ≡ record self.old {
               journal = self.old.journal ++ open_entry client ∷ [];
               tables = self.old.tables ++ [] ∷ [];
+              held = with_owners self.old.held self.new.held.objects.owners;
             })) }
         ensures err { OnErr result (self.new ≡ self.old) }
         ensures full { (count limit : ℕ) → result ≡ Err (open_errors.JournalFull count limit)
@@ -356,7 +361,11 @@ impl<D: Device> Broker<D> {
         if self.tables.reserve().is_err() {
             return Err(OpenClientError::Memory);
         }
-        let client = self.tables.open();
+        // It comes last, so that no list is left over.
+        let Ok(list) = self.machine.held.objects.add_client(opened) else {
+            return Err(OpenClientError::Memory);
+        };
+        let client = self.tables.open(list);
         self.journal.push(&Entry {
             client,
             number: 0,
@@ -410,12 +419,16 @@ impl<D: Device> Broker<D> {
                 return Told::Entered;
             }
         };
+        let list = self.tables.list(client);
         let table = self.tables.table_mut(client);
         if self.machine.reserve(table, &admitted, bytes).is_err() {
             tab_wire::error_reply(RC_MEMORY, reply);
             return Told::Memory;
         }
-        match self.machine.answer(table, client, &admitted, bytes, reply) {
+        match self
+            .machine
+            .answer(table, client, list, &admitted, bytes, reply)
+        {
             Ok(()) => {
                 enter_reply(&mut self.journal, client, number, &admitted, bytes, reply);
                 Told::Entered
@@ -468,7 +481,7 @@ impl<D: Device> Broker<D> {
 
     /// Closes a client: flushes its sessions and what of its objects is in the device, and forgets
     /// the others. What can't be flushed is nobody's then, and the next command that needs the
-    /// device flushes it first. It takes no memory.
+    /// device flushes it first. Objects of other clients aren't looked at. It takes no memory.
     pub fn close_client(&mut self, client: u32) -> Closed
         requires { IsOpen self.old.journal client }
         ensures closed { (self.new.journal ≡ self.old.journal ++ close_entry client ∷ [])
@@ -487,25 +500,39 @@ impl<D: Device> Broker<D> {
         ensures others { KeepsOthers client self.old.held.sessions.items
             self.new.held.sessions.items }
         ensures keeps { Keeps D.seen self.old.device self.new.device }
-        ensures costs { SendsUpTo D.seen
-            (close_bound client self.old.held (table_of self.old.tables client))
+        ensures costs { SendsUpTo D.seen (close_bound client self.old.held)
             self.old.device self.new.device }
         ensures fixed { (self.new.began ≡ self.old.began) × (self.new.limit ≡ self.old.limit) }
     {
-        let table = self.tables.close(client);
-        enter_close(&mut self.journal, client);
-        self.present -= 1;
-        if self.wrong_code.is_some() {
-            return Closed::Answer;
-        }
-        match self.machine.drop_all(table, client) {
-            Ok(0) => Closed::Clean,
-            Ok(_) => Closed::Orphans(self.machine.held.orphans()),
-            Err(code) => {
-                self.wrong_code = Some(u64::from(code));
-                Closed::Answer
-            }
-        }
+        self.close_by(client, &mut Uncounted)
+    }
+
+    /// `close_client`, which visits six records at most for each object of the client.
+    pub fn close_client_counted<L: Ledger>(&mut self, client: u32, steps: &mut Steps<L>) -> Closed
+        requires { IsOpen self.old.journal client }
+        ensures closed { (self.new.journal ≡ self.old.journal ++ close_entry client ∷ [])
+            × (self.new.tables ≡ set self.old.tables client []) }
+        ensures answer { (result ≡ closes.Answer) ↔ IsSome self.new.wrong_code }
+        // After a wrong answer nothing is sent, and nothing else changes.
+        ensures unsent { IsSome self.old.wrong_code → self.new ≡ record self.old {
+          journal = self.old.journal ++ close_entry client ∷ [];
+          tables = set self.old.tables client [];
+        } }
+        ensures left { TellsLeft result (orphan_count self.old.held) (orphan_count self.new.held) }
+        // Each object and each session that is left has a failed transmission of its own.
+        ensures more { AreLeftByFaults (orphan_count self.old.held) (D.seen self.old.device).faults
+            (orphan_count self.new.held) (D.seen self.new.device).faults }
+        // The sessions of other clients stay where they are.
+        ensures others { KeepsOthers client self.old.held.sessions.items
+            self.new.held.sessions.items }
+        ensures keeps { Keeps D.seen self.old.device self.new.device
+            × (self.new.began ≡ self.old.began) × (self.new.limit ≡ self.old.limit) }
+        ensures costs { SendsUpTo D.seen (close_bound client self.old.held)
+            self.old.device self.new.device }
+        ensures steps { steps.new
+            ≤ steps.old + 6 * own_objects client self.old.held.objects.items }
+    {
+        self.close_by(client, steps)
     }
 
     /// How many objects and sessions of nobody are in the device: closed clients left them, since
@@ -540,6 +567,7 @@ impl<D: Device> Broker<D> {
         ensures whole { AreWhole self.journal }
         ensures last_answer { AnswersHold (D.seen self.device) self.wrong_code }
     {
+        self.machine.held.objects.show_vacant();
         let Broker {
             machine,
             journal,
@@ -555,5 +583,48 @@ impl<D: Device> Broker<D> {
             scratch: _,
         } = machine;
         (device, journal)
+    }
+}
+
+impl<D: Device> Broker<D> {
+    // `close_client`, which tells what it visits.
+    fn close_by<C: Visits>(&mut self, client: u32, steps: &mut C) -> Closed
+        requires { IsOpen self.old.journal client }
+        ensures closed { (self.new.journal ≡ self.old.journal ++ close_entry client ∷ [])
+            × (self.new.tables ≡ set self.old.tables client []) }
+        ensures answer { (result ≡ closes.Answer) ↔ IsSome self.new.wrong_code }
+        // After a wrong answer nothing is sent, and nothing else changes.
+        ensures unsent { IsSome self.old.wrong_code → self.new ≡ record self.old {
+          journal = self.old.journal ++ close_entry client ∷ [];
+          tables = set self.old.tables client [];
+        } }
+        ensures left { TellsLeft result (orphan_count self.old.held) (orphan_count self.new.held) }
+        // Each object and each session that is left has a failed transmission of its own.
+        ensures more { AreLeftByFaults (orphan_count self.old.held) (D.seen self.old.device).faults
+            (orphan_count self.new.held) (D.seen self.new.device).faults }
+        // The sessions of other clients stay where they are.
+        ensures others { KeepsOthers client self.old.held.sessions.items
+            self.new.held.sessions.items }
+        ensures keeps { Keeps D.seen self.old.device self.new.device
+            × (self.new.began ≡ self.old.began) × (self.new.limit ≡ self.old.limit) }
+        ensures costs { SendsUpTo D.seen (close_bound client self.old.held)
+            self.old.device self.new.device }
+        ensures steps { C.count steps.new
+            ≤ C.count steps.old + 6 * own_objects client self.old.held.objects.items }
+    {
+        let list = self.tables.close(client);
+        enter_close(&mut self.journal, client);
+        self.present -= 1;
+        if self.wrong_code.is_some() {
+            return Closed::Answer;
+        }
+        match self.machine.drop_all_by(client, list, steps) {
+            Ok(0) => Closed::Clean,
+            Ok(_) => Closed::Orphans(self.machine.held.orphans()),
+            Err(code) => {
+                self.wrong_code = Some(u64::from(code));
+                Closed::Answer
+            }
+        }
     }
 }

@@ -8,7 +8,7 @@ ghost use Rattle.history_spec.specs.Examples.{two_clients, zero_persist};
 ghost use Rattle.world_spec.specs.Examples.{a_key, begun_policy, first_context};
 ghost use Rattle.world_spec.specs.World.{load_parameters, world_of};
 ghost use Rattle.broker_core.specs.Examples.{asked, first_table, handed_session, handed_sessions};
-ghost use Rattle.broker_core.specs.Examples.{held_with, nobodys_item, nobodys_session};
+ghost use Rattle.broker_core.specs.Examples.{held_beside, held_with, nobodys_session};
 ghost use Rattle.broker_core.specs.Examples.{one_session_world, second_table, three_items};
 ghost use Rattle.broker_core.specs.Examples.{two_session_device, two_sessions};
 ghost use Rattle.client_machine.specs.Listing.{sessions_had};
@@ -17,9 +17,9 @@ ghost use Rattle.client_machine.specs.Replies.{given_back, own_capability, with_
 ghost use Rattle.client_machine.specs.Settled.{AreBelow, IsSettled, orphan_count, sessions_in};
 ghost use Rattle.broker_core.specs.Stands.{Stands};
 ghost use Rattle.client_machine.specs.Tables.{AreOpenOwners, IsTable, device_handle, flush_sent};
-ghost use Rattle.client_machine.specs.Tables.{flushed_sessions, flushed_table, held_items};
+ghost use Rattle.client_machine.specs.Tables.{flushed_sessions, flushed_table};
 ghost use Rattle.client_machine.specs.Tables.{tables_had, tables_seen};
-ghost use Rattle.broker_core.specs.Tables.{named_items};
+ghost use Rattle.broker_core.specs.Tables.{ListsStand};
 
 use broker_core::Broker;
 use device_port::Device;
@@ -41,7 +41,7 @@ fn sessions_stand_for_those_of_the_world()
     ensures seen { sessions_in two_session_device two_sessions ≡ Some (begun_policy 0) ∷ None ∷ [] }
     ensures stand { Stands one_session_world
         two_session_device ([] ∷ [] ∷ []) (held_with [] two_sessions) 2 }
-    ensures counted { orphan_count (held_with (nobodys_item ∷ three_items) two_sessions) ≡ 2 }
+    ensures counted { orphan_count (held_beside three_items two_sessions) ≡ 2 }
     ensures present { AreOpenOwners (0 ∷ []) two_sessions }
     ensures closed { AreOpenOwners (1 ∷ []) two_sessions → ⊥ }
     ensures own { (tables_seen 0 first_table two_sessions).has_session 0x03000000 ≡ true }
@@ -152,7 +152,15 @@ fn tables_name_the_objects_of_their_clients()
     ensures twice { IsTable three_items 0 (Some 1 ∷ Some 1 ∷ []) → ⊥ }
     ensures missing { IsTable three_items 0 (Some 3 ∷ []) → ⊥ }
     ensures long { IsTable three_items 0 (replicate 4097 None) → ⊥ }
-    ensures counted { held_items three_items ≡ named_items (first_table ∷ second_table ∷ []) }
+    ensures unnamed { IsTable three_items 0 (Some 1 ∷ []) → ⊥ }
+{}
+
+// The client 1 is open, and the client 0 is closed.
+fn lists_are_those_of_open_clients()
+    ensures stand { ListsStand (1 ∷ []) (0 ∷ 1 ∷ []) (None ∷ Some 1 ∷ []) }
+    ensures closed { ListsStand (1 ∷ []) (0 ∷ 1 ∷ []) (Some 0 ∷ Some 1 ∷ []) → ⊥ }
+    ensures twice { ListsStand (1 ∷ []) (0 ∷ 1 ∷ []) (Some 1 ∷ Some 1 ∷ []) → ⊥ }
+    ensures none { ListsStand (1 ∷ []) (0 ∷ 1 ∷ []) (None ∷ None ∷ []) → ⊥ }
 {}
 
 fn crosses<B: Send>() {}

@@ -33,8 +33,9 @@ fn run(alloc: Global) -> Result<[bool; 2], Fail> {
     let mut device = Fake::new();
     let mut reply = Buffer::new(alloc)?;
     let mut objects = Objects::new(alloc, 3)?;
+    let list = objects.add_client(7)?;
     objects.reserve()?;
-    objects.adopt(7, 0x8000_0000);
+    objects.adopt(7, list, 0x8000_0000);
     let before = objects.keeps_context(&CONTEXT);
     if objects
         .make_objects(&mut device, &[], 3, &mut reply)

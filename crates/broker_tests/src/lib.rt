@@ -8,6 +8,8 @@ mod clients;
 #[cfg(test)]
 mod contexts;
 #[cfg(test)]
+mod crowd;
+#[cfg(test)]
 mod driver;
 #[cfg(test)]
 mod examples;

@@ -1,8 +1,8 @@
 //! More objects than the device in memory has slots.
-ghost use Rattle.std.specs.Prelude.{◌≡◌, ◌<◌, ◌+◌, Some, None, true, false, length};
+ghost use Rattle.std.specs.Prelude.{◌≡◌, ◌<◌, ◌+◌, [], Some, None, true, false, length};
 ghost use Rattle.std.specs.Prelude.{refl};
 ghost use Rattle.std.specs.List.{AllByRecursion, list_any};
-ghost use Rattle.object_swap.specs.Items.{is_vacant};
+ghost use Rattle.object_swap.specs.Items.{is_vacant, owner_at};
 
 use device_memory::MemoryDevice;
 use device_port::{Device, DeviceFailed, Numbers, Trace, profile_numbers};
@@ -84,14 +84,19 @@ fn create(device: &mut Silent, reply: &mut Buffer) -> Option<u32> {
     tab_wire::response_handle(reply.as_slice())
 }
 
-// Makes room, and then a primary object that is a client's. Whether it is held.
-fn add(objects: &mut Objects, device: &mut Silent, reply: &mut Buffer) -> bool
+// Makes room, and then a primary object of the client of a list. Whether it is held.
+fn add(objects: &mut Objects, device: &mut Silent, list: u32, reply: &mut Buffer) -> bool
+    requires list { owner_at objects.old.owners list ≡ Some 7 }
+    requires left { objects.old.left ≡ [] }
     requires slots { objects.old.slots ≡ 3 }
     requires few { length objects.old.items < 10 }
     requires full { list_any is_vacant objects.old.items ≡ false }
     ensures full { list_any is_vacant objects.new.items ≡ false }
     ensures count { result ≡ true → length objects.new.items ≡ length objects.old.items + 1 }
-    ensures slots { objects.new.slots ≡ objects.old.slots }
+    ensures rest { objects.new ≡ record objects.old {
+      items = objects.new.items;
+      order = objects.new.order;
+    } }
 {
     if objects.make_objects(device, &[], 1, reply).is_err() {
         return false;
@@ -105,21 +110,24 @@ fn add(objects: &mut Objects, device: &mut Silent, reply: &mut Buffer) -> bool
     if objects.reserve().is_err() {
         return false;
     }
-    let item = objects.adopt(7, handle);
+    let item = objects.adopt(7, list, handle);
     objects.slot_of(item) == Some(handle)
 }
 
 // Whether five objects are added.
-fn add_five(objects: &mut Objects, device: &mut Silent, reply: &mut Buffer) -> bool
+fn add_five(objects: &mut Objects, device: &mut Silent, list: u32, reply: &mut Buffer) -> bool
+    requires list { owner_at objects.old.owners list ≡ Some 7 }
+    requires left { objects.old.left ≡ [] }
     requires slots { objects.old.slots ≡ 3 }
     requires empty { length objects.old.items ≡ 0 }
     requires full { list_any is_vacant objects.old.items ≡ false }
     ensures full { list_any is_vacant objects.new.items ≡ false }
     ensures count { result ≡ true → length objects.new.items ≡ 5 }
     ensures slots { objects.new.slots ≡ 3 }
+    ensures left { objects.new.left ≡ [] }
 {
     for _ in 0..5u8 {
-        if !add(objects, device, reply) {
+        if !add(objects, device, list, reply) {
             return false;
         }
     }
@@ -128,6 +136,7 @@ fn add_five(objects: &mut Objects, device: &mut Silent, reply: &mut Buffer) -> b
 
 // Whether these objects get slots.
 fn need(objects: &mut Objects, device: &mut Silent, needed: &[u32], reply: &mut Buffer) -> bool
+    requires left { objects.old.left ≡ [] }
     requires slots { objects.old.slots ≡ 3 }
     requires few { length needed.now < 4 }
     requires inside { AllByRecursion (λ item. item < length objects.old.items) needed.now }
@@ -135,6 +144,7 @@ fn need(objects: &mut Objects, device: &mut Silent, needed: &[u32], reply: &mut 
     ensures full { list_any is_vacant objects.new.items ≡ false }
     ensures count { length objects.new.items ≡ length objects.old.items }
     ensures slots { objects.new.slots ≡ objects.old.slots }
+    ensures left { objects.new.left ≡ [] }
 {
     objects.make_objects(device, needed, 0, reply).is_ok()
 }
@@ -145,8 +155,9 @@ fn run(alloc: Global) -> Result<[u64; 5], Fail> {
     let mut device = started(alloc)?;
     let mut reply = Buffer::new(alloc)?;
     let mut objects = Objects::new(alloc, 3)?;
+    let list = objects.add_client(7)?;
     let mut counts = [0; 5];
-    if !add_five(&mut objects, &mut device, &mut reply) {
+    if !add_five(&mut objects, &mut device, list, &mut reply) {
         return Ok(counts);
     }
     counts[0] = device.sent_count();

@@ -2,7 +2,7 @@
 use Rattle.std.proofs.Common.{◌≡◌, ◌≢◌, ◌+◌, ◌-◌, ◌<◌, ◌≤◌, inl, inr, ℕ, zero, suc, Bool, true, false, List, [], ◌∷◌, length, drop, get_or, set, refl, ap, sym, ◌∙◌, subst, arith, length-set}
 use Rattle.std.specs.Prelude.{◌==◌, ◌&&◌, ◌||◌, max, not, Option, Some, None, is_some}
 use Rattle.std.specs.List.{AllByRecursion, count_by, list_any}
-use Rattle.std.proofs.lemmas.Bool.{cases_eq, eq-eqb, leb-false, ne_eqb}
+use Rattle.std.proofs.lemmas.Bool.{cases_eq, eq-eqb, false≢true, leb-false, ne_eqb}
 use Rattle.std.proofs.lemmas.List.{get_or-set_same, get_or-set_other}
 use Rattle.tab_spec.specs.declared.TheConstants.{CC_CONTEXT_LOAD, HEADER_BYTES, TRANSIENT_FIRST}
 use Rattle.tab_spec.specs.Frame.{code_of}
@@ -19,9 +19,10 @@ use Rattle.history_spec.specs.Table.{count_held, is_full, put_least}
 use Rattle.history_laws.proofs.Counts.{count_cons, one_false, one_if, one_true}
 use Rattle.world_laws.proofs.Histories.{each-weaker}
 use Rattle.history_laws.proofs.Tables.{put, put_all, put_by, put_count}
-use Rattle.client_machine.specs.Moves.{Adopts, KeepsOwners, loads_kept}
-use Rattle.client_machine.specs.Tables.{IsPlaceOf, IsTable, held_items, is_item, naming_in, objects_in, place_object}
+use Rattle.client_machine.specs.Moves.{Adopts, GainsNone, KeepsOwners, loads_kept, other_than}
+use Rattle.client_machine.specs.Tables.{IsPlaceOf, IsTable, is_item, naming_in, objects_in, place_object}
 use Rattle.client_machine.proofs.Seeing.{seen_places}
+use Rattle.client_machine.proofs.Settling.{some_same}
 
 -- ---- what stands in a device depends on its slots and its seed alone
 
@@ -83,36 +84,37 @@ taken_there slots after slot n o same apart =
     ap (λ (held : List (Option Object)). number (is_some (get_or held n None))) (sym same)
     ∙ ap (λ (held : Option Object). number (is_some held)) (get_or-set_other slots.slots slot n (Some o) None apart)
 
-others_one : (slot n : ℕ) → count_by (λ (other : ℕ). other == n) (slot ∷ []) ≡ number (slot == n)
-others_one slot n = omega (arith, counts.count_cons (λ (other : ℕ). other == n) slot [])
+one_more : (others : List ℕ) (slot n : ℕ)
+    → count_by (λ (other : ℕ). other == n) (slot ∷ others) ≡ number (slot == n) + count_by (λ (other : ℕ). other == n) others
+one_more others slot n = counts.count_cons (λ (other : ℕ). other == n) slot others
 
-filled_owned : (slots after : SlotState) (items : List Item) (slot : ℕ) (o : Object) → IsOwned slots items [] → set slots.slots slot (Some o) ≡ after.slots
-    → slot < length slots.slots → taken slots slot ≡ 0 → IsOwned after items (slot ∷ [])
-filled_owned slots after items slot o owned same fits empty =
+filled_owned : (slots after : SlotState) (items : List Item) (others : List ℕ) (slot : ℕ) (o : Object) → IsOwned slots items others
+    → set slots.slots slot (Some o) ≡ after.slots → slot < length slots.slots → taken slots slot ≡ 0 → IsOwned after items (slot ∷ others)
+filled_owned slots after items others slot o owned same fits empty =
     λ n. elim (cases_eq n slot) [
       | inl is ↦
-          subst (λ (n : ℕ). naming items n + count_by (λ (other : ℕ). other == n) (slot ∷ []) ≡ taken after n) (sym is)
-          (omega (arith, taken_here slots after slot o same fits, owned slot, empty, others_one slot slot, counts.number_true (slot == slot) (eq-eqb slot slot refl)))
+          subst (λ (n : ℕ). naming items n + count_by (λ (other : ℕ). other == n) (slot ∷ others) ≡ taken after n) (sym is)
+          (omega (arith, taken_here slots after slot o same fits, owned slot, empty, one_more others slot slot, counts.number_true (slot == slot) (eq-eqb slot slot refl)))
       | inr apart ↦
           omega (
             arith,
             taken_there slots after slot n o same apart,
             owned n,
-            others_one slot n,
+            one_more others slot n,
             counts.number_false (slot == n) (ne_eqb slot n (λ is. apart (sym is))),
           )
     ]
 
 -- it leaves what stood
-pub record Filled (slots after : SlotState) (items : List Item) (o : Object) : Type 0 where
-  pub stand : ObjectsStand after items (free_slot slots.slots ∷ [])
+pub record Filled (slots after : SlotState) (items : List Item) (others : List ℕ) (o : Object) : Type 0 where
+  pub stand : ObjectsStand after items (free_slot slots.slots ∷ others)
   pub kept : (index : ℕ) → Names items index → item_object after (item_at items index) ≡ item_object slots (item_at items index)
   pub fits : free_slot slots.slots < length slots.slots
 
-pub filled : (slots after : SlotState) (items : List Item) (o : Object) → ObjectsStand slots items [] → list_any is_free slots.slots ≡ true
-    → set slots.slots (free_slot slots.slots) (Some o) ≡ after.slots → slots.persist.seed ≡ after.persist.seed → after.started ≡ true → IsSlots after
-    → Filled slots after items o
-filled slots after items o stand room same seed started sound =
+pub filled : (slots after : SlotState) (items : List Item) (others : List ℕ) (o : Object) → ObjectsStand slots items others
+    → list_any is_free slots.slots ≡ true → set slots.slots (free_slot slots.slots) (Some o) ≡ after.slots → slots.persist.seed ≡ after.persist.seed
+    → after.started ≡ true → IsSlots after → Filled slots after items others o
+filled slots after items others o stand room same seed started sound =
     let slot = free_slot slots.slots in
     let least = free slots.slots room in
     let empty : taken slots slot ≡ 0 = ap (λ (o : Option Object). number (is_some o)) least.none in
@@ -124,7 +126,7 @@ filled slots after items o stand room same seed started sound =
         sound = sound;
         each = counts.all_others (λ item. ItemStands slots item) (λ item. ItemStands after item) items no_item stand.each
             (λ j inside stands. stands_elsewhere slots after slot (Some o) (item_at items j) same seed (apart j inside) stands);
-        owned = filled_owned slots after items slot o stand.owned same least.fits empty;
+        owned = filled_owned slots after items others slot o stand.owned same least.fits empty;
       };
       kept = λ index names. item_elsewhere slots after slot (Some o) (item_at items index) same seed (apart index names.inside);
       fits = least.fits;
@@ -189,18 +191,26 @@ pub adopted_others : {client handle : ℕ} {items new_items : List Item} {table 
 adopted_others whose adopts index owner names own mine =
     (adopted_names index adopts names, ap (λ (item : Item). item.client) (adopted_item index adopts names) ∙ own)
 
-pub adopted_held : {client handle : ℕ} {items new_items : List Item} {table new_table : List (Option ℕ)}
-    → Adopts client handle items new_items table new_table → held_items new_items ≡ held_items items + 1
-adopted_held {client = client} {handle = handle} {items = items} adopts =
-    let p : Item → Bool = λ item. not (is_vacant item) in
-    omega (
-      arith,
-      ap (count_by p) adopts.items_are,
-      counts.count_set p items adopts.item (new_item client (handle - TRANSIENT_FIRST)) no_item adopts.inside,
-      ap (λ (vacant : Bool). number (not vacant)) adopts.vacant,
-    )
+-- the item at another index is as it was
+elsewhere : {client handle : ℕ} {items new_items : List Item} {table new_table : List (Option ℕ)} (index : ℕ)
+    → (adopts : Adopts client handle items new_items table new_table) → index ≢ adopts.item → item_at new_items index ≡ item_at items index
+elsewhere {client = client} {handle = handle} {items = items} index adopts apart =
+    ap (λ (all : List Item). item_at all index) adopts.items_are
+    ∙ get_or-set_other items adopts.item index (new_item client (handle - TRANSIENT_FIRST)) no_item apart
 
-pub adopted_count : {client handle : ℕ} {items new_items : List Item} {table new_table : List (Option ℕ)}
+-- no other client gets an object
+pub adopted_gained : {client handle : ℕ} {items new_items : List Item} {table new_table : List (Option ℕ)}
+    → Adopts client handle items new_items table new_table → GainsNone (other_than client) items new_items
+adopted_gained {client = client} {items = items} {new_items = new_items} adopts = λ index owner own other.
+    elim (cases_eq index adopts.item) [
+      | inl same ↦
+          let mine : owner ≡ client =
+          some_same (sym own ∙ ap (λ (n : ℕ). (item_at new_items n).client) same ∙ ap (λ (item : Item). item.client) (adopted_new adopts)) in
+          absurd (false≢true (sym (ap not (eq-eqb owner client mine)) ∙ other))
+      | inr apart ↦ ap (λ (item : Item). item.client) (sym (elsewhere index adopts apart)) ∙ own
+    ]
+
+adopted_count : {client handle : ℕ} {items new_items : List Item} {table new_table : List (Option ℕ)}
     → Adopts client handle items new_items table new_table → count_held new_table ≡ count_held table + 1
 adopted_count {table = table} adopts = ap (λ (places : List (Option ℕ)). count_held places) adopts.table_is ∙ put_count adopts.item table
 
@@ -248,6 +258,20 @@ adopted_once {client = client} {items = items} {table = table} index adopts is =
     ] in
     subst (λ (table : List (Option ℕ)). naming_in index table ≤ 1) (sym adopts.table_is) here
 
+-- each object of the client is named
+adopted_all : {client handle : ℕ} {items new_items : List Item} {table new_table : List (Option ℕ)} (index : ℕ)
+    → Adopts client handle items new_items table new_table → IsTable items client table → (item_at new_items index).client ≡ Some client
+    → 1 ≤ naming_in index new_table
+adopted_all {client = client} {items = items} {table = table} index adopts is own =
+    let counted : naming_in index (put_least adopts.item table) ≡ naming_in index table + one_if (adopts.item == index) =
+    put_by (λ (place : Option ℕ). is_item index place) adopts.item table refl in
+    let here : 1 ≤ naming_in index (put_least adopts.item table) =
+    elim (cases_eq index adopts.item) [
+      | inl same ↦ omega (arith, counted, one_true (adopts.item == index) (eq-eqb adopts.item index (sym same)))
+      | inr apart ↦ omega (arith, counted, is.all index (ap (λ (item : Item). item.client) (sym (elsewhere index adopts apart)) ∙ own))
+    ] in
+    subst (λ (table : List (Option ℕ)). 1 ≤ naming_in index table) (sym adopts.table_is) here
+
 -- a table grows only where each of its places is taken
 put_length : (item : ℕ) (table : List (Option ℕ)) → length (put_least item table) ≤ max (length table) (count_held table + 1)
 put_length item [] = omega arith
@@ -270,6 +294,7 @@ adopted_table {client = client} {items = items} {new_items = new_items} {table =
     record {
       named = subst (λ (table : List (Option ℕ)). AllByRecursion (λ place. IsPlaceOf client new_items place) table) (sym adopts.table_is) named;
       apart = λ index. adopted_once index adopts is;
+      all = λ index own. adopted_all index adopts is own;
       few = omega (arith, leb-false CLIENT_OBJECTS (count_held table) few, adopted_count adopts);
       short = omega (
         arith,
@@ -280,9 +305,9 @@ adopted_table {client = client} {items = items} {new_items = new_items} {table =
       );
     }
 
-adopts_stand : (after : SlotState) (items : List Item) (index client slot : ℕ) → ObjectsStand after items (slot ∷ []) → index < length items
-    → is_vacant (item_at items index) ≡ true → ObjectsStand after (set items index (new_item client slot)) []
-adopts_stand after items index client slot stand inside vacant = (adopts after items index client slot [] stand inside vacant).stand
+adopts_stand : {others : List ℕ} (after : SlotState) (items : List Item) (index client slot : ℕ) → ObjectsStand after items (slot ∷ others)
+    → index < length items → is_vacant (item_at items index) ≡ true → ObjectsStand after (set items index (new_item client slot)) others
+adopts_stand {others = others} after items index client slot stand inside vacant = (adopts after items index client slot others stand inside vacant).stand
 
 place_kept : (slots after : SlotState) (items new_items : List Item) (client : ℕ)
     → ((index : ℕ) → Names items index → item_object after (item_at new_items index) ≡ item_object slots (item_at items index))
@@ -302,16 +327,16 @@ same_objects slots after items (Some index ∷ table) same seed =
     ∙ ap (λ (rest : List (Option Object)). item_object slots (item_at items index) ∷ rest) (same_objects slots after items table same seed)
 
 -- the device and the client's table with a new object
-pub record Adopted (slots after : SlotState) (items new_items : List Item) (table new_table : List (Option ℕ)) (o : Object) : Type 0 where
-  pub stand : ObjectsStand after new_items []
+pub record Adopted (slots after : SlotState) (items new_items : List Item) (left : List ℕ) (table new_table : List (Option ℕ)) (o : Object) : Type 0 where
+  pub stand : ObjectsStand after new_items left
   pub others : (index : ℕ) → Names items index → item_object after (item_at new_items index) ≡ item_object slots (item_at items index)
   pub objects : objects_in after new_items new_table ≡ put_least o (objects_in slots items table)
 
-pub adopted : {client handle : ℕ} {items new_items : List Item} {table new_table : List (Option ℕ)} (slots after : SlotState) (o : Object)
-    → Filled slots after items o → set slots.slots (free_slot slots.slots) (Some o) ≡ after.slots → ObjectsStand slots items [] → IsTable items client table
-    → Adopts client handle items new_items table new_table → handle - TRANSIENT_FIRST ≡ free_slot slots.slots
-    → Adopted slots after items new_items table new_table o
-adopted {client = client} {handle = handle} {items = items} {new_items = new_items} {table = table} {new_table = new_table} slots after o fill same stand is adopts least =
+pub adopted : {client handle : ℕ} {items new_items : List Item} {left : List ℕ} {table new_table : List (Option ℕ)} (slots after : SlotState) (o : Object)
+    → Filled slots after items left o → set slots.slots (free_slot slots.slots) (Some o) ≡ after.slots → ObjectsStand slots items left
+    → IsTable items client table → Adopts client handle items new_items table new_table → handle - TRANSIENT_FIRST ≡ free_slot slots.slots
+    → Adopted slots after items new_items left table new_table o
+adopted {client = client} {handle = handle} {items = items} {new_items = new_items} {left = left} {table = table} {new_table = new_table} slots after o fill same stand is adopts least =
     let slot = free_slot slots.slots in
     let f : Option ℕ → Option Object = λ place. place_object slots items place in
     let g : Option ℕ → Option Object = λ place. place_object after new_items place in
@@ -323,7 +348,7 @@ adopted {client = client} {handle = handle} {items = items} {new_items = new_ite
     let others : (index : ℕ) → Names items index → item_object after (item_at new_items index) ≡ item_object slots (item_at items index) =
     λ index names. ap (λ (item : Item). item_object after item) (adopted_item index adopts names) ∙ fill.kept index names in
     record {
-      stand = subst (λ (items : List Item). ObjectsStand after items []) (sym items_are)
+      stand = subst (λ (items : List Item). ObjectsStand after items left) (sym items_are)
           (adopts_stand after items adopts.item client slot fill.stand adopts.inside adopts.vacant);
       others = others;
       objects = ap (λ (table : List (Option ℕ)). objects_in after new_items table) adopts.table_is

@@ -1,9 +1,9 @@
 -- What a call that moves objects alone leaves: what clients have stands as before, and whose it is.
 use Rattle.std.proofs.Common.{◌≡◌, ◌+◌, ◌≤◌, ◌<◌, ◌⊎◌, inl, inr, ℕ, zero, suc, Bool, true, false, List, [], ◌∷◌, length, get_or, map, refl, ap, sym, ◌∙◌, subst, arith}
-use Rattle.std.proofs.lemmas.Bool.{cases_lt, eqb-true, not-false}
+use Rattle.std.proofs.lemmas.Bool.{cases_lt, not-false}
 use Rattle.std.proofs.lemmas.Result.{on_ok_weaker}
 use Rattle.std.proofs.lemmas.List.{length-map}
-use Rattle.std.specs.Prelude.{Option, Some, None, Result, Ok, IfSome, is_some, not, ◌==◌, ◌&&◌, ◌||◌, if◌then◌else◌}
+use Rattle.std.specs.Prelude.{Option, Some, None, Result, Ok, IfSome, is_some, not, ◌==◌, ◌||◌, if◌then◌else◌}
 use Rattle.std.specs.List.{count_by, list_any}
 use Rattle.tab_spec.specs.declared.TheConstants.{HT_TRANSIENT, LOADED_SESSIONS, RC_REFERENCE_H0}
 use Rattle.tab_spec.specs.declared.Admitted.{Admitted}
@@ -19,16 +19,16 @@ use Rattle.tab_laws.proofs.Handled.{client_is}
 use Rattle.tab_laws.proofs.OwnHandles.{own_handles}
 use Rattle.device_spec.specs.Slots.{SessionPlace, SlotState, is_free, loaded_count}
 use Rattle.object_swap.specs.Items as objects
-use Rattle.object_swap.specs.Items.{AreFree, AreResident, Item, MakesRoom, Moved, Names, ObjectsView, evictions, handle_in, is_orphan, is_resident, is_unsaved, is_vacant, item_at, item_object, missing, no_item, objects_of, owners}
+use Rattle.object_swap.specs.Items.{AreFree, AreResident, Item, MakesRoom, Moved, Names, ObjectsView, evictions, handle_in, is_resident, is_unsaved, is_vacant, item_at, item_object, missing, no_item, objects_of, owners}
 use Rattle.object_swap.proofs.Order.{leaves_few}
 use Rattle.session_swap.specs.Items as sessions
-use Rattle.history_laws.proofs.Counts.{count_cons, false_from_one, one_false, one_if}
+use Rattle.history_laws.proofs.Counts.{count_cons, one_if}
 use Rattle.history_laws.proofs.Tables.{held_all}
 use Rattle.history_spec.specs.Table.{held_under}
 use Rattle.client_machine.specs.declared.held.Held.{Held}
 use Rattle.client_machine.specs.Moves.{AreTaken, KeepsOwners, MovesObjects, Prepares, any_client, first_handle, listed, named_by}
-use Rattle.client_machine.specs.Settled.{Settled}
-use Rattle.client_machine.specs.Tables.{IsPlaceOf, IsPlaced, IsTable, device_handle, handle_or, held_items, slot_handle, tables_seen}
+use Rattle.client_machine.specs.Settled.{Settled, orphan_count}
+use Rattle.client_machine.specs.Tables.{IsPlaceOf, IsPlaced, IsTable, device_handle, handle_or, slot_handle, tables_seen}
 use Rattle.client_machine.proofs.Settling.{counter_over_objects, keeps_over_objects, persist_over_objects, rest_over_objects, sessions_over_objects, settled_over_objects, some_same}
 
 -- ---- the items, one by one
@@ -38,13 +38,13 @@ at_map f [] i d = refl
 at_map f (x ∷ xs) zero d = refl
 at_map f (x ∷ xs) (suc i) d = at_map f xs i d
 
-objects_told : (old new : Option SlotState) (slots after : SlotState) (items new_items : List Item) → old ≡ Some slots → new ≡ Some after
+pub objects_told : (old new : Option SlotState) (slots after : SlotState) (items new_items : List Item) → old ≡ Some slots → new ≡ Some after
     → objects_of new new_items ≡ objects_of old items → map (item_object after) new_items ≡ map (item_object slots) items
 objects_told old new slots after items new_items was is same =
     some_same
     (sym (ap (λ (state : Option SlotState). objects_of state new_items) is) ∙ same ∙ ap (λ (state : Option SlotState). objects_of state items) was)
 
-item_told : (slots after : SlotState) (items new_items : List Item) (index : ℕ) → map (item_object after) new_items ≡ map (item_object slots) items
+pub item_told : (slots after : SlotState) (items new_items : List Item) (index : ℕ) → map (item_object after) new_items ≡ map (item_object slots) items
     → item_object after (item_at new_items index) ≡ item_object slots (item_at items index)
 item_told slots after items new_items index same =
     sym (at_map (item_object after) new_items index no_item) ∙ ap (λ (objects : List (Option Object)). get_or objects index None) same
@@ -74,18 +74,6 @@ names_same items new_items index same names = record {
   there = vacant_same items new_items index same ∙ names.there;
 }
 
-held_owned : (items : List Item) → held_items items ≡ count_by (λ (o : Option ℕ × Bool). not o.1) (owners items)
-held_owned [] = refl
-held_owned (item ∷ items) = omega (
-  arith,
-  count_cons (λ (item : Item). not (is_vacant item)) item items,
-  count_cons (λ (o : Option ℕ × Bool). not o.1) (owner item) (owners items),
-  held_owned items,
-)
-
-held_same : (items new_items : List Item) → owners new_items ≡ owners items → held_items new_items ≡ held_items items
-held_same items new_items same = held_owned new_items ∙ ap (count_by (λ (o : Option ℕ × Bool). not o.1)) same ∙ sym (held_owned items)
-
 vacant_owned : (items : List Item) → list_any is_vacant items ≡ list_any (λ (o : Option ℕ × Bool). o.1) (owners items)
 vacant_owned [] = refl
 vacant_owned (item ∷ items) = ap (λ (more : Bool). is_vacant item || more) (vacant_owned items)
@@ -94,59 +82,23 @@ any_vacant : (items new_items : List Item) → owners new_items ≡ owners items
 any_vacant items new_items same some =
     vacant_owned new_items ∙ ap (list_any (λ (o : Option ℕ × Bool). o.1)) same ∙ sym (vacant_owned items) ∙ some
 
--- ---- no object of nobody comes into a slot
-
-each_not : {X : Type 0} (p : X → Bool) (xs : List X) (d : X) → p d ≡ false → count_by p xs ≡ 0 → (i : ℕ) → p (get_or xs i d) ≡ false
-each_not p [] d at none i = at
-each_not p (x ∷ xs) d at none zero = false_from_one (p x) (omega (arith, none, count_cons p x xs))
-each_not p (x ∷ xs) d at none (suc i) = each_not p xs d at (omega (arith, none, count_cons p x xs)) i
-
-none_counted : {X : Type 0} (p : X → Bool) (xs : List X) (d : X) → ((i : ℕ) → p (get_or xs i d) ≡ false) → count_by p xs ≡ 0
-none_counted p [] d none = refl
-none_counted p (x ∷ xs) d none =
-    omega (arith, count_cons p x xs, one_false (p x) (none 0), none_counted p xs d (λ i. none (suc i)))
-
-orphan_by : (needed was is client : Bool) → (needed ≡ false → was ≡ false → is ≡ false) → (was && not client) ≡ false → (needed ≡ true → client ≡ true)
-    → (is && not client) ≡ false
-orphan_by needed was false client out old own = refl
-orphan_by needed was true true out old own = refl
-orphan_by true was true false out old own = sym (own refl)
-orphan_by false true true false out old own = old
-orphan_by false false true false out old own = out refl refl
-
-pub none_left : (needed : List ℕ) (items new_items : List Item) → owners new_items ≡ owners items
-    → ((index : ℕ) → list_any (λ (one : ℕ). one == index) needed ≡ false → is_resident (item_at items index) ≡ false
-    → is_resident (item_at new_items index) ≡ false)
-    → ((index : ℕ) → list_any (λ (one : ℕ). one == index) needed ≡ true → is_some (item_at items index).client ≡ true)
-    → count_by is_orphan items ≡ 0 → count_by is_orphan new_items ≡ 0
-none_left needed items new_items same out own none =
-    none_counted is_orphan new_items no_item
-    (λ index.
-    ap (λ (client : Option ℕ). is_resident (item_at new_items index) && not (is_some client)) (client_same items new_items index same)
-    ∙ orphan_by (list_any (λ (one : ℕ). one == index) needed) (is_resident (item_at items index)) (is_resident (item_at new_items index))
-    (is_some (item_at items index).client) (out index) (each_not is_orphan items no_item refl none index) (own index))
-
--- of one needed object, which a client has
-one_by : (test : Bool) (item index : ℕ) (items : List Item) → (item == index) ≡ test → is_some (item_at items item).client ≡ true → (test || false) ≡ true
-    → is_some (item_at items index).client ≡ true
-one_by true item index items is own among = subst (λ (n : ℕ). is_some (item_at items n).client ≡ true) (eqb-true item index is) own
-one_by false item index items is own among = absurd cc
-
-pub one_owned : (item : ℕ) (items : List Item) → is_some (item_at items item).client ≡ true → (index : ℕ)
-    → list_any (λ (one : ℕ). one == index) (item ∷ []) ≡ true → is_some (item_at items index).client ≡ true
-one_owned item items own index among = one_by (item == index) item index items refl own among
-
-pub none_owned : (items : List Item) (index : ℕ) → list_any (λ (one : ℕ). one == index) [] ≡ true → is_some (item_at items index).client ≡ true
-none_owned items index among = absurd cc
-
 -- ---- what such a call leaves
 
+no_items : {X : Type 0} (xs : List X) → length xs ≡ 0 → xs ≡ []
+no_items [] none = refl
+no_items (x ∷ xs) none = absurd (omega (arith, none))
+
+-- where nothing is nobody's no object is
+pub none_left : (held : Held) → orphan_count held ≡ 0 → held.objects.left ≡ []
+none_left held none = no_items held.objects.left (omega (arith, none))
+
 pub objects_moved : {D : Type 0} (seen : D → Seen) (most : ℕ) (old new : D) (held : Held) (view : ObjectsView)
-    → Moved seen old new held.objects view → count_by is_orphan view.items ≡ count_by is_orphan held.objects.items
+    → Moved seen old new held.objects view → held.objects.left ≡ []
     → objects.counter_of (seen new).state ≤ objects.counter_of (seen old).state + most → Settled (seen old).state held
     → Prepares most seen old new held (record { objects = view; sessions = held.sessions })
-objects_moved seen most old new held view moved orphans_are counter settled =
+objects_moved seen most old new held view moved none counter settled =
     let rest = moved.rest.rest in
+    let stand = subst (λ (l : List ℕ). objects.Stand (seen new).state view.items l) (sym (moved.left ∙ none)) moved.stand in
     let owners = moved.objects.owners in
     record {
       keeps = keeps_over_objects seen old new moved.rest;
@@ -160,6 +112,8 @@ objects_moved seen most old new held view moved orphans_are counter settled =
         names_same held.objects.items view.items index owners names,
         client_same held.objects.items view.items index owners ∙ own,
       );
+      gained = λ index owner own mine. sym (client_same held.objects.items view.items index owners) ∙ own;
+      lists = moved.owners;
       objects = λ slots after index owner was is names own mine.
           item_told slots after held.objects.items view.items index
           (objects_told (seen old).state (seen new).state slots after held.objects.items view.items was is moved.objects.objects);
@@ -167,14 +121,13 @@ objects_moved seen most old new held view moved orphans_are counter settled =
       sessions = λ slots after was is.
           sessions_over_objects slots after held.sessions.items (rest_over_objects (seen old).state (seen new).state slots after rest was is);
       persist = persist_over_objects (seen old).state (seen new).state rest;
-      settled = settled_over_objects (seen old).state (seen new).state held (record { objects = view; sessions = held.sessions }) rest refl moved.stand settled;
-      counted = omega (arith, held_same held.objects.items view.items owners, orphans_are);
+      settled = settled_over_objects (seen old).state (seen new).state held (record { objects = view; sessions = held.sessions }) rest refl stand settled;
       vacant = any_vacant held.objects.items view.items owners;
       gone = record {
         objects = λ index vacant. vacant_same held.objects.items view.items index owners ∙ vacant;
         sessions = λ number none. none;
       };
-      orphans = omega (arith, orphans_are);
+      orphans = omega (arith, ap (λ (l : List ℕ). length l) moved.left);
       slots = moved.slots;
       length_is = length_same held.objects.items view.items owners;
     }
@@ -271,16 +224,14 @@ place_by true client items place is = is
 place_by false client items place is = tt
 
 kept_place : (client : ℕ) (items new_items : List Item) (place : Option ℕ) → IsPlaceOf client items place → KeepsOwners any_client items new_items
-    → IfSome place (λ item. Names new_items item × (is_some (item_at new_items item).client ≡ true))
+    → IfSome place (λ item. Names new_items item)
 kept_place client items new_items None is keeps = tt
-kept_place client items new_items (Some index) is keeps =
-    let still = keeps index client is.0 is.1 refl in
-    (still.0, ap (λ (o : Option ℕ). is_some o) still.1)
+kept_place client items new_items (Some index) is keeps = (keeps index client is.0 is.1 refl).0
 
--- it is there still, and the client has it
+-- it is there still
 pub named_kept : (client : ℕ) (items new_items : List Item) (table : List (Option ℕ)) (handle : ℕ) (named : Option ℕ) → named ≡ named_by table handle
     → IsTable items client table → KeepsOwners any_client items new_items
-    → IfSome named (λ item. Names new_items item × (is_some (item_at new_items item).client ≡ true))
+    → IfSome named (λ item. Names new_items item)
 named_kept client items new_items table handle named is own keeps =
     kept_place client items new_items named
     (subst (λ (place : Option ℕ). IsPlaceOf client items place) (sym is)

@@ -1,16 +1,13 @@
--- What is left of a client's session or object that is nobody's now, or that is gone: how many are nobody's, and what is another's.
+-- What is left of a client's session that is nobody's now, or that is gone: how many are nobody's, and what is another's.
 use Rattle.std.proofs.Common.{◌≡◌, ◌+◌, ◌<◌, ◌≤◌, ℕ, zero, suc, Bool, true, false, List, [], ◌∷◌, length, set, map, refl, ap, sym, ◌∙◌, arith}
-use Rattle.std.specs.Prelude.{◌==◌, ◌&&◌, not, Option, Some, None, is_some, MatchOption, Result, Ok, Err, if◌then◌else◌}
+use Rattle.std.specs.Prelude.{◌==◌, not, Option, Some, None, is_some, MatchOption, Result, Ok, Err, if◌then◌else◌}
 use Rattle.std.specs.List.{count_by}
 use Rattle.std.proofs.lemmas.Bool.{eq-eqb, eqb-true, false≢true, ne_eqb}
 use Rattle.tab_spec.specs.Session.{Session}
 use Rattle.tab_spec.specs.Shape.{number_of_session, octet_of}
 use Rattle.device_spec.specs.Slots.{SlotState}
-use Rattle.object_swap.specs.Items as objects
-use Rattle.object_swap.specs.Items.{ItemStands, ObjectsStand, handle_in}
+use Rattle.object_swap.specs.Items.{handle_in}
 use Rattle.object_swap.proofs.Counts.{all_but}
-use Rattle.object_swap.proofs.Moved.{item_stands}
-use Rattle.object_swap.proofs.Standing.{naming_set}
 use Rattle.session_swap.specs.Items.{Item, Names, disowned, flag, has_owner, is_orphan, is_owned, is_owner, item_at, item_session, owner_by, owner_in, owner_of_item, sessions_of, without_session}
 use Rattle.session_swap.proofs.Among.{named_inside, named_is}
 use Rattle.session_swap.proofs.Counts.{count_cons, count_set, flag_false, flag_most, flag_true}
@@ -219,36 +216,8 @@ left_others old new items client n at same =
 
 -- ---- a client's object
 
-own_by : (resident owned : Bool) → owned ≡ true → (resident && not owned) ≡ false
-own_by true true own = refl
-own_by false true own = refl
-own_by resident false own = absurd cc
-
--- an object of a client isn't nobody's
-pub own_object : (client : ℕ) (item : objects.Item) → item.client ≡ Some client → objects.is_orphan item ≡ false
-own_object client item own = own_by (is_some item.slot) (is_some item.client) (ap (λ (owner : Option ℕ). is_some owner) own)
-
--- one in a slot that is left to nobody is
-pub disowned_object : (item : objects.Item) → objects.is_resident item ≡ true → objects.is_orphan (objects.disowned item) ≡ true
-disowned_object item resident = ap (λ (b : Bool). b && true) resident
-
-disowned_stands : (slots : SlotState) (item : objects.Item) → ItemStands slots item → ItemStands slots (objects.disowned item)
-disowned_stands slots item stands = record { there = stands.there; beside = stands.beside }
-
-pub disowned_stand : (slots : SlotState) (items : List objects.Item) (index : ℕ) (others : List ℕ) → index < length items → ObjectsStand slots items others
-    → ObjectsStand slots (set items index (objects.disowned (objects.item_at items index))) others
-disowned_stand slots items index others inside stand =
-    let item = objects.disowned (objects.item_at items index) in
-    record {
-      started = stand.started;
-      sound = stand.sound;
-      each = all_but (λ (item : objects.Item). ItemStands slots item) (λ (item : objects.Item). ItemStands slots item) items index item objects.no_item stand.each
-          (λ j other apart stands. stands) (disowned_stands slots (objects.item_at items index) (item_stands slots items others index stand inside));
-      owned = λ n. omega (arith, naming_set items index item n inside, stand.owned n);
-    }
-
 -- a flush that failed was sent, so the object is in a slot
 pub is_in_slot : {A E : Type 0} (X : Type 0) (P : ℕ → Type 0) (slot : Option ℕ) (a : A) (e : E)
-    → MatchOption (handle_in slot) ((Err e ≡ Ok a) × X) P → is_some slot ≡ true
-is_in_slot X P (Some slot) a e sent = refl
+    → MatchOption (handle_in slot) ((Err e ≡ Ok a) × X) P → (n : ℕ) × (slot ≡ Some n)
+is_in_slot X P (Some slot) a e sent = (slot, refl)
 is_in_slot {A} {E} X P None a e sent = let sent : ◌≡◌ {A = Result A E} (Err e) (Ok a) = sent.0 in absurd cc

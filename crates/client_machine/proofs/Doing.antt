@@ -147,7 +147,7 @@ saved_runs slots held client table a bytes may alone saves sound =
     ∙ ap (λ (n : ℕ). picks.Sequence n) sequence_is in
     record {
       settled = record {
-        objects = stand_same slots after items [] may.settled.objects refl refl may.settled.objects.started sound;
+        objects = stand_same slots after items held.objects.left may.settled.objects refl refl may.settled.objects.started sound;
         sessions = subst (λ (l : List (Option sessions.Item)). SessionsStand after (record held.sessions { items = l }) []) (sym items_are)
             (stand_over_objects slots after held.sessions [] refl sound may.settled.sessions);
         gap = may.settled.gap;
@@ -219,7 +219,7 @@ any_opened slots [] bytes all is = absurd cc
 any_opened slots (item ∷ items) bytes all is =
     either_one (is_kept bytes item.blob) (keeps_context items bytes) (item_opened slots item bytes all.0) (any_opened slots items bytes all.1) is
 
-kept_opened : (slots : SlotState) (items : List Item) (bytes : List ℕ) → ObjectsStand slots items [] → keeps_context items bytes ≡ true
+kept_opened : {others : List ℕ} (slots : SlotState) (items : List Item) (bytes : List ℕ) → ObjectsStand slots items others → keeps_context items bytes ≡ true
     → (o : Object) × (opened_object slots.persist.seed bytes ≡ Some o)
 kept_opened slots items bytes stand is = some_of (opened_object slots.persist.seed bytes) (any_opened slots items bytes stand.each is)
 

@@ -1,10 +1,10 @@
 -- A client's object is flushed, or left to nobody since its flush failed: every other item as it was, and the client's table without
 -- its handle. What is dropped one after another is dropped in one.
-use Rattle.std.proofs.Common.{◌≡◌, ◌≢◌, ◌⊎◌, ◌+◌, ◌≤◌, ◌<◌, inl, inr, ℕ, Bool, true, false, List, [], length, get_or, set, map, refl, ap, sym, ◌∙◌, subst, arith}
-use Rattle.std.specs.Prelude.{nat_lt, not, Option, Some, None, is_some, Result, Ok, Err, if◌then◌else◌}
-use Rattle.std.specs.List.{AllByRecursion, count_by}
+use Rattle.std.proofs.Common.{◌≡◌, ◌≢◌, ◌⊎◌, ◌+◌, ◌≤◌, ◌<◌, ◌++◌, ◌∷◌, inl, inr, ℕ, Bool, true, false, List, [], length, get_or, set, map, refl, ap, sym, ◌∙◌, subst, arith}
+use Rattle.std.specs.Prelude.{◌==◌, ◌&&◌, nat_lt, not, Option, Some, None, is_some, Result, Ok, Err, OnErr, if◌then◌else◌}
+use Rattle.std.specs.List.{AllByRecursion}
 use Rattle.std.proofs.lemmas.Bool.{cases_eq, eqb-false, false≢true, ne_eqb, eq-eqb}
-use Rattle.std.proofs.lemmas.List.{get_or-map, get_or-set_same, get_or-set_other, length-set}
+use Rattle.std.proofs.lemmas.List.{get_or-map, get_or-set_same, get_or-set_other, length-append, length-set}
 use Rattle.tab_spec.specs.declared.TheConstants.{TRANSIENT_FIRST}
 use Rattle.tab_spec.specs.Count.{Rose}
 use Rattle.tab_spec.specs.Object.{Object}
@@ -12,25 +12,26 @@ use Rattle.device_spec.specs.Answers.{IsRight}
 use Rattle.device_spec.specs.Slots.{SlotState}
 use Rattle.device_port.specs.Device.{Seen, asked_of, last_of}
 use Rattle.device_port.specs.Own.{IsAnswered}
-use Rattle.object_swap.specs.Items.{Item, KeepsRest, Names, ObjectsView, Stand, counter_of, disowned, handle_in, is_orphan, is_resident, is_vacant, item_at, item_object, no_item, objects_of, rest_of, without_object}
-use Rattle.object_swap.proofs.Counts.{all_but, count_set, number_false, number_true}
+use Rattle.device_port.specs.Use.{without_one}
+use Rattle.object_swap.specs.Items.{HasNone, Item, KeepsRest, Names, ObjectsView, Stand, counter_of, handle_in, is_client, is_owner, is_resident, is_vacant, item_at, item_object, no_item, objects_of, rest_of, without_object}
+use Rattle.object_swap.proofs.Counts.{all_but, count_one, count_set, number_true}
+use Rattle.object_swap.proofs.Orphans.{orphaned_last, orphaned_stand}
 use Rattle.session_swap.specs.Items as sessions
-use Rattle.session_swap.proofs.Counts.{count_same}
-use Rattle.history_spec.specs.Table.{count_held, handle_from, held_under, number_of_object, without_handle}
+use Rattle.history_spec.specs.Table.{held_under, number_of_object, without_handle}
 use Rattle.world_spec.specs.World.{without_owner}
-use Rattle.history_laws.proofs.Counts.{one_if}
-use Rattle.history_laws.proofs.Tables.{from, held_all, named, none_from, without_by, without_count}
+use Rattle.history_laws.proofs.Counts.{one_false, one_if}
+use Rattle.history_laws.proofs.Tables.{held_all, named, without_by, without_count}
 use Rattle.client_machine.specs.declared.held.Held.{Held}
-use Rattle.client_machine.specs.Costs.{residents_of}
-use Rattle.client_machine.specs.Dropping.{Disowns, Drops}
-use Rattle.client_machine.specs.Moves.{KeepsObjectsOf, KeepsOwners, other_than}
+use Rattle.client_machine.specs.Costs.{own_objects, own_residents}
+use Rattle.client_machine.specs.Dropping.{AreLeftByFaults, Disowns, Drops}
+use Rattle.client_machine.specs.Moves.{GainsNone, KeepsObjectsOf, KeepsOwners, other_than}
 use Rattle.client_machine.specs.Settled.{Settled, sessions_in}
-use Rattle.client_machine.specs.Tables.{IsPlaceOf, IsTable, held_items, is_item, naming_in, slot_handle}
-use Rattle.client_machine.proofs.Disowning.{disowned_object, disowned_stand, own_object}
+use Rattle.client_machine.specs.Tables.{IsPlaceOf, IsTable, is_item, naming_in}
 use Rattle.client_machine.proofs.Keeping.{KeepsOtherSessions, counted_both, counted_once, left_then, objects_same, other_sessions_same, other_sessions_then, owners_same, persist_same, right_none, rightly}
-use Rattle.client_machine.proofs.Orphans.{answered_then, held_less, keeps_same, keeps_then, objects_then, owners_then, persist_then}
+use Rattle.client_machine.proofs.Orphans.{answered_then, gains_then, keeps_same, keeps_then, objects_then, owners_then, persist_then}
 use Rattle.client_machine.proofs.Prepared.{counts_same, counts_then}
 use Rattle.client_machine.proofs.Settling.{counter_over_objects, keeps_over_objects, persist_over_objects, rest_over_objects, settled_over_objects, some_same}
+use Rattle.client_machine.proofs.Staying.{set_at}
 
 -- ---- an object of a client
 
@@ -48,13 +49,13 @@ held_named items client table handle item is held_here =
 
 -- ---- the other items
 
-other_at : (items : List Item) (item index : ℕ) (left : Item) → index ≢ item → item_at (set items item left) index ≡ item_at items index
-other_at items item index left apart = get_or-set_other items item index left no_item apart
+other_at : (items : List Item) (item index : ℕ) → index ≢ item → item_at (set items item no_item) index ≡ item_at items index
+other_at items item index apart = get_or-set_other items item index no_item no_item apart
 
-other_names : (items : List Item) (item index : ℕ) (left : Item) → Names items index → index ≢ item → Names (set items item left) index
-other_names items item index left names apart = record {
-  inside = omega (arith, names.inside, length-set items item left);
-  there = ap is_vacant (other_at items item index left apart) ∙ names.there;
+other_names : (items : List Item) (item index : ℕ) → Names items index → index ≢ item → Names (set items item no_item) index
+other_names items item index names apart = record {
+  inside = omega (arith, names.inside, length-set items item no_item);
+  there = ap is_vacant (other_at items item index apart) ∙ names.there;
 }
 
 -- another client's item is another one
@@ -65,14 +66,23 @@ another items client item index owner own is other =
     let one : owner ≡ client = some_same (sym is ∙ ap (λ (n : ℕ). (item_at items n).client) same ∙ own) in
     false≢true (sym (ap not (eq-eqb owner client one)) ∙ other)
 
-others_left : (items : List Item) (client item : ℕ) (left : Item) → (item_at items item).client ≡ Some client
-    → KeepsOwners (other_than client) items (set items item left)
-others_left items client item left own =
+others_left : (items : List Item) (client item : ℕ) → (item_at items item).client ≡ Some client
+    → KeepsOwners (other_than client) items (set items item no_item)
+others_left items client item own =
     λ index owner names is other.
     let apart = another items client item index owner own is other in (
-      other_names items item index left names apart,
-      ap (λ (i : Item). i.client) (other_at items item index left apart) ∙ is,
+      other_names items item index names apart,
+      ap (λ (i : Item). i.client) (other_at items item index apart) ∙ is,
     )
+
+none_gained : (whose : ℕ → Bool) (items : List Item) (item : ℕ) → GainsNone whose items (set items item no_item)
+none_gained whose items item =
+    λ index owner own mine.
+    elim (set_at items item no_item no_item index) [
+      | inl same ↦ ap (λ (i : Item). i.client) (sym same) ∙ own
+      | inr here ↦
+          let none : ◌≡◌ {A = Option ℕ} None (Some owner) = ap (λ (i : Item). i.client) (sym here.1) ∙ own in absurd cc
+    ]
 
 -- their objects, where one is gone
 gone_object : (slots new : SlotState) (items : List Item) (item index : ℕ)
@@ -98,36 +108,70 @@ gone_others old new items client item own same =
     names.inside (another items client item index owner own is other)
 
 -- where one is left to nobody
-left_others : (old new : Option SlotState) (items : List Item) (client item : ℕ) (left : Item) → (item_at items item).client ≡ Some client → new ≡ old
-    → KeepsObjectsOf (other_than client) old new items (set items item left)
-left_others old new items client item left own same =
+left_others : (old new : Option SlotState) (items : List Item) (client item : ℕ) → (item_at items item).client ≡ Some client → new ≡ old
+    → KeepsObjectsOf (other_than client) old new items (set items item no_item)
+left_others old new items client item own same =
     λ slots after index owner is_old is_new names is other.
     let state : after ≡ slots = some_same (sym is_new ∙ same ∙ is_old) in
-    ap (λ (s : SlotState). item_object s (item_at (set items item left) index)) state
-    ∙ ap (item_object slots) (other_at items item index left (another items client item index owner own is other))
+    ap (λ (s : SlotState). item_object s (item_at (set items item no_item) index)) state
+    ∙ ap (item_object slots) (other_at items item index (another items client item index owner own is other))
 
 -- ---- how many there are
 
-gone_orphans : (items : List Item) (client item : ℕ) → IsNamed items client item → count_by is_orphan (set items item no_item) ≡ count_by is_orphan items
-gone_orphans items client item at =
+own_client : (client : ℕ) (item : Item) → item.client ≡ Some client → is_client client item ≡ true
+own_client client item own = ap (is_owner client) own ∙ eq-eqb client client refl
+
+-- the client has one at least, and one fewer without it
+pub some_object : (items : List Item) (client item : ℕ) → IsNamed items client item → 1 ≤ own_objects client items
+some_object items client item at =
     omega (
       arith,
-      count_set is_orphan items item no_item no_item at.names.inside,
-      number_false (is_orphan (item_at items item)) (own_object client (item_at items item) at.own),
+      count_one (is_client client) items item no_item at.names.inside,
+      number_true (is_client client (item_at items item)) (own_client client (item_at items item) at.own),
     )
 
-left_count : (items : List Item) (item : ℕ) → Names items item → held_items (set items item (disowned (item_at items item))) ≡ held_items items
-left_count items item names =
-    omega (arith, count_set (λ (i : Item). not (is_vacant i)) items item (disowned (item_at items item)) no_item names.inside)
-
-left_orphans : (items : List Item) (client item : ℕ) → IsNamed items client item → is_resident (item_at items item) ≡ true
-    → count_by is_orphan (set items item (disowned (item_at items item))) ≡ count_by is_orphan items + 1
-left_orphans items client item at resident =
+pub fewer_objects : (items new_items : List Item) (client item : ℕ) → IsNamed items client item → new_items ≡ set items item no_item
+    → own_objects client new_items + 1 ≡ own_objects client items
+fewer_objects items new_items client item at are =
     omega (
       arith,
-      count_set is_orphan items item (disowned (item_at items item)) no_item at.names.inside,
-      number_false (is_orphan (item_at items item)) (own_object client (item_at items item) at.own),
-      number_true (is_orphan (disowned (item_at items item))) (disowned_object (item_at items item) resident),
+      ap (own_objects client) are,
+      count_set (is_client client) items item no_item no_item at.names.inside,
+      number_true (is_client client (item_at items item)) (own_client client (item_at items item) at.own),
+    )
+
+-- how many objects the client of a list has
+abbrev pub objects_left : Option ℕ → List Item → ℕ
+objects_left None items = 0
+objects_left (Some client) items = own_objects client items
+
+resident_own : (slot : Option ℕ) (own : Bool) → own ≡ true → one_if (is_some slot && own) ≡ one_if (is_some (handle_in slot))
+resident_own None own is = refl
+resident_own (Some slot) own is = ap one_if is
+
+resident_at : (items : List Item) (client item : ℕ) → IsNamed items client item
+    → one_if (is_resident (item_at items item) && is_client client (item_at items item)) ≡ one_if (is_some (handle_in (item_at items item).slot))
+resident_at items client item at =
+    resident_own (item_at items item).slot (is_client client (item_at items item)) (own_client client (item_at items item) at.own)
+
+-- and one fewer in a slot, where it was in one
+pub fewer_residents : (items new_items : List Item) (client item : ℕ) → IsNamed items client item → new_items ≡ set items item no_item
+    → own_residents client new_items + one_if (is_some (handle_in (item_at items item).slot)) ≡ own_residents client items
+fewer_residents items new_items client item at are =
+    omega (
+      arith,
+      ap (own_residents client) are,
+      count_set (λ (i : Item). is_resident i && is_client client i) items item no_item no_item at.names.inside,
+      resident_at items client item at,
+    )
+
+pub among_residents : (items : List Item) (client item : ℕ) → IsNamed items client item
+    → one_if (is_some (handle_in (item_at items item).slot)) ≤ own_residents client items
+among_residents items client item at =
+    omega (
+      arith,
+      count_one (λ (i : Item). is_resident i && is_client client i) items item no_item at.names.inside,
+      resident_at items client item at,
     )
 
 -- ---- the table
@@ -153,85 +197,77 @@ elsewhere items client table handle item is held_here j apart =
     let here : is_item item (get_or table n None) ≡ true = ap (is_item item) at ∙ eq-eqb item item refl in
     named table n j (λ (place : Option ℕ). is_item item place) (is.apart item) here refl (ne_eqb j n apart)
 
-named_less : (table : List (Option ℕ)) (handle index : ℕ) → is_some (held_under table handle) ≡ true
-    → naming_in index (without_handle table handle) ≤ naming_in index table
-named_less table handle index there =
-    omega (arith, without_by (λ (place : Option ℕ). is_item index place) table handle refl there)
+naming_left : (table : List (Option ℕ)) (handle item index : ℕ) → held_under table handle ≡ Some item
+    → naming_in index (without_handle table handle) + one_if (item == index) ≡ naming_in index table
+naming_left table handle item index held_here =
+    omega (
+      arith,
+      without_by (λ (place : Option ℕ). is_item index place) table handle refl (there_by table handle item held_here),
+      ap (λ (place : Option ℕ). one_if (is_item index place)) held_here,
+    )
 
-other_place : (items : List Item) (client item : ℕ) (left : Item) (place : Option ℕ) → is_item item place ≡ false → IsPlaceOf client items place
-    → IsPlaceOf client (set items item left) place
-other_place items client item left None apart is = tt
-other_place items client item left (Some index) apart is =
+other_place : (items : List Item) (client item : ℕ) (place : Option ℕ) → is_item item place ≡ false → IsPlaceOf client items place
+    → IsPlaceOf client (set items item no_item) place
+other_place items client item None apart is = tt
+other_place items client item (Some index) apart is =
     let other : index ≢ item = eqb-false index item apart in
-    (other_names items item index left is.0 other, ap (λ (i : Item). i.client) (other_at items item index left other) ∙ is.1)
+    (other_names items item index is.0 other, ap (λ (i : Item). i.client) (other_at items item index other) ∙ is.1)
 
--- a handle leaves its table, whatever becomes of its item
-table_left : (items : List Item) (client : ℕ) (table : List (Option ℕ)) (handle item : ℕ) (left : Item) → IsTable items client table
-    → held_under table handle ≡ Some item → IsTable (set items item left) client (without_handle table handle)
-table_left items client table handle item left is held_here =
+-- each object that is left to the client is named
+all_left : (items : List Item) (client : ℕ) (table : List (Option ℕ)) (handle item index : ℕ) → IsTable items client table
+    → held_under table handle ≡ Some item → (item_at (set items item no_item) index).client ≡ Some client
+    → 1 ≤ naming_in index (without_handle table handle)
+all_left items client table handle item index is held_here own =
+    elim (cases_eq index item) [
+      | inl same ↦
+          let inside = (held_named items client table handle item is held_here).names.inside in
+          let gone : item_at (set items item no_item) index ≡ no_item =
+          ap (λ (n : ℕ). item_at (set items item no_item) n) same ∙ get_or-set_same items item no_item no_item inside in
+          let none : ◌≡◌ {A = Option ℕ} None (Some client) = ap (λ (i : Item). i.client) (sym gone) ∙ own in absurd cc
+      | inr apart ↦ omega (
+        arith,
+        is.all index (ap (λ (i : Item). i.client) (sym (other_at items item index apart)) ∙ own),
+        naming_left table handle item index held_here,
+        one_false (item == index) (ne_eqb item index (λ same. apart (sym same))),
+      )
+    ]
+
+table_left : (items : List Item) (client : ℕ) (table : List (Option ℕ)) (handle item : ℕ) → IsTable items client table
+    → held_under table handle ≡ Some item → IsTable (set items item no_item) client (without_handle table handle)
+table_left items client table handle item is held_here =
     let n = number_of_object handle in
     let there = there_by table handle item held_here in
-    let new_items = set items item left in
+    let new_items = set items item no_item in
     record {
       named = subst (λ (places : List (Option ℕ)). AllByRecursion (λ place. IsPlaceOf client new_items place) places) (sym (taken_out table handle there))
           (all_but (λ (place : Option ℕ). IsPlaceOf client items place) (λ (place : Option ℕ). IsPlaceOf client new_items place) table n None None is.named
-          (λ j inside apart. other_place items client item left (get_or table j None) (elsewhere items client table handle item is held_here j apart)) tt);
-      apart = λ index. omega (arith, is.apart index, named_less table handle index there);
+          (λ j inside apart. other_place items client item (get_or table j None) (elsewhere items client table handle item is held_here j apart)) tt);
+      apart = λ index. omega (arith, is.apart index, naming_left table handle item index held_here);
+      all = λ index own. all_left items client table handle item index is held_here own;
       few = omega (arith, is.few, without_count table handle there);
       short = omega (arith, is.short, ap (λ (l : List (Option ℕ)). length l) (taken_out table handle there), length-set table n None);
     }
 
--- ---- how many of its objects are in slots
+-- a handle leaves its table, and its item is nowhere then
+pub table_after : (items new_items : List Item) (client : ℕ) (table new_table : List (Option ℕ)) (handle item : ℕ) → IsTable items client table
+    → held_under table handle ≡ Some item → new_items ≡ set items item no_item → new_table ≡ without_handle table handle
+    → IsTable new_items client new_table
+table_after items new_items client table new_table handle item is held_here are without_is =
+    subst (λ (l : List (Option ℕ)). IsTable new_items client l) (sym without_is)
+    (subst (λ (l : List Item). IsTable l client (without_handle table handle)) (sym are) (table_left items client table handle item is held_here))
 
-abbrev in_slot : List Item → Option ℕ → Bool
-in_slot items place = is_some (slot_handle items place)
+-- a client without objects has an empty table
+owns_none : (client : ℕ) (item : Item) → is_client client item ≡ false → item.client ≡ Some client → ⊥
+owns_none client item none own = false≢true (sym none ∙ own_client client item own)
 
-other_slot : (items : List Item) (item : ℕ) (left : Item) (place : Option ℕ) → is_item item place ≡ false
-    → in_slot (set items item left) place ≡ in_slot items place
-other_slot items item left None apart = refl
-other_slot items item left (Some index) apart =
-    ap (λ (i : Item). is_some (handle_in i.slot)) (other_at items item index left (eqb-false index item apart))
-
-slot_left : (items : List Item) (client : ℕ) (table : List (Option ℕ)) (handle item : ℕ) (left : Item) → IsTable items client table
-    → held_under table handle ≡ Some item → (j : ℕ) → j < length table
-    → in_slot (set items item left) (get_or (set table (number_of_object handle) None) j None)
-    ≡ in_slot items (get_or (set table (number_of_object handle) None) j None)
-slot_left items client table handle item left is held_here j inside =
-    let n = number_of_object handle in
-    elim (cases_eq j n) [
-      | inl same ↦
-          let none : get_or (set table n None) j None ≡ None =
-          ap (λ (k : ℕ). get_or (set table n None) k None) same ∙ get_or-set_same table n None None (omega (arith, inside, same)) in
-          ap (in_slot (set items item left)) none ∙ sym (ap (in_slot items) none)
-      | inr apart ↦
-          let still = get_or-set_other table n j None None apart in
-          ap (in_slot (set items item left)) still
-          ∙ other_slot items item left (get_or table j None) (elsewhere items client table handle item is held_here j apart)
-          ∙ sym (ap (in_slot items) still)
-    ]
-
--- one that was in a slot isn't among them any more
-pub residents_left : (items new_items : List Item) (client : ℕ) (table new_table : List (Option ℕ)) (handle item : ℕ) (left : Item)
-    → IsTable items client table → held_under table handle ≡ Some item → new_table ≡ without_handle table handle → new_items ≡ set items item left
-    → residents_of new_items new_table + one_if (is_some (handle_in (item_at items item).slot)) ≡ residents_of items table
-residents_left items new_items client table new_table handle item left is held_here table_is items_are =
-    let there = there_by table handle item held_here in
-    let without = taken_out table handle there in
-    let same : residents_of (set items item left) (set table (number_of_object handle) None) ≡ residents_of items (set table (number_of_object handle) None) =
-    count_same (in_slot (set items item left)) (in_slot items) (set table (number_of_object handle) None) (set table (number_of_object handle) None)
-    None None refl
-    (λ j inside. slot_left items client table handle item left is held_here j
-    (omega (arith, inside, length-set table (number_of_object handle) None))) in
-    let moved : residents_of new_items new_table ≡ residents_of (set items item left) (set table (number_of_object handle) None) =
-    λ i. residents_of (items_are i) ((table_is ∙ without) i) in
-    omega (
-      arith,
-      moved,
-      same,
-      ap (residents_of items) without,
-      without_by (in_slot items) table handle refl there,
-      ap (λ (place : Option ℕ). one_if (in_slot items place)) held_here,
-    )
+pub no_table : (items : List Item) (client : ℕ) → HasNone items client → IsTable items client []
+no_table items client none = record {
+  named = tt;
+  apart = λ index. omega arith;
+  all = λ index own. absurd (owns_none client (item_at items index) (none index) own);
+  few = omega arith;
+  short = omega arith;
+}
 
 -- ---- one object is flushed
 
@@ -244,11 +280,13 @@ pub record Dropped {D : Type 0} (seen : D → Seen)
     (old new : D) (view new_view : ObjectsView) (item : ℕ) : Type 0 where
   pub items_are : new_view.items ≡ set view.items item no_item
   pub objects : objects_of (seen new).state new_view.items ≡ without_object item (objects_of (seen old).state view.items)
-  pub stand : Stand (seen new).state new_view.items []
+  pub stand : Stand (seen new).state new_view.items view.left
   pub counter : counter_of (seen new).state ≡ counter_of (seen old).state
   pub rest : KeepsRest seen old new
   pub taken : (new ≡ old) ⊎ IsAnswered (asked_of (seen new)) (last_of (seen new))
   pub slots : new_view.slots ≡ view.slots
+  pub owners : new_view.owners ≡ view.owners
+  pub left : new_view.left ≡ view.left
 
 -- the sessions are the same in a device whose objects changed
 sessions_unmoved : (client : ℕ) (old new : Option SlotState) (items : List (Option sessions.Item)) → rest_of new ≡ rest_of old
@@ -257,38 +295,27 @@ sessions_unmoved client old new items same =
     λ slots after is_old is_new.
     ap (λ (s : SlotState). without_owner client (sessions_in s items)) (rest_over_objects old new slots after same is_old is_new)
 
-pub dropped : {D : Type 0} (seen : D → Seen)
-    (client : ℕ) (old new : D) (held : Held) (new_view : ObjectsView) (table new_table : List (Option ℕ)) (handle item : ℕ)
-    → Dropped seen old new held.objects new_view item → Settled (seen old).state held → IsTable held.objects.items client table
-    → held_under table handle ≡ Some item → new_table ≡ without_handle table handle
-    → Drops seen client old new held (with_objects held new_view) table new_table 0
-dropped seen client old new held new_view table new_table handle item d settled is held_here without_is =
+pub dropped : {D : Type 0} (seen : D → Seen) (client : ℕ) (old new : D) (held : Held) (new_view : ObjectsView) (item : ℕ)
+    → Dropped seen old new held.objects new_view item → IsNamed held.objects.items client item → Settled (seen old).state held
+    → Drops seen client old new held (with_objects held new_view) held.objects.owners 0
+dropped seen client old new held new_view item d at settled =
     let items = held.objects.items in
-    let at = held_named items client table handle item is held_here in
     let back : set items item no_item ≡ new_view.items = sym d.items_are in
     record {
       keeps = keeps_over_objects seen old new d.rest;
-      settled = settled_over_objects (seen old).state (seen new).state held (with_objects held new_view) d.rest.rest refl d.stand settled;
+      settled = settled_over_objects (seen old).state (seen new).state held (with_objects held new_view) d.rest.rest refl
+          (subst (λ (l : List ℕ). Stand (seen new).state new_view.items l) (sym d.left) d.stand) settled;
       counts = counts_same (seen old).state (seen new).state d.counter (counter_over_objects (seen old).state (seen new).state d.rest.rest);
-      others = subst (λ (l : List Item). KeepsOwners (other_than client) items l) back (others_left items client item no_item at.own);
+      others = subst (λ (l : List Item). KeepsOwners (other_than client) items l) back (others_left items client item at.own);
+      gained = subst (λ (l : List Item). GainsNone (other_than client) items l) back (none_gained (other_than client) items item);
       other_objects = subst (λ (l : List Item). KeepsObjectsOf (other_than client) (seen old).state (seen new).state items l) back
           (gone_others (seen old).state (seen new).state items client item at.own
           (subst (λ (l : List Item). objects_of (seen new).state l ≡ without_object item (objects_of (seen old).state items)) d.items_are d.objects));
-      own_table = subst (λ (l : List (Option ℕ)). IsTable new_view.items client l) (sym without_is)
-          (subst (λ (l : List Item). IsTable l client (without_handle table handle)) back (table_left items client table handle item no_item is held_here));
-      counted = omega (
-        arith,
-        ap held_items d.items_are,
-        ap (λ (l : List Item). count_by is_orphan l) d.items_are,
-        ap (λ (l : List (Option ℕ)). count_held l) without_is,
-        held_less items item at.names,
-        gone_orphans items client item at,
-        without_count table handle (there_by table handle item held_here),
-      );
+      lists = d.owners;
       other_sessions = sessions_unmoved client (seen old).state (seen new).state held.sessions.items d.rest.rest;
       owners = λ present owners. owners;
       persist = persist_over_objects (seen old).state (seen new).state d.rest.rest;
-      orphans = omega (arith, ap (λ (l : List Item). count_by is_orphan l) d.items_are, gone_orphans items client item at);
+      orphans = omega (arith, ap (λ (l : List ℕ). length l) d.left);
       failures = inl (omega (arith, d.rest.count));
       right = rightly seen old new d.taken;
       slots = d.slots;
@@ -297,71 +324,63 @@ dropped seen client old new held new_view table new_table handle item d settled 
 
 -- ---- a flush failed
 
-left_settled : (state : Option SlotState) (held : Held) (item : ℕ) → Settled state held → Names held.objects.items item
-    → Settled state (with_objects held (record held.objects { items = set held.objects.items item (disowned (item_at held.objects.items item)) }))
-left_settled None held item settled names = tt
-left_settled (Some slots) held item settled names = record {
-  objects = disowned_stand slots held.objects.items item [] names.inside settled.objects;
+-- what leaving one object to nobody gives: its record is free, and its slot is that of an object of nobody
+abbrev pub orphaned : ObjectsView → (item slot : ℕ) → ObjectsView
+orphaned view item slot =
+    record view { items = set view.items item no_item; order = without_one item view.order; left = view.left ++ slot ∷ [] }
+
+left_settled : (state : Option SlotState) (held : Held) (item slot : ℕ) → Settled state held → Names held.objects.items item
+    → (item_at held.objects.items item).slot ≡ Some slot → Settled state (with_objects held (orphaned held.objects item slot))
+left_settled None held item slot settled names is = tt
+left_settled (Some slots) held item slot settled names is = record {
+  objects = orphaned_last slots (set held.objects.items item no_item) slot held.objects.left
+      (orphaned_stand slots held.objects.items item slot held.objects.left settled.objects names.inside is);
   sessions = settled.sessions;
   gap = settled.gap;
 }
 
--- the handle leaves its table, and the object is nobody's
-pub left : {D : Type 0} (seen : D → Seen)
-    (client : ℕ) (old new : D) (held : Held) (new_view : ObjectsView) (table new_table : List (Option ℕ)) (handle item : ℕ)
-    → new_view ≡ record held.objects { items = set held.objects.items item (disowned (item_at held.objects.items item)) }
+pub left : {D : Type 0} (seen : D → Seen) (client : ℕ) (old new : D) (held : Held) (new_view : ObjectsView) (item slot : ℕ)
+    → new_view ≡ orphaned held.objects item slot → (item_at held.objects.items item).slot ≡ Some slot
     → (seen new).state ≡ (seen old).state → KeepsRest seen old new → Rose (seen old).faults (seen new).faults → last_of (seen new) ≡ None
-    → is_resident (item_at held.objects.items item) ≡ true
-    → Settled (seen old).state held → IsTable held.objects.items client table → held_under table handle ≡ Some item → new_table ≡ without_handle table handle
-    → Drops seen client old new held (with_objects held new_view) table new_table 1
-left seen client old new held new_view table new_table handle item view_is same rest rose none resident settled is held_here without_is =
+    → IsNamed held.objects.items client item → Settled (seen old).state held
+    → Drops seen client old new held (with_objects held new_view) held.objects.owners 1
+left seen client old new held new_view item slot view_is slot_is same rest rose none at settled =
     let items = held.objects.items in
-    let at = held_named items client table handle item is held_here in
-    let gone = disowned (item_at items item) in
-    let items_are : new_view.items ≡ set items item gone = ap (λ (v : ObjectsView). v.items) view_is in
-    let back : set items item gone ≡ new_view.items = sym items_are in
+    let items_are : new_view.items ≡ set items item no_item = ap (λ (v : ObjectsView). v.items) view_is in
+    let back : set items item no_item ≡ new_view.items = sym items_are in
     record {
       keeps = keeps_over_objects seen old new rest;
       settled = subst (λ (s : Option SlotState). Settled s (with_objects held new_view)) (sym same)
-          (subst (λ (v : ObjectsView). Settled (seen old).state (with_objects held v)) (sym view_is) (left_settled (seen old).state held item settled at.names));
+          (subst (λ (v : ObjectsView). Settled (seen old).state (with_objects held v)) (sym view_is)
+          (left_settled (seen old).state held item slot settled at.names slot_is));
       counts = counts_same (seen old).state (seen new).state (ap counter_of same) (ap sessions.counter_of same);
-      others = subst (λ (l : List Item). KeepsOwners (other_than client) items l) back (others_left items client item gone at.own);
+      others = subst (λ (l : List Item). KeepsOwners (other_than client) items l) back (others_left items client item at.own);
+      gained = subst (λ (l : List Item). GainsNone (other_than client) items l) back (none_gained (other_than client) items item);
       other_objects = subst (λ (l : List Item). KeepsObjectsOf (other_than client) (seen old).state (seen new).state items l) back
-          (left_others (seen old).state (seen new).state items client item gone at.own same);
-      own_table = subst (λ (l : List (Option ℕ)). IsTable new_view.items client l) (sym without_is)
-          (subst (λ (l : List Item). IsTable l client (without_handle table handle)) back (table_left items client table handle item gone is held_here));
-      counted = omega (
-        arith,
-        ap held_items items_are,
-        ap (λ (l : List Item). count_by is_orphan l) items_are,
-        ap (λ (l : List (Option ℕ)). count_held l) without_is,
-        left_count items item at.names,
-        left_orphans items client item at resident,
-        without_count table handle (there_by table handle item held_here),
-      );
+          (left_others (seen old).state (seen new).state items client item at.own same);
+      lists = ap (λ (v : ObjectsView). v.owners) view_is;
       other_sessions = sessions_unmoved client (seen old).state (seen new).state held.sessions.items rest.rest;
       owners = λ present owners. owners;
       persist = persist_over_objects (seen old).state (seen new).state rest.rest;
-      orphans = omega (arith, ap (λ (l : List Item). count_by is_orphan l) items_are, left_orphans items client item at resident);
+      orphans = omega (arith, ap (λ (v : ObjectsView). length v.left) view_is, length-append held.objects.left (slot ∷ []));
       failures = counted_once (seen old).faults (seen new).faults rose;
       right = inr (right_none (asked_of (seen new)) (last_of (seen new)) none);
       slots = ap (λ (v : ObjectsView). v.slots) view_is;
-      length_is = ap length items_are ∙ length-set items item gone;
+      length_is = ap length items_are ∙ length-set items item no_item;
     }
 
 -- ---- one after another
 
-pub drops_none : {D : Type 0} (seen : D → Seen)
-    (client : ℕ) (old : D) (held : Held) (table : List (Option ℕ)) → Settled (seen old).state held → IsTable held.objects.items client table
-    → Drops seen client old old held held table table 0
-drops_none seen client old held table settled is = record {
+pub drops_none : {D : Type 0} (seen : D → Seen) (client : ℕ) (old : D) (held : Held) → Settled (seen old).state held
+    → Drops seen client old old held held held.objects.owners 0
+drops_none seen client old held settled = record {
   keeps = keeps_same seen old;
   settled = settled;
   counts = counts_same (seen old).state (seen old).state refl refl;
   others = owners_same (other_than client) held.objects.items;
+  gained = λ index owner own other. own;
   other_objects = objects_same (other_than client) (seen old).state held.objects.items;
-  own_table = is;
-  counted = refl;
+  lists = refl;
   other_sessions = other_sessions_same client (seen old).state held.sessions.items;
   owners = λ present owners. owners;
   persist = persist_same (seen old).state;
@@ -372,20 +391,19 @@ drops_none seen client old held table settled is = record {
   length_is = refl;
 }
 
-pub drops_then : {D : Type 0} (seen : D → Seen)
-    (client : ℕ) (old middle new : D) (held between new_held : Held) (table rest new_table : List (Option ℕ)) (n m : ℕ)
-    → Drops seen client old middle held between table rest n
-    → Drops seen client middle new between new_held rest new_table m
-    → Drops seen client old new held new_held table new_table (n + m)
-drops_then {D} seen client old middle new held between new_held table rest new_table n m first second = record {
+pub drops_then : {D : Type 0} (seen : D → Seen) (client : ℕ) (old middle new : D) (held between new_held : Held) (n m : ℕ)
+    → Drops seen client old middle held between held.objects.owners n
+    → Drops seen client middle new between new_held between.objects.owners m
+    → Drops seen client old new held new_held held.objects.owners (n + m)
+drops_then {D} seen client old middle new held between new_held n m first second = record {
   keeps = keeps_then seen old middle new first.keeps second.keeps;
   settled = second.settled;
   counts = counts_then 0 0 0 (seen old).state (seen middle).state (seen new).state (omega arith) first.counts second.counts;
   others = owners_then (other_than client) held.objects.items between.objects.items new_held.objects.items first.others second.others;
+  gained = gains_then (other_than client) held.objects.items between.objects.items new_held.objects.items first.gained second.gained;
   other_objects = objects_then (other_than client) (seen old).state (seen middle).state (seen new).state held.objects.items between.objects.items
       new_held.objects.items first.keeps.tells first.others first.other_objects second.other_objects;
-  own_table = second.own_table;
-  counted = omega (arith, first.counted, second.counted);
+  lists = second.lists ∙ first.lists;
   other_sessions = other_sessions_then client (seen old).state (seen middle).state (seen new).state held.sessions.items between.sessions.items new_held.sessions.items
       first.keeps.tells first.other_sessions second.other_sessions;
   owners = λ present owners. second.owners present (first.owners present owners);
@@ -397,25 +415,94 @@ drops_then {D} seen client old middle new held between new_held table rest new_t
   length_is = second.length_is ∙ first.length_is;
 }
 
+-- the client's list is nobody's then
+abbrev pub ended_list : ObjectsView → ℕ → ObjectsView
+ended_list view list = record view { owners = set view.owners list None }
+
+ended_settled : (state : Option SlotState) (held : Held) (list : ℕ) → Settled state held → Settled state (with_objects held (ended_list held.objects list))
+ended_settled None held list settled = tt
+ended_settled (Some slots) held list settled = record { objects = settled.objects; sessions = settled.sessions; gap = settled.gap }
+
+pub drops_ended : {D : Type 0} (seen : D → Seen) (client : ℕ) (old new : D) (held new_held : Held) (view : ObjectsView) (list n : ℕ)
+    → Drops seen client old new held new_held held.objects.owners n → view ≡ ended_list new_held.objects list
+    → Drops seen client old new held (with_objects new_held view) (set held.objects.owners list None) n
+drops_ended seen client old new held new_held view list n drops view_is =
+    subst (λ (v : ObjectsView). Drops seen client old new held (with_objects new_held v) (set held.objects.owners list None) n) (sym view_is)
+    (record {
+      keeps = drops.keeps;
+      settled = ended_settled (seen new).state new_held list drops.settled;
+      counts = drops.counts;
+      others = drops.others;
+      gained = drops.gained;
+      other_objects = drops.other_objects;
+      lists = ap (λ (owners : List (Option ℕ)). set owners list None) drops.lists;
+      other_sessions = drops.other_sessions;
+      owners = drops.owners;
+      persist = drops.persist;
+      orphans = drops.orphans;
+      failures = drops.failures;
+      right = drops.right;
+      slots = drops.slots;
+      length_is = drops.length_is;
+    })
+
 -- ---- what couldn't be flushed
 
 pub disowns_none : {D : Type 0} (seen : D → Seen) (device : D) (held : Held) (n : ℕ) → Disowns seen device device held held (Ok n)
-disowns_none seen device held n = record { keeps = keeps_same seen device; slots = refl; length_is = refl; left = inl (omega arith); err = tt }
+disowns_none seen device held n =
+    record { keeps = keeps_same seen device; slots = refl; length_is = refl; lists = tt; left = inl (omega arith); err = tt }
+
+lists_after : {B : Type 0} (result : Result B ℕ) (owners between after : List (Option ℕ)) → between ≡ owners → OnErr result (after ≡ between)
+    → OnErr result (after ≡ owners)
+lists_after (Ok x) owners between after first second = tt
+lists_after (Err code) owners between after first second = second ∙ first
 
 pub disowns_then : {D A B : Type 0} (seen : D → Seen) (old middle new : D) (held between new_held : Held) (x : A) (result : Result B ℕ)
-    → Disowns seen old middle held between (Ok x) → Disowns seen middle new between new_held result → Disowns seen old new held new_held result
-disowns_then seen old middle new held between new_held x result first second = record {
+    → between.objects.owners ≡ held.objects.owners → Disowns seen old middle held between (Ok x) → Disowns seen middle new between new_held result
+    → Disowns seen old new held new_held result
+disowns_then seen old middle new held between new_held x result lists first second = record {
   keeps = keeps_then seen old middle new first.keeps second.keeps;
   slots = second.slots ∙ first.slots;
   length_is = second.length_is ∙ first.length_is;
+  lists = lists_after result held.objects.owners between.objects.owners new_held.objects.owners lists second.lists;
   left = left_then _ _ _ _ _ _ second.keeps.count first.left second.left;
   err = second.err;
+}
+
+left_once : (nobodys new_nobodys faults new_faults : ℕ) → new_nobodys ≡ nobodys + 1 → Rose faults new_faults
+    → AreLeftByFaults nobodys faults new_nobodys new_faults
+left_once nobodys new_nobodys faults new_faults more rose =
+    elim (counted_once faults new_faults rose) [
+      | inl once ↦ inl (omega (arith, more, once))
+      | inr most ↦ inr most
+    ]
+
+-- one object whose flush failed
+pub disowns_left : {D A : Type 0} (seen : D → Seen) (old new : D) (held : Held) (new_view : ObjectsView) (item slot : ℕ) (x : A)
+    → new_view ≡ orphaned held.objects item slot → KeepsRest seen old new → Rose (seen old).faults (seen new).faults
+    → Disowns seen old new held (with_objects held new_view) (Ok x)
+disowns_left seen old new held new_view item slot x view_is rest rose = record {
+  keeps = keeps_over_objects seen old new rest;
+  slots = ap (λ (v : ObjectsView). v.slots) view_is;
+  length_is = ap (λ (v : ObjectsView). length v.items) view_is ∙ length-set held.objects.items item no_item;
+  lists = tt;
+  left = left_once _ _ _ _ (omega (arith, ap (λ (v : ObjectsView). length v.left) view_is, length-append held.objects.left (slot ∷ []))) rose;
+  err = tt;
 }
 
 -- a call that returned where the last one succeeded, and where it failed
 pub disowns_ok : {D A B : Type 0} (seen : D → Seen) (old new : D) (held new_held : Held) (x : A) (y : B)
     → Disowns seen old new held new_held (Ok x) → Disowns seen old new held new_held (Ok y)
-disowns_ok seen old new held new_held x y done = record { keeps = done.keeps; slots = done.slots; length_is = done.length_is; left = done.left; err = tt }
+disowns_ok seen old new held new_held x y done =
+    record { keeps = done.keeps; slots = done.slots; length_is = done.length_is; lists = tt; left = done.left; err = tt }
+
+-- and where its client's list is nobody's then
+pub disowns_ended : {D A B : Type 0} (seen : D → Seen) (old new : D) (held new_held : Held) (view : ObjectsView) (list : ℕ) (x : A) (y : B)
+    → Disowns seen old new held new_held (Ok x) → view ≡ ended_list new_held.objects list
+    → Disowns seen old new held (with_objects new_held view) (Ok y)
+disowns_ended {B = B} seen old new held new_held view list x y done view_is =
+    subst (λ (v : ObjectsView). Disowns {A = B} seen old new held (with_objects new_held v) (Ok y)) (sym view_is)
+    (record { keeps = done.keeps; slots = done.slots; length_is = done.length_is; lists = tt; left = done.left; err = tt })
 
 pub disowns_failed : {D A B : Type 0} (seen : D → Seen) (old new : D) (held new_held : Held) (code : ℕ) (result : Result B ℕ)
     → (other : ℕ) × (result ≡ Err other) × (other ≡ code) → Disowns {A = A} seen old new held new_held (Err code)
@@ -424,19 +511,4 @@ disowns_failed {A = A} {B = B} seen old new held new_held code result (other, is
     let failed : Disowns {A = A} seen old new held new_held (Err other) =
     subst (λ (code : ℕ). Disowns {A = A} seen old new held new_held (Err code)) (sym same) done in
     subst (λ (r : Result B ℕ). Disowns seen old new held new_held r) (sym is)
-    (record { keeps = failed.keeps; slots = failed.slots; length_is = failed.length_is; left = failed.left; err = failed.err })
-
--- an empty table
-pub no_table : (items : List Item) (client : ℕ) → IsTable items client []
-no_table items client = record { named = tt; apart = λ index. omega arith; few = omega arith; short = omega arith }
-
--- ---- the least handle
-
-pub least_there : (table : List (Option ℕ)) (found : Option ℕ) → 1 ≤ count_held table → found ≡ handle_from table TRANSIENT_FIRST → is_some found ≡ true
-least_there table None some is = absurd (omega (arith, some, none_from table (sym is)))
-least_there table (Some handle) some is = refl
-
-pub least_held : (table : List (Option ℕ)) (handle : ℕ) (found held : Option ℕ) → found ≡ handle_from table TRANSIENT_FIRST → found ≡ Some handle
-    → held ≡ held_under table handle → is_some held ≡ true
-least_held table handle found held found_is some held_is =
-    ap (λ (place : Option ℕ). is_some place) held_is ∙ from table handle (sym found_is ∙ some)
+    (record { keeps = failed.keeps; slots = failed.slots; length_is = failed.length_is; lists = failed.lists; left = failed.left; err = failed.err })

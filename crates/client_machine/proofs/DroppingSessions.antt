@@ -15,7 +15,7 @@ use Rattle.client_machine.specs.declared.held.Held.{Held}
 use Rattle.client_machine.specs.Dropping.{Drops}
 use Rattle.client_machine.specs.Moves.{other_than}
 use Rattle.client_machine.specs.Settled.{Settled}
-use Rattle.client_machine.specs.Tables.{AreOpenOwners, IsTable}
+use Rattle.client_machine.specs.Tables.{AreOpenOwners}
 use Rattle.client_machine.proofs.Disowning.{IsOwnAt, ended_orphans, ended_others, ended_owners, left_orphans, left_others, left_owners}
 use Rattle.client_machine.proofs.Keeping.{KeepsOtherSessions, counted_once, owners_same, right_none, right_of}
 use Rattle.client_machine.proofs.Prepared.{counts_same}
@@ -37,11 +37,10 @@ pub record Ended {D : Type 0} (seen : D → Seen)
   pub answered : IsAnswered (asked_of (seen new)) (last_of (seen new))
 
 pub ended : {D : Type 0} (seen : D → Seen)
-    (client : ℕ) (old new : D) (held : Held) (new_view : SessionsView) (table : List (Option ℕ)) (n : ℕ)
+    (client : ℕ) (old new : D) (held : Held) (new_view : SessionsView) (n : ℕ)
     → Ended seen old new held.sessions new_view n → IsOwnAt held.sessions.items client n → Settled (seen old).state held
-    → IsTable held.objects.items client table
-    → Drops seen client old new held (with_sessions held new_view) table table 0
-ended seen client old new held new_view table n e at settled is =
+    → Drops seen client old new held (with_sessions held new_view) held.objects.owners 0
+ended seen client old new held new_view n e at settled =
     let items = held.sessions.items in
     let new_items = e.items_are in
     record {
@@ -49,9 +48,9 @@ ended seen client old new held new_view table n e at settled is =
       settled = settled_over_sessions (seen old).state (seen new).state held (with_sessions held new_view) e.rest.rest refl e.stand e.room settled;
       counts = counts_same (seen old).state (seen new).state (object_counter_over_sessions (seen old).state (seen new).state e.rest.rest) e.counter;
       others = owners_same (other_than client) held.objects.items;
+      gained = λ index owner own other. own;
       other_objects = objects_over_sessions (seen old).state (seen new).state (other_than client) held.objects.items e.rest.rest;
-      own_table = is;
-      counted = omega arith;
+      lists = refl;
       other_sessions = subst (λ (l : List (Option sessions.Item)). KeepsOtherSessions client (seen old).state (seen new).state items l) (sym new_items)
           (ended_others (seen old).state (seen new).state items client n at
           (subst (λ (l : List (Option sessions.Item)). sessions_of (seen new).state l ≡ without_session n (sessions_of (seen old).state items)) new_items e.sessions));
@@ -83,14 +82,13 @@ left_settled (Some slots) held handle settled names = record {
 }
 
 pub left : {D : Type 0} (seen : D → Seen)
-    (client : ℕ) (old new : D) (held : Held) (new_view : SessionsView) (table : List (Option ℕ)) (handle : ℕ)
+    (client : ℕ) (old new : D) (held : Held) (new_view : SessionsView) (handle : ℕ)
     → new_view ≡ record held.sessions {
       items = set held.sessions.items (number_of_session handle) (disowned (item_at held.sessions.items (number_of_session handle)));
     } → (seen new).state ≡ (seen old).state → KeepsRest seen old new → Rose (seen old).faults (seen new).faults → last_of (seen new) ≡ None
     → Names held.sessions.items handle → IsOwnAt held.sessions.items client (number_of_session handle) → Settled (seen old).state held
-    → IsTable held.objects.items client table
-    → Drops seen client old new held (with_sessions held new_view) table table 1
-left seen client old new held new_view table handle view_is same rest rose none names at settled is =
+    → Drops seen client old new held (with_sessions held new_view) held.objects.owners 1
+left seen client old new held new_view handle view_is same rest rose none names at settled =
     let items = held.sessions.items in
     let n = number_of_session handle in
     let left_items = set items n (disowned (item_at items n)) in
@@ -101,9 +99,9 @@ left seen client old new held new_view table handle view_is same rest rose none 
           (subst (λ (v : SessionsView). Settled (seen old).state (with_sessions held v)) (sym view_is) (left_settled (seen old).state held handle settled names));
       counts = counts_same (seen old).state (seen new).state (ap objects.counter_of same) (ap counter_of same);
       others = owners_same (other_than client) held.objects.items;
+      gained = λ index owner own other. own;
       other_objects = objects_over_sessions (seen old).state (seen new).state (other_than client) held.objects.items rest.rest;
-      own_table = is;
-      counted = omega arith;
+      lists = refl;
       other_sessions = subst (λ (l : List (Option sessions.Item)). KeepsOtherSessions client (seen old).state (seen new).state items l) (sym new_items)
           (left_others (seen old).state (seen new).state items client n at same);
       owners = λ present owners.

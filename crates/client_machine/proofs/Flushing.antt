@@ -1,6 +1,6 @@
 -- FlushContext of a client's object, after what was nobody's was flushed: the client has what it had but for the object, and each
 -- other client what it had.
-use Rattle.std.proofs.Common.{◌≡◌, ℕ, Bool, true, false, List, [], get_or, set, refl, ap, sym, ◌∙◌, subst, arith}
+use Rattle.std.proofs.Common.{◌≡◌, ℕ, Bool, true, false, List, length, get_or, set, refl, ap, sym, ◌∙◌, subst, arith}
 use Rattle.std.specs.Prelude.{◌==◌, nat_lt, Option, Some, None, is_some, IfSome, IsSome, MatchOption, Ok, if◌then◌else◌}
 use Rattle.std.specs.List.{count_by}
 use Rattle.std.proofs.lemmas.Bool.{eq-eqb, eqb-false, ne_eqb}
@@ -13,7 +13,7 @@ use Rattle.device_spec.specs.ContextCommands.{flush_context_command}
 use Rattle.device_spec.specs.Slots.{SlotState}
 use Rattle.device_port.specs.Device.{Seen, asked_of, last_of, sent_of}
 use Rattle.device_port.specs.Own.{Asks, IsAnswered}
-use Rattle.object_swap.specs.Items.{Item, KeepsRest, ObjectsStand, ObjectsView, handle_in, is_orphan, item_at, no_item, objects_of, without_object}
+use Rattle.object_swap.specs.Items.{Item, KeepsRest, ObjectsStand, ObjectsView, handle_in, item_at, no_item, objects_of, without_object}
 use Rattle.session_swap.specs.Items as sessions
 use Rattle.history_laws.proofs.Tables.{at_all, held_all, named, without}
 use Rattle.history_spec.specs.Table.{held_under, number_of_object, without_handle}
@@ -68,21 +68,22 @@ any_other : (client : ℕ) (items new_items : List Item) → KeepsOwners any_cli
 any_other client items new_items keeps = λ index owner names own other. keeps index owner names own refl
 
 -- what is dropped for a client, after what was nobody's
-pub moves_after : {D : Type 0} (seen : D → Seen) (client : ℕ) (old middle new : D) (held between new_held : Held) (table new_table : List (Option ℕ))
-    → Prepares 0 seen old middle held between → Drops seen client middle new between new_held table new_table 0
-    → Moves seen client old new held new_held table new_table
-moves_after seen client old middle new held between new_held table new_table p d = record {
+pub moves_after : {D : Type 0} (seen : D → Seen) (client : ℕ) (old middle new : D) (held between new_held : Held) (new_table : List (Option ℕ))
+    → Prepares 0 seen old middle held between → Drops seen client middle new between new_held between.objects.owners 0
+    → IsTable new_held.objects.items client new_table → Moves seen client old new held new_held new_table
+moves_after seen client old middle new held between new_held new_table p d is = record {
   keeps = keeps_then seen old middle new p.keeps d.keeps;
   settled = d.settled;
   counts = counts_then 0 0 200 (seen old).state (seen middle).state (seen new).state (omega arith) p.counts d.counts;
   others = owners_then (other_than client) held.objects.items between.objects.items new_held.objects.items
       (any_other client held.objects.items between.objects.items p.owners) d.others;
+  gained = λ index owner own other. p.gained index owner (d.gained index owner own other) refl;
   other_objects = objects_then (other_than client) (seen old).state (seen middle).state (seen new).state held.objects.items between.objects.items
       new_held.objects.items p.keeps.tells (any_other client held.objects.items between.objects.items p.owners)
       (λ slots after index owner is_old is_new names own other. p.objects slots after index owner is_old is_new names own refl)
       d.other_objects;
-  own_table = d.own_table;
-  counted = omega (arith, p.counted, d.counted);
+  own_table = is;
+  lists = d.lists ∙ p.lists;
   owners = λ present there owners.
       d.owners present (open_same present held.sessions.items between.sessions.items p.session_owners owners);
   orphans = omega (arith, p.orphans, d.orphans);
@@ -123,9 +124,9 @@ place_same old new slots after items new_items client item (Some index) same are
     dropped_object old new items new_items item index slots after same are is_old is_new is.0.inside (eqb-false index item apart)
 
 -- the client's objects are those that it had, but for the one
-objects_left : (old new : Option SlotState) (slots after : SlotState) (items new_items : List Item) (client : ℕ)
+objects_left : {others : List ℕ} (old new : Option SlotState) (slots after : SlotState) (items new_items : List Item) (client : ℕ)
     (table : List (Option ℕ)) (handle item : ℕ) → objects_of new new_items ≡ without_object item (objects_of old items)
-    → new_items ≡ set items item no_item → old ≡ Some slots → new ≡ Some after → ObjectsStand slots items []
+    → new_items ≡ set items item no_item → old ≡ Some slots → new ≡ Some after → ObjectsStand slots items others
     → IsTable items client table → held_under table handle ≡ Some item
     → objects_in after new_items (without_handle table handle) ≡ without_handle (objects_in slots items table) handle
 objects_left old new slots after items new_items client table handle item same are is_old is_new stand is held_here =
@@ -218,6 +219,23 @@ object_sent unsent seen nobodys table items between handle item old middle new t
     (ap (λ (i : Item). is_some (handle_in i.slot)) same ∙ there) own still
     (sent_once unsent seen middle new (handle_in (item_at between item).slot) sent) (sent_answered unsent seen middle new (handle_in (item_at between item).slot) sent))
 
+-- one that is in no slot isn't flushed
+unsent_by : {D : Type 0} (done : Type 0) (Sent : ℕ → Type 0) (seen : D → Seen) (nobodys : ℕ) (old new : D) (slot : Option ℕ) → is_some slot ≡ false
+    → MatchOption slot (done × (new ≡ old)) Sent → IsFlushSent seen nobodys slot old new
+unsent_by done Sent seen nobodys old new None out sent = sent.1
+unsent_by done Sent seen nobodys old new (Some handle) out sent = absurd cc
+
+pub object_unsent : {D : Type 0} (done : Type 0) (Sent : ℕ → Type 0) (seen : D → Seen) (nobodys : ℕ) (table : List (Option ℕ)) (items : List Item)
+    (handle item : ℕ) (old new : D) → (octet_of handle == HT_TRANSIENT) ≡ true → held_under table handle ≡ Some item
+    → is_some (handle_in (item_at items item).slot) ≡ false → MatchOption (handle_in (item_at items item).slot) (done × (new ≡ old)) Sent
+    → IsFlushSent seen nobodys (flushed_handle table items handle) old new × (is_some (flushed_handle table items handle) ≡ false)
+object_unsent done Sent seen nobodys table items handle item old new transient held_here out sent =
+    let slot : flushed_handle table items handle ≡ handle_in (item_at items item).slot = slot_by table items handle item transient held_here in (
+      subst (λ (slot : Option ℕ). IsFlushSent seen nobodys slot old new) (sym slot)
+          (unsent_by done Sent seen nobodys old new (handle_in (item_at items item).slot) out sent),
+      ap (λ (slot : Option ℕ). is_some slot) slot ∙ out,
+    )
+
 -- ---- what is nobody's
 
 -- where nothing is nobody's, nothing is after a flush
@@ -231,12 +249,6 @@ none_without_session held new_view n are none =
       zero_set sessions.is_orphan held.sessions.items n None refl (omega (arith, none)),
     )
 
-pub none_without_object : (held : Held) (new_view : ObjectsView) (n : ℕ) → new_view.items ≡ set held.objects.items n no_item
-    → orphan_count held ≡ 0 → orphan_count (record { objects = new_view; sessions = held.sessions }) ≡ 0
-none_without_object held new_view n are none =
-    omega (
-      arith,
-      none,
-      ap (count_by is_orphan) are,
-      zero_set is_orphan held.objects.items n no_item refl (omega (arith, none)),
-    )
+pub none_without_object : (held : Held) (new_view : ObjectsView) → new_view.left ≡ held.objects.left → orphan_count held ≡ 0
+    → orphan_count (record { objects = new_view; sessions = held.sessions }) ≡ 0
+none_without_object held new_view left none = omega (arith, none, ap (λ (l : List ℕ). length l) left)

@@ -123,8 +123,8 @@ fault_by transient session there own =
     else if session then (if own then None else Some (RC_HANDLE + RC_P + RC_1))
     else Some (RC_VALUE + RC_P + RC_1)
 
-object_seen : (slots : SlotState) (items : List objects.Item) (client : ℕ) (table : List (Option ℕ)) (handle : ℕ)
-    → ObjectsStand slots items [] → IsTable items client table
+object_seen : {others : List ℕ} (slots : SlotState) (items : List objects.Item) (client : ℕ) (table : List (Option ℕ)) (handle : ℕ)
+    → ObjectsStand slots items others → IsTable items client table
     → is_some (held_under (objects_in slots items table) handle) ≡ is_some (held_under table handle)
 object_seen slots items client table handle stand is =
     ap (λ (o : Option Object). is_some o) (tables.held (λ (place : Option ℕ). place_object slots items place) table handle refl)

@@ -115,12 +115,13 @@ sessions_moved seen most old new held view moved room counter settled =
         sessions_on = counter;
       };
       owners = λ index owner names own mine. (names, own);
+      gained = λ index owner own mine. own;
+      lists = refl;
       objects = objects_over_sessions (seen old).state (seen new).state any_client held.objects.items rest;
       session_owners = owned_handles_same held.sessions.items view.items holders;
       sessions = sessions_kept (seen old).state (seen new).state held.sessions.items view.items moved.sessions;
       persist = persist_over_sessions (seen old).state (seen new).state rest;
       settled = settled_over_sessions (seen old).state (seen new).state held (record { objects = held.objects; sessions = view }) rest refl moved.stand room settled;
-      counted = refl;
       vacant = λ some. some;
       gone = record {
         objects = λ index vacant. vacant;

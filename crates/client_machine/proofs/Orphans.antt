@@ -1,8 +1,8 @@
 -- What is left where something of nobody is flushed: what clients have stands as before, and whose it is. Such steps compose.
-use Rattle.std.proofs.Common.{◌≡◌, ◌≢◌, ◌+◌, ◌<◌, ◌⊎◌, inl, inr, ℕ, zero, suc, Bool, true, false, List, [], ◌∷◌, length, get_or, set, map, refl, ap, sym, ◌∙◌, subst, arith, length-set, ◌≤◌}
+use Rattle.std.proofs.Common.{◌≡◌, ◌≢◌, ◌+◌, ◌<◌, ◌⊎◌, inl, inr, ℕ, zero, suc, Bool, true, false, List, [], ◌∷◌, ◌++◌, length, get_or, set, map, refl, ap, sym, ◌∙◌, subst, arith, length-append, length-set, ◌≤◌}
 use Rattle.std.specs.Prelude.{not, Option, Some, None, is_some}
 use Rattle.std.specs.List.{count_by, list_any}
-use Rattle.std.proofs.lemmas.Bool.{and_parts, cases_lt, true≢false}
+use Rattle.std.proofs.lemmas.Bool.{cases_lt, true≢false}
 use Rattle.std.proofs.lemmas.List.{get_or-map, get_or-set_other, map-set, set-get_or}
 use Rattle.std.proofs.Math.ListN as lists
 use Rattle.tab_spec.specs.Object.{Object}
@@ -10,17 +10,18 @@ use Rattle.tab_spec.specs.Shape.{number_of_session}
 use Rattle.device_spec.specs.Slots.{SlotState, gap_from}
 use Rattle.device_port.specs.Device.{Seen}
 use Rattle.object_swap.specs.Items as objects
-use Rattle.object_swap.specs.Items.{Item, Names, ObjectsView, is_vacant, item_at, item_object, no_item, objects_of, without_object}
+use Rattle.object_swap.specs.Items.{Item, LosesOrphan, ObjectsView, is_vacant, item_at, item_object, no_item, objects_of, without_object}
 use Rattle.object_swap.proofs.Counts.{count_cons, count_set, list_some, number_false, number_true}
 use Rattle.session_swap.specs.Items as sessions
 use Rattle.session_swap.specs.Items.{HasGapRoom, SessionsView, gap_kept, item_session, oldest_number, sessions_of, without_session}
 use Rattle.world_spec.specs.World.{Owned}
 use Rattle.client_machine.specs.declared.held.Held.{Held}
-use Rattle.client_machine.specs.Moves.{Clears, Loses, Keeps, KeepsObjectsOf, KeepsOwners, KeepsPersist, Prepares, any_client}
+use Rattle.client_machine.specs.Moves.{Clears, GainsNone, Loses, Keeps, KeepsObjectsOf, KeepsOwners, KeepsPersist, Prepares, any_client}
 use Rattle.client_machine.specs.Settled.{Settled, orphan_count, owned_by_client, owned_in, sessions_in}
-use Rattle.client_machine.specs.Tables.{held_items, owned_handle, owned_handles, with_owner}
+use Rattle.client_machine.specs.Tables.{owned_handle, owned_handles, with_owner}
+use Rattle.client_machine.proofs.Bringing.{item_told, objects_told}
 use Rattle.client_machine.proofs.Prepared.{counts_same, counts_then}
-use Rattle.client_machine.proofs.Staying.{gap_without, gone_then, loses_gone, loses_none, loses_object, loses_session, loses_then}
+use Rattle.client_machine.proofs.Staying.{gap_without, gone_then, loses_gone, loses_left, loses_none, loses_session, loses_then}
 use Rattle.client_machine.proofs.Settling.{counter_over_objects, owned_same, keeps_over_objects, keeps_over_sessions, object_counter_over_sessions, objects_over_sessions, persist_over_objects, persist_over_sessions, rest_over_objects, sessions_over_objects, sessions_same, settled_over_objects, settled_over_sessions, some_same}
 
 -- ---- one step after another
@@ -52,6 +53,10 @@ owners_then whose items between new_items first second =
     let one = first index owner names own mine in
     second index owner one.0 one.1 mine
 
+pub gains_then : (whose : ℕ → Bool) (items between new_items : List Item) → GainsNone whose items between → GainsNone whose between new_items
+    → GainsNone whose items new_items
+gains_then whose items between new_items first second = λ index owner own mine. first index owner (second index owner own mine) mine
+
 pub objects_then : (whose : ℕ → Bool) (old middle new : Option SlotState) (items between new_items : List Item)
     → is_some middle ≡ is_some old → KeepsOwners whose items between → KeepsObjectsOf whose old middle items between
     → KeepsObjectsOf whose middle new between new_items → KeepsObjectsOf whose old new items new_items
@@ -80,6 +85,8 @@ prepares_still seen old new held keeps same settled = record {
   keeps = keeps;
   counts = counts_same (seen old).state (seen new).state (ap objects.counter_of same) (ap sessions.counter_of same);
   owners = λ index owner names own mine. (names, own);
+  gained = λ index owner own mine. own;
+  lists = refl;
   objects = λ slots after index owner is_old is_new names own mine.
       let is : after ≡ slots = cc in ap (λ (s : SlotState). item_object s (item_at held.objects.items index)) is;
   session_owners = refl;
@@ -87,7 +94,6 @@ prepares_still seen old new held keeps same settled = record {
       let is : after ≡ slots = cc in ap (λ (s : SlotState). sessions_in s held.sessions.items) is;
   persist = λ slots after is_old is_new. let is : after ≡ slots = cc in ap (λ (s : SlotState). s.persist) is;
   settled = subst (λ (s : Option SlotState). Settled s held) (sym same) settled;
-  counted = refl;
   vacant = λ some. some;
   gone = loses_gone held held (loses_none held);
   orphans = omega arith;
@@ -107,6 +113,8 @@ prepares_then {n = n} {m = m} {most = most} seen old middle new held between new
   keeps = keeps_then seen old middle new first.keeps second.keeps;
   counts = counts_then n m most (seen old).state (seen middle).state (seen new).state few first.counts second.counts;
   owners = owners_then any_client held.objects.items between.objects.items new_held.objects.items first.owners second.owners;
+  gained = gains_then any_client held.objects.items between.objects.items new_held.objects.items first.gained second.gained;
+  lists = second.lists ∙ first.lists;
   objects = objects_then any_client (seen old).state (seen middle).state (seen new).state held.objects.items between.objects.items
       new_held.objects.items first.keeps.tells first.owners first.objects second.objects;
   session_owners = second.session_owners ∙ first.session_owners;
@@ -114,7 +122,6 @@ prepares_then {n = n} {m = m} {most = most} seen old middle new held between new
       first.keeps.tells first.sessions second.sessions;
   persist = persist_then (seen old).state (seen middle).state (seen new).state first.keeps.tells first.persist second.persist;
   settled = second.settled;
-  counted = omega (arith, first.counted, second.counted);
   vacant = λ some. second.vacant (first.vacant some);
   gone = gone_then held between new_held first.gone second.gone;
   orphans = omega (arith, first.orphans, second.orphans);
@@ -134,7 +141,7 @@ pub clears_none : {D : Type 0} (seen : D → Seen) (old : D) (held : Held)
     → Settled (seen old).state held → Clears seen old old held held
 clears_none seen old held settled = record {
   prepared = prepares_same seen old held settled;
-  objects = λ index owner own. refl;
+  objects = refl;
   sessions = λ number mine. refl;
   loses = loses_none held;
   gap = omega arith;
@@ -146,9 +153,7 @@ pub clears_then : {D : Type 0} (seen : D → Seen) (old middle new : D)
     → Clears seen middle new between new_held → Clears seen old new held new_held
 clears_then seen old middle new held between new_held first second = record {
   prepared = prepares_then seen old middle new held between new_held (omega arith) first.prepared second.prepared;
-  objects = λ index owner own.
-      let one = first.objects index owner own in
-      second.objects index owner (ap (λ (i : Item). i.client) one ∙ own) ∙ one;
+  objects = second.objects ∙ ap (λ (v : ObjectsView). record v { left = new_held.objects.left }) first.objects;
   sessions = λ number mine.
       let one = first.sessions number mine in
       second.sessions number (ap sessions.is_orphan one ∙ mine) ∙ one;
@@ -174,7 +179,7 @@ pub clears_failed : {D : Type 0} (seen : D → Seen) (old middle new : D) (held 
 clears_failed seen old middle new held between new_held first keeps same are some = record {
   prepared = prepares_then seen old middle new held between new_held (omega arith) first.prepared
       (prepares_failed seen middle new between new_held keeps same are first.prepared.settled);
-  objects = λ index owner own. ap (λ (h : Held). item_at h.objects.items index) are ∙ first.objects index owner own;
+  objects = subst (λ (h : Held). h.objects ≡ record held.objects { left = h.objects.left }) (sym are) first.objects;
   sessions = λ number mine. ap (λ (h : Held). sessions.item_at h.sessions.items number) are ∙ first.sessions number mine;
   loses = subst (λ (h : Held). Loses held h) (sym are) first.loses;
   gap = omega (arith, ap (λ (h : Held). gap_kept h.sessions) are, first.gap);
@@ -286,6 +291,8 @@ clears_session seen old new held new_view handle orphan items_are next_is same s
         keeps = keeps_over_sessions seen old new keeps;
         counts = counts_same (seen old).state (seen new).state (object_counter_over_sessions (seen old).state (seen new).state keeps.rest) counter;
         owners = λ index owner names own mine. (names, own);
+        gained = λ index owner own mine. own;
+        lists = refl;
         objects = objects_over_sessions (seen old).state (seen new).state any_client held.objects.items keeps.rest;
         session_owners = ap owned_handles items_are ∙ kept_by owned_handle items n None None (sym (handle_nobody (sessions.item_at items n) orphan));
         sessions = λ slots after is_old is_new.
@@ -298,14 +305,13 @@ clears_session seen old new held new_view handle orphan items_are next_is same s
         persist = persist_over_sessions (seen old).state (seen new).state keeps.rest;
         settled = settled_over_sessions (seen old).state (seen new).state held (record { objects = held.objects; sessions = new_view })
             keeps.rest refl stand room settled;
-        counted = refl;
         vacant = λ some. some;
         gone = loses_gone held (record { objects = held.objects; sessions = new_view }) loses;
         orphans = omega (arith, fewer);
         slots = refl;
         length_is = refl;
       };
-      objects = λ index owner own. refl;
+      objects = refl;
       sessions = λ m mine.
           ap (λ (l : List (Option sessions.Item)). sessions.item_at l m) items_are
           ∙ get_or-set_other items n m None None (not_here items n m orphan mine);
@@ -316,23 +322,53 @@ clears_session seen old new held new_view handle orphan items_are next_is same s
 
 -- ---- an object of nobody
 
-object_nobody : (item : Item) → objects.is_orphan item ≡ true → item.client ≡ None
-object_nobody item is = nobody item.client (and_parts (is_some item.slot) (not (is_some item.client)) is).1
+-- the last of them is gone
+pub clears_orphan : {D : Type 0} (seen : D → Seen) (old new : D) (held : Held) (new_view : ObjectsView)
+    → LosesOrphan (seen old).state (seen new).state held.objects new_view → objects.KeepsRest seen old new → Settled (seen old).state held
+    → Clears seen old new held (record { objects = new_view; sessions = held.sessions })
+clears_orphan seen old new held new_view lost keeps settled =
+    let items = held.objects.items in
+    let items_are : new_view.items ≡ items = ap (λ (v : ObjectsView). v.items) lost.same in
+    let fewer : length new_view.left + 1 ≡ length held.objects.left =
+    omega (arith, ap (λ (l : List ℕ). length l) lost.left, length-append new_view.left (lost.slot ∷ [])) in
+    let loses = loses_left held new_view items_are in
+    record {
+      prepared = record {
+        keeps = keeps_over_objects seen old new keeps;
+        counts = counts_same (seen old).state (seen new).state lost.counter (counter_over_objects (seen old).state (seen new).state keeps.rest);
+        owners = subst (λ (l : List Item). KeepsOwners any_client items l) (sym items_are) (λ index owner names own mine. (names, own));
+        gained = subst (λ (l : List Item). GainsNone any_client items l) (sym items_are) (λ index owner own mine. own);
+        lists = ap (λ (v : ObjectsView). v.owners) lost.same;
+        objects = λ slots after index owner was is names own mine.
+            item_told slots after items new_view.items index
+            (objects_told (seen old).state (seen new).state slots after items new_view.items was is lost.objects);
+        session_owners = refl;
+        sessions = λ slots after was is.
+            sessions_over_objects slots after held.sessions.items (rest_over_objects (seen old).state (seen new).state slots after keeps.rest was is);
+        persist = persist_over_objects (seen old).state (seen new).state keeps.rest;
+        settled = settled_over_objects (seen old).state (seen new).state held (record { objects = new_view; sessions = held.sessions })
+            keeps.rest refl lost.stand settled;
+        vacant = λ some. ap (λ (l : List Item). list_any is_vacant l) items_are ∙ some;
+        gone = loses_gone held (record { objects = new_view; sessions = held.sessions }) loses;
+        orphans = omega (arith, fewer);
+        slots = ap (λ (v : ObjectsView). v.slots) lost.same;
+        length_is = ap (λ (l : List Item). length l) items_are;
+      };
+      objects = lost.same;
+      sessions = λ number mine. refl;
+      loses = loses;
+      gap = omega arith;
+      still = λ none. absurd (omega (arith, fewer, none));
+    }
 
-another : (items : List Item) (item index owner : ℕ) → objects.is_orphan (item_at items item) ≡ true
-    → (item_at items index).client ≡ Some owner → index ≢ item
-another items item index owner orphan own = λ same.
-    let both : ◌≡◌ {A = Option ℕ} (Some owner) None =
-    sym own ∙ ap (λ (k : ℕ). (item_at items k).client) same ∙ object_nobody (item_at items item) orphan in absurd cc
+-- the last of them
+pub last_of : (left : List ℕ) → 1 ≤ length left → (rest : List ℕ) × (slot : ℕ) × (left ≡ rest ++ slot ∷ [])
+last_of [] some = absurd (omega arith)
+last_of (slot ∷ []) some = ([], slot, refl)
+last_of (first ∷ slot ∷ left) some =
+    let last = last_of (slot ∷ left) (omega arith) in (first ∷ last.0, last.1, ap (λ (l : List ℕ). first ∷ l) last.2)
 
-pub dropped_at : (items : List Item) (item index : ℕ) → index ≢ item → item_at (set items item no_item) index ≡ item_at items index
-dropped_at items item index apart = get_or-set_other items item index no_item no_item apart
-
-pub dropped_names : (items : List Item) (item index : ℕ) → Names items index → index ≢ item → Names (set items item no_item) index
-dropped_names items item index names apart = record {
-  inside = omega (arith, names.inside, length-set items item no_item);
-  there = ap is_vacant (dropped_at items item index apart) ∙ names.there;
-}
+-- ---- an object of a client
 
 -- each other object stays
 pub dropped_object : (old new : Option SlotState) (items new_items : List Item) (item index : ℕ) (slots after : SlotState)
@@ -351,79 +387,3 @@ dropped_object old new items new_items item index slots after same are is_old is
     (ap (λ (l : List Item). map (λ i. item_object after i) l) (sym are) ∙ told)
     ∙ get_or-set_other (map (λ (i : Item). item_object slots i) items) item index None None apart
     ∙ get_or-map (λ (i : Item). item_object slots i) items index no_item None inside
-
-pub held_less : (items : List Item) (item : ℕ) → Names items item → held_items (set items item no_item) + 1 ≡ held_items items
-held_less items item names =
-    omega (
-      arith,
-      count_set (λ (i : Item). not (is_vacant i)) items item no_item no_item names.inside,
-      number_true (not (is_vacant (item_at items item))) (ap not names.there),
-    )
-
-pub object_orphans_less : (items : List Item) (item : ℕ) → Names items item → objects.is_orphan (item_at items item) ≡ true
-    → count_by objects.is_orphan (set items item no_item) + 1 ≡ count_by objects.is_orphan items
-object_orphans_less items item names orphan =
-    omega (
-      arith,
-      count_set objects.is_orphan items item no_item no_item names.inside,
-      number_true (objects.is_orphan (item_at items item)) orphan,
-    )
-
-pub vacant_more : (items : List Item) (item : ℕ) → Names items item → list_any is_vacant (set items item no_item) ≡ true
-vacant_more items item names =
-    list_some is_vacant (set items item no_item)
-    (omega (
-      arith,
-      count_set is_vacant items item no_item no_item names.inside,
-      number_false (is_vacant (item_at items item)) names.there,
-    ))
-
-pub clears_object : {D : Type 0} (seen : D → Seen) (old new : D)
-    (held : Held) (new_view : ObjectsView) (item : ℕ)
-    → Names held.objects.items item → objects.is_orphan (item_at held.objects.items item) ≡ true
-    → new_view.items ≡ set held.objects.items item no_item → new_view.slots ≡ held.objects.slots
-    → objects_of (seen new).state new_view.items ≡ without_object item (objects_of (seen old).state held.objects.items)
-    → objects.Stand (seen new).state new_view.items [] → objects.counter_of (seen new).state ≡ objects.counter_of (seen old).state
-    → objects.KeepsRest seen old new → Settled (seen old).state held
-    → Clears seen old new held (record { objects = new_view; sessions = held.sessions })
-clears_object seen old new held new_view item names orphan items_are slots_are same stand counter keeps settled =
-    let items = held.objects.items in
-    let fewer : count_by objects.is_orphan new_view.items + 1 ≡ count_by objects.is_orphan items =
-    ap (λ (l : List Item). count_by objects.is_orphan l + 1) items_are ∙ object_orphans_less items item names orphan in
-    let less : held_items new_view.items + 1 ≡ held_items items =
-    ap (λ (l : List Item). held_items l + 1) items_are ∙ held_less items item names in
-    let loses = loses_object held new_view item items_are in
-    let there : (index : ℕ) → index ≢ item → item_at new_view.items index ≡ item_at items index =
-    λ index apart. ap (λ (l : List Item). item_at l index) items_are ∙ dropped_at items item index apart in
-    record {
-      prepared = record {
-        keeps = keeps_over_objects seen old new keeps;
-        counts = counts_same (seen old).state (seen new).state counter (counter_over_objects (seen old).state (seen new).state keeps.rest);
-        owners = λ index owner named own mine.
-            let apart = another items item index owner orphan own in (
-              subst (λ (l : List Item). Names l index) (sym items_are) (dropped_names items item index named apart),
-              ap (λ (i : Item). i.client) (there index apart) ∙ own,
-            );
-        objects = λ slots after index owner is_old is_new named own mine.
-            let apart = another items item index owner orphan own in
-            ap (λ (l : List Item). item_object after (item_at l index)) items_are
-            ∙ dropped_object (seen old).state (seen new).state items new_view.items item index slots after same items_are is_old is_new named.inside apart;
-        session_owners = refl;
-        sessions = λ slots after is_old is_new.
-            sessions_over_objects slots after held.sessions.items (rest_over_objects (seen old).state (seen new).state slots after keeps.rest is_old is_new);
-        persist = persist_over_objects (seen old).state (seen new).state keeps.rest;
-        settled = settled_over_objects (seen old).state (seen new).state held (record { objects = new_view; sessions = held.sessions })
-            keeps.rest refl stand settled;
-        counted = omega (arith, fewer, less);
-        vacant = λ some. ap (λ (l : List Item). list_any is_vacant l) items_are ∙ vacant_more items item names;
-        gone = loses_gone held (record { objects = new_view; sessions = held.sessions }) loses;
-        orphans = omega (arith, fewer);
-        slots = slots_are;
-        length_is = ap length items_are ∙ length-set items item no_item;
-      };
-      objects = λ index owner own. there index (another items item index owner orphan own);
-      sessions = λ number mine. refl;
-      loses = loses;
-      gap = omega arith;
-      still = λ none. absurd (omega (arith, fewer, none));
-    }

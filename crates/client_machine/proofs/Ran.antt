@@ -27,7 +27,7 @@ use Rattle.object_swap.specs.Items.{Item, Names, ObjectsView, handle_in, item_at
 use Rattle.session_swap.specs.Items as sessions
 use Rattle.session_swap.specs.Items.{Rise, SessionsView, gap_kept, is_loaded_item, is_user, item_of, loaded_items, numbers_along, saved_by_client}
 use Rattle.session_swap.specs.declared.TheConstants.{RENEWAL_GAP}
-use Rattle.history_spec.specs.Table.{count_held, held_under, is_full, next_handle, put_least}
+use Rattle.history_spec.specs.Table.{held_under, is_full, next_handle, put_least}
 use Rattle.world_spec.specs.World.{ClientState, client_step}
 use Rattle.session_swap.proofs.Counts.{is_false}
 use Rattle.session_swap.proofs.Moved.{stands_alike}
@@ -37,10 +37,10 @@ use Rattle.world_laws.proofs.Histories.{each-weaker}
 use Rattle.history_laws.proofs.Tables.{held_all, mapped}
 use Rattle.client_machine.specs.declared.held.Held.{Held}
 use Rattle.client_machine.specs.Costs.{SendsUpTo, StaysIn, new_bound, places_of, renewal_bound}
-use Rattle.client_machine.specs.Moves.{Adopts, AreTaken, CarriesOut, CountsOnBy, HasRoomFor, IsAtHand, IsCalm, IsPrepared, IsSent, IsTaken, KeepsOwners, MayAdopt, MayMove, MayStart, Moves, Prepares, Ran, Serves, StaysAs, StepsAs, UsesNamed, any_client, order_after, order_made, client_reply, first_handle, loads_kept, number_taken, other_than, pick_of, saved_list_after, saved_number, saves_one, saves_session, sessions_held_after, told_handle, SentBefore}
+use Rattle.client_machine.specs.Moves.{Adopts, AreTaken, CarriesOut, CountsOnBy, GainsNone, HasRoomFor, IsAtHand, IsCalm, IsPrepared, IsSent, IsTaken, KeepsOwners, MayAdopt, MayMove, MayStart, Moves, Prepares, Ran, Serves, StaysAs, StepsAs, UsesNamed, any_client, order_after, order_made, client_reply, first_handle, loads_kept, number_taken, other_than, pick_of, saved_list_after, saved_number, saves_one, saves_session, sessions_held_after, told_handle, SentBefore}
 use Rattle.client_machine.specs.Settled.{AreBelow, Sequences, Settled, call_contexts, orphan_count}
-use Rattle.client_machine.specs.Tables.{AreOpenOwners, IsOpenOwner, IsPlaceOf, IsPlaced, IsTable, OwnedHandle, device_handle, handle_or, held_items, is_open, objects_in, owned_handles, place_object, slot_handle, table_with, tables_seen, with_owner}
-use Rattle.client_machine.proofs.Adopting.{adopted_count, adopted_held, adopted_item, adopted_length, adopted_loads, adopted_new, adopted_others, adopted_table}
+use Rattle.client_machine.specs.Tables.{AreOpenOwners, IsOpenOwner, IsPlaceOf, IsPlaced, IsTable, OwnedHandle, device_handle, handle_or, is_open, objects_in, owned_handles, place_object, slot_handle, table_with, tables_seen, with_owner}
+use Rattle.client_machine.proofs.Adopting.{adopted_gained, adopted_item, adopted_length, adopted_loads, adopted_new, adopted_others, adopted_table}
 use Rattle.client_machine.proofs.Handing.{handed_frame, slice_bytes, taken_frame}
 use Rattle.client_machine.proofs.Orphans.{zero_set}
 use Rattle.client_machine.proofs.Ready.{MayRun, sent_over}
@@ -161,11 +161,6 @@ none_after client a answer items none =
     zero_set sessions.is_orphan items n (saved_by_client context (sessions.item_at items n))
     (saved_no_orphan context (sessions.item_at items n) (no_orphan_at items n none)) none)
 
-pub adopted_orphans : {client handle : ℕ} {items new_items : List Item} {table new_table : List (Option ℕ)} → Adopts client handle items new_items table new_table
-    → count_by objects.is_orphan items ≡ 0 → count_by objects.is_orphan new_items ≡ 0
-adopted_orphans {client = client} {handle = handle} {items = items} adopts none =
-    ap (count_by objects.is_orphan) adopts.items_are ∙ zero_set objects.is_orphan items adopts.item (new_item client (handle - TRANSIENT_FIRST)) refl none
-
 -- ---- before the command
 
 place_kept : (client : ℕ) (items new_items : List Item) → KeepsOwners any_client items new_items → (place : Option ℕ) → IsPlaceOf client items place
@@ -186,13 +181,14 @@ prepares_table {held = held} {new_held = new_held} client table prepares is = re
   named = each-weaker (λ place. IsPlaceOf client held.objects.items place) (λ place. IsPlaceOf client new_held.objects.items place) table
       (place_kept client held.objects.items new_held.objects.items prepares.owners) is.named;
   apart = is.apart;
+  all = λ index own. is.all index (prepares.gained index client own refl);
   few = is.few;
   short = is.short;
 }
 
 pub prepares_moves : {D : Type 0} {contexts : ℕ} {seen : D → Seen} {old new : D} {held new_held : Held}
     (client : ℕ) (table : List (Option ℕ)) → contexts ≤ 100 → Prepares contexts seen old new held new_held
-    → IsTable held.objects.items client table → Moves seen client old new held new_held table table
+    → IsTable held.objects.items client table → Moves seen client old new held new_held table
 prepares_moves {held = held} {new_held = new_held} client table few prepares is = record {
   keeps = prepares.keeps;
   settled = prepares.settled;
@@ -203,9 +199,10 @@ prepares_moves {held = held} {new_held = new_held} client table few prepares is 
     sessions_on = omega (arith, few, prepares.counts.sessions_on);
   };
   others = λ index owner names own mine. prepares.owners index owner names own refl;
+  gained = λ index owner own mine. prepares.gained index owner own refl;
   other_objects = λ slots after index owner was now names own mine. prepares.objects slots after index owner was now names own refl;
   own_table = prepares_table client table prepares is;
-  counted = omega (arith, prepares.counted);
+  lists = prepares.lists;
   owners = λ present open_here all. open_same present held.sessions.items new_held.sessions.items prepares.session_owners all;
   orphans = prepares.orphans;
   slots = prepares.slots;
@@ -673,11 +670,9 @@ pub ran_moves : {D : Type 0} {seen : D → Seen} {old between : D} {held mid : H
     → new_view.items ≡ sessions_held_after client a answer mid.sessions.items
     → let new_held : Held = record { objects = record mid.objects { items = new_items; order = used }; sessions = new_view } in
     Done (seen between).state (seen new).state mid new_held client table new_table a bytes reply
-    → KeepsOwners (other_than client) mid.objects.items new_items → IsTable new_items client new_table
-    → held_items new_items + count_held table ≡ held_items mid.objects.items + count_held new_table → count_by objects.is_orphan new_items ≡ 0
-    → length new_items ≡ length mid.objects.items
-    → Moves seen client old new held new_held table new_table
-ran_moves {seen = seen} {old = old} {between = between} {held = held} {mid = mid} {client = client} {table = table} {a = a} {bytes = bytes} new new_items new_view new_table used answer reply p base_is count view_is done others is counted none long =
+    → KeepsOwners (other_than client) mid.objects.items new_items → GainsNone (other_than client) mid.objects.items new_items
+    → IsTable new_items client new_table → length new_items ≡ length mid.objects.items → Moves seen client old new held new_held new_table
+ran_moves {seen = seen} {old = old} {between = between} {held = held} {mid = mid} {client = client} {table = table} {a = a} {bytes = bytes} new new_items new_view new_table used answer reply p base_is count view_is done others gained is long =
     let prepares = p.prepares in
     let none_left : count_by sessions.is_orphan new_view.items ≡ 0 =
     ap (count_by sessions.is_orphan) view_is ∙ none_after client a answer mid.sessions.items (omega (arith, p.ready.nobodys)) in
@@ -692,18 +687,19 @@ ran_moves {seen = seen} {old = old} {between = between} {held = held} {mid = mid
       others = λ index owner names own mine.
           let kept = prepares.owners index owner names own refl in
           others index owner kept.0 kept.1 mine;
+      gained = λ index owner own mine. prepares.gained index owner (gained index owner own mine) refl;
       other_objects = λ slots after index owner was now names own mine.
           let kept = prepares.owners index owner names own refl in
           let there : is_some (seen between).state ≡ true = prepares.keeps.tells ∙ ap (λ (s : Option SlotState). is_some s) was in
           let middle = some_of (seen between).state there in
           done.kept middle.0 after index middle.1 now kept.0 ∙ prepares.objects slots middle.0 index owner was middle.1 names own refl;
       own_table = is;
-      counted = omega (arith, counted, prepares.counted, none, p.ready.nobodys);
+      lists = prepares.lists;
       owners = λ present open_here all.
           subst (AreOpenOwners present) (sym view_is)
           (open_after present client a answer mid.sessions.items open_here
           (open_same present held.sessions.items mid.sessions.items prepares.session_owners all));
-      orphans = omega (arith, none, none_left);
+      orphans = omega (arith, none_left, p.ready.nobodys);
       slots = prepares.slots;
       length_is = long ∙ prepares.length_is;
     }
@@ -744,7 +740,7 @@ may_adopt {mid = mid} {client = client} {table = table} {a = a} {bytes = bytes} 
     (ap (λ (command : List ℕ). takes false is_taken command reply) (sym p.ready.written) ∙ taken_unkept sent) tells in
     record {
       vacant = p.prepares.vacant (room makes).1;
-      slot = (p.ready.free makes).1;
+      slot = omega (arith, (p.ready.free makes).1, p.ready.nobodys);
       room = (room makes).0;
       few = not_full client table mid.sessions.items bytes a p.admitted makes;
       long = told.0;
@@ -794,7 +790,7 @@ ran_then {between = between} {new = new} {mid = mid} {client = client} {new_item
           (ap (λ (kept : Bool). takes kept (number_taken mid.sessions.items reply) command reply) (adopted_loads command adopts)
           ∙ sent.taken);
       sessions_are = refl;
-      nobodys = omega (arith, adopted_orphans adopts (omega (arith, p.ready.nobodys)), none_after client a reply mid.sessions.items (omega (arith, p.ready.nobodys)));
+      nobodys = omega (arith, p.ready.nobodys, none_after client a reply mid.sessions.items (omega (arith, p.ready.nobodys)));
       used = λ calm. record {
         ready = mid;
         named = p.used calm;
@@ -864,12 +860,12 @@ held_else mid new_sessions client a shown reply is same =
 
 pub held_then : (mid : Held) (new_objects : ObjectsView) (new_sessions : SessionsView) (client : ℕ) (a : Admitted) (shown reply : List ℕ)
     → new_sessions ≡ sessions_kept mid.sessions client a shown → shown ≡ reply
-    → new_objects.slots ≡ mid.objects.slots
+    → new_objects ≡ record mid.objects { items = new_objects.items; order = new_objects.order }
     → in_orders (held_after mid new_objects.items client a reply) new_objects.order (order_after a reply mid.sessions.order)
     (saved_list_after a reply mid.sessions.saved) ≡ record { objects = new_objects; sessions = new_sessions }
-held_then mid new_objects new_sessions client a shown reply is same slots =
+held_then mid new_objects new_sessions client a shown reply is same rest =
     λ i. record {
-      objects = record { items = new_objects.items; slots = sym slots i; order = new_objects.order };
+      objects = sym rest i;
       sessions = sym (is ∙ ap (λ (reply : List ℕ). sessions_kept mid.sessions client a reply) same) i;
     }
 
@@ -892,7 +888,7 @@ outcome_else {seen = seen} {old = old} {between = between} {new = new} {held = h
     (record {
       serves = record {
         moves = ran_moves new mid.objects.items new_held.sessions table mid.objects.order reply reply p sent.base_is sent.count refl done
-            (λ index owner names own mine. (names, own)) p.here refl (omega (arith, p.ready.nobodys)) refl;
+            (λ index owner names own mine. (names, own)) (λ index owner own mine. own) p.here refl;
         right = inr (sent_right sent);
         stays = tt;
         costs = omega (arith, p.costs, sent.sent.once);
@@ -912,23 +908,22 @@ pub outcome_then : {D : Type 0} {seen : D → Seen} {old between new : D} {held 
     → SentBefore seen old between → (IsAtHand held table a bytes → between ≡ old)
     → saves_one a ≡ false → MayAdopt mid.objects table spare reply → tells_object a reply ≡ true
     → (adopts : Adopts client (told_handle reply) mid.objects.items new_objects.items table new_table)
-    → new_objects.order ≡ mid.objects.order ++ adopts.item ∷ [] → new_objects.slots ≡ mid.objects.slots
+    → new_objects.order ≡ mid.objects.order ++ adopts.item ∷ []
+    → new_objects ≡ record mid.objects { items = new_objects.items; order = new_objects.order }
     → new_reply ≡ with_response_handle reply (next_handle table)
     → new_sessions ≡ sessions_kept mid.sessions client a shown → shown ≡ reply
     → Outcome seen old new client held (record { objects = new_objects; sessions = new_sessions }) table new_table a bytes new_reply
-outcome_then {seen = seen} {old = old} {between = between} {new = new} {held = held} {mid = mid} {client = client} {table = table} {new_table = new_table} {a = a} {bytes = bytes} {command = command} {shown = shown} {reply = reply} {new_reply = new_reply} new_objects new_sessions p sent own still alone may tells adopts used_is slots reply_is is same =
+outcome_then {seen = seen} {old = old} {between = between} {new = new} {held = held} {mid = mid} {client = client} {table = table} {new_table = new_table} {a = a} {bytes = bytes} {command = command} {shown = shown} {reply = reply} {new_reply = new_reply} new_objects new_sessions p sent own still alone may tells adopts used_is rest reply_is is same =
     let new_held = in_orders (held_after mid new_objects.items client a reply) new_objects.order (order_after a reply mid.sessions.order) (saved_list_after a reply mid.sessions.saved) in
     let done : Done (seen between).state (seen new).state mid new_held client table new_table a bytes new_reply =
     done_in new_objects.order (order_after a reply mid.sessions.order) (saved_list_after a reply mid.sessions.saved)
     (rise_after a reply mid.sessions.saved alone)
     (done_then (seen between).state (seen new).state mid client table a bytes command reply new_reply p.may alone p.ready.written sent.answered tells adopts reply_is) in
-    subst (λ (h : Held). Outcome seen old new client held h table new_table a bytes new_reply) (held_then mid new_objects new_sessions client a shown reply is same slots)
+    subst (λ (h : Held). Outcome seen old new client held h table new_table a bytes new_reply) (held_then mid new_objects new_sessions client a shown reply is same rest)
     (record {
       serves = record {
         moves = ran_moves new new_objects.items new_held.sessions new_table new_objects.order reply new_reply p sent.base_is sent.count refl done
-            (adopted_others (other_than client) adopts) (adopted_table adopts p.here may.few)
-            (omega (arith, adopted_held adopts, adopted_count adopts)) (adopted_orphans adopts (omega (arith, p.ready.nobodys)))
-            (adopted_length adopts);
+            (adopted_others (other_than client) adopts) (adopted_gained adopts) (adopted_table adopts p.here may.few) (adopted_length adopts);
         right = inr (sent_right sent);
         stays = tt;
         costs = omega (arith, p.costs, sent.sent.once);

@@ -501,7 +501,7 @@ replied_moves : {D : Type 0} (seen : D → Seen) (device : D) (held : Held) (new
     (table : List (Option ℕ)) (a : Admitted) (bytes reply : List ℕ) → Settled (seen device).state held → IsTable held.objects.items client table
     → IsOwnReply held new_view client table a bytes reply
     → ((slots : SlotState) → SessionsStand slots held.sessions [] → SessionsStand slots new_view [])
-    → Moves seen client device device held (held_with held new_view) table table
+    → Moves seen client device device held (held_with held new_view) table
 replied_moves seen device held new_view client table a bytes reply settled is own stand =
     let items = held.sessions.items in
     let params = drop a.auths.params bytes in
@@ -513,9 +513,10 @@ replied_moves seen device held new_view client table a bytes reply settled is ow
       settled = settled_given (seen device).state held new_view stand settled;
       counts = record { objects_rise = omega arith; sessions_rise = omega arith; objects_on = omega arith; sessions_on = omega arith };
       others = owners_same (other_than client) held.objects.items;
+      gained = λ index owner own other. own;
+      lists = refl;
       other_objects = objects_same (other_than client) (seen device).state held.objects.items;
       own_table = is;
-      counted = refl;
       owners = λ present open_here all. leaves.open_owners present all;
       orphans = omega (arith, leaves.orphans);
       slots = refl;

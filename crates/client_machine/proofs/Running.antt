@@ -357,7 +357,7 @@ plain_by slots after held client table a bytes effect_reply answer may left =
     none left.unsaved (left.ended_is ∙ ap (ends_session a) (sym left.answer_is)) in
     record {
       settled = record {
-        objects = stand_same slots after items [] may.settled.objects left.slots_are (sym left.seed) left.started left.sound;
+        objects = stand_same slots after items held.objects.left may.settled.objects left.slots_are (sym left.seed) left.started left.sound;
         sessions = sessions.stand;
         gap = sessions.gap;
       };
@@ -407,12 +407,12 @@ object_by {new_items = new_items} {new_table = new_table} slots after held clien
     let none_new : tells_session a new_reply ≡ false = ap (tells_session a) new_is ∙ handed_tells_session a answer (next_handle table) answer_long ∙ none_told in
     let sessions = sessions_left_by slots after held client a answer left.operands left.ended may.settled left.started left.sound left.counter left.seed left.own left.sessions_are
     none_told left.unsaved (left.ended_is ∙ sym (handed_ends a effect_reply handle long) ∙ ap (ends_session a) (sym left.answer_is)) in
-    let fill : Filled slots after items o =
-    filled slots after items o stand (may.room left.tells.2) left.slots_are (sym left.seed) left.started left.sound in
+    let fill : Filled slots after items held.objects.left o =
+    filled slots after items held.objects.left o stand (may.room left.tells.2) left.slots_are (sym left.seed) left.started left.sound in
     let count : length slots.slots ≡ 3 = stand.sound.count in
     let told_is : told_handle answer ≡ handle =
     ap told_handle left.answer_is ∙ handed_told effect_reply handle long (omega (arith, fill.fits, count)) in
-    let new : Adopted slots after items new_items table new_table o =
+    let new : Adopted slots after items new_items held.objects.left table new_table o =
     adopted slots after o fill left.slots_are stand may.is adopts (omega (arith, told_is)) in
     let own : next_handle objects ≡ next_handle table =
     tables.next (λ place. place_object slots items place) table (seen_places slots items client table stand may.is) in
@@ -509,7 +509,7 @@ session_by slots after held client table a bytes s effect_reply answer may left 
     let world_is : sessions_after (own_place client) None (sessions_in slots old) left.operands left.ended ≡ sessions_in slots old = none_after (own_place client) None (sessions_in slots old) left.operands left.ended (left.none start) in
     record {
       settled = record {
-        objects = stand_same slots after items [] may.settled.objects left.slots_are (sym left.seed) left.started left.sound;
+        objects = stand_same slots after items held.objects.left may.settled.objects left.slots_are (sym left.seed) left.started left.sound;
         sessions = subst (λ (items : List (Option sessions.Item)). SessionsStand after (record held.sessions { items = items }) []) (sym items_are) is.new.stand;
         gap = is.new.gap;
       };

@@ -219,7 +219,7 @@ one_saved slots after held new_view client table a bytes reply may alone over gi
     ∙ ap (λ (n : ℕ). picks.Sequence n) over.number in
     record {
       settled = record {
-        objects = stand_over_sessions slots after items [] same over.stand.sound may.settled.objects;
+        objects = stand_over_sessions slots after items held.objects.left same over.stand.sound may.settled.objects;
         sessions = over.stand;
         gap = over.room;
       };
@@ -411,8 +411,7 @@ outcome_saved {seen = seen} {between = between} {new = new} {held = held} {mid =
     record {
       serves = record {
         moves = ran_moves new mid.objects.items new_view table mid.objects.order reply reply p saved.keeps.base_is saved.keeps.count
-            (saved_after new_view reply p alone saved.given) done (λ index owner names own mine. (names, own)) p.here refl
-            (omega (arith, p.ready.nobodys)) refl;
+            (saved_after new_view reply p alone saved.given) done (λ index owner names own mine. (names, own)) (λ index owner own mine. own) p.here refl;
         right = inr (taken_right false false (context_save_command handle) (asked_of (seen new)) reply (last_of (seen new))
             (save_taken false false handle reply saved.given.success saved.given.frame) asks.asked last_is);
         stays = tt;

@@ -26,16 +26,19 @@ use Rattle.client_machine.specs.Tables.{IsPlaceOf, IsTable, place_object, tables
 -- ---- objects
 
 -- an item that a table names has an object
-pub item_stands : (slots : SlotState) (items : List Item) (index : ℕ) → ObjectsStand slots items [] → index < length items → ItemStands slots (item_at items index)
+pub item_stands : {others : List ℕ} (slots : SlotState) (items : List Item) (index : ℕ) → ObjectsStand slots items others → index < length items
+    → ItemStands slots (item_at items index)
 item_stands slots items index stand inside =
     All-get_or (λ item. ItemStands slots item) items index no_item inside (All-from_recursion (λ item. ItemStands slots item) items stand.each)
 
-pub place_there : (slots : SlotState) (items : List Item) (client : ℕ) → ObjectsStand slots items [] → (place : Option ℕ) → IsPlaceOf client items place
+pub place_there : {others : List ℕ} (slots : SlotState) (items : List Item) (client : ℕ) → ObjectsStand slots items others → (place : Option ℕ)
+    → IsPlaceOf client items place
     → is_some (place_object slots items place) ≡ is_some place
 place_there slots items client stand None is = refl
 place_there slots items client stand (Some index) is = (item_stands slots items index stand is.0.inside).there is.0.there
 
-pub seen_places : (slots : SlotState) (items : List Item) (client : ℕ) (table : List (Option ℕ)) → ObjectsStand slots items [] → IsTable items client table
+pub seen_places : {others : List ℕ} (slots : SlotState) (items : List Item) (client : ℕ) (table : List (Option ℕ)) → ObjectsStand slots items others
+    → IsTable items client table
     → AllByRecursion (λ place. is_some (place_object slots items place) ≡ is_some place) table
 seen_places slots items client table stand is =
     each-weaker (λ place. IsPlaceOf client items place) (λ place. is_some (place_object slots items place) ≡ is_some place) table
@@ -133,7 +136,8 @@ session_had slots view others client handle stand = (seen_under slots view other
 
 -- ---- both
 
-pub admitted_seen : (slots : SlotState) (client : ℕ) (table : List (Option ℕ)) (held : Held) (least : Sequences) (bytes : List ℕ) → ObjectsStand slots held.objects.items []
+pub admitted_seen : {others : List ℕ} (slots : SlotState) (client : ℕ) (table : List (Option ℕ)) (held : Held) (least : Sequences) (bytes : List ℕ)
+    → ObjectsStand slots held.objects.items others
     → SessionsStand slots held.sessions [] → IsTable held.objects.items client table
     → client_admitted (tables_seen client table held.sessions.items) bytes ≡ client_admitted (tables_of client (client_state slots held table least)) bytes
 admitted_seen slots client table held least bytes stand sessions is =

@@ -6,7 +6,7 @@ use Rattle.tab_spec.specs.Session.{Session}
 use Rattle.device_spec.specs.Slots.{IsSlots, SessionPlace, SlotState, gap_of, inactive, object_at}
 use Rattle.device_port.specs.Device.{Seen}
 use Rattle.object_swap.specs.Items as objects
-use Rattle.object_swap.specs.Items.{Item, ItemStands, ObjectsStand, item_at, item_object, taken, without_objects}
+use Rattle.object_swap.specs.Items.{Item, ItemStands, ObjectsStand, ObjectsView, item_at, item_object, taken, without_objects}
 use Rattle.session_swap.specs.Items as sessions
 use Rattle.session_swap.specs.Items.{AreAlike, HasGapRoom, Holder, SessionsStand, SessionsView, holder_of, holders, item_session, without_sessions}
 use Rattle.session_swap.proofs.Standing.{alike_same, stands_changed}
@@ -22,7 +22,7 @@ some_same e = cc
 
 -- ---- what is settled
 
-pub objects_settled : (state : Option SlotState) (held : Held) → Settled state held → objects.Stand state held.objects.items []
+pub objects_settled : (state : Option SlotState) (held : Held) → Settled state held → objects.Stand state held.objects.items held.objects.left
 objects_settled None held settled = tt
 objects_settled (Some slots) held settled = settled.objects
 
@@ -125,13 +125,13 @@ stand_over_sessions slots after items others same sound stand = record {
 }
 
 pub settled_over_sessions : (old new : Option SlotState) (held new_held : Held) → sessions.rest_of new ≡ sessions.rest_of old
-    → new_held.objects.items ≡ held.objects.items → sessions.Stand new new_held.sessions [] → HasGapRoom new
+    → new_held.objects ≡ held.objects → sessions.Stand new new_held.sessions [] → HasGapRoom new
     → Settled old held → Settled new new_held
-settled_over_sessions old None held new_held same items stand room settled = tt
-settled_over_sessions None (Some after) held new_held same items stand room settled = absurd cc
-settled_over_sessions (Some slots) (Some after) held new_held same items stand room settled = record {
-  objects = subst (λ (l : List Item). ObjectsStand after l []) (sym items)
-      (stand_over_sessions slots after held.objects.items [] (some_same same) stand.sound settled.objects);
+settled_over_sessions old None held new_held same view stand room settled = tt
+settled_over_sessions None (Some after) held new_held same view stand room settled = absurd cc
+settled_over_sessions (Some slots) (Some after) held new_held same view stand room settled = record {
+  objects = subst (λ (v : ObjectsView). ObjectsStand after v.items v.left) (sym view)
+      (stand_over_sessions slots after held.objects.items held.objects.left (some_same same) stand.sound settled.objects);
   sessions = stand;
   gap = room;
 }
@@ -204,7 +204,7 @@ stand_over_objects slots after view others same sound stand =
     (alike_same (get_or slots.sessions number inactive)))
 
 pub settled_over_objects : (old new : Option SlotState) (held new_held : Held) → objects.rest_of new ≡ objects.rest_of old
-    → new_held.sessions ≡ held.sessions → objects.Stand new new_held.objects.items [] → Settled old held → Settled new new_held
+    → new_held.sessions ≡ held.sessions → objects.Stand new new_held.objects.items new_held.objects.left → Settled old held → Settled new new_held
 settled_over_objects old None held new_held same view stand settled = tt
 settled_over_objects None (Some after) held new_held same view stand settled = absurd cc
 settled_over_objects (Some slots) (Some after) held new_held same view stand settled =

@@ -85,6 +85,12 @@ pub loses_session : (held : Held) (new_view : SessionsView) (n : ℕ) → new_vi
 loses_session held new_view n are =
     record { objects = λ index. inl refl; sessions = λ number. ended held.sessions.items new_view.items n are number }
 
+-- no object and no session
+pub loses_left : (held : Held) (new_view : ObjectsView) → new_view.items ≡ held.objects.items
+    → Loses held (record { objects = new_view; sessions = held.sessions })
+loses_left held new_view are =
+    record { objects = λ index. inl (ap (λ (l : List Item). item_at l index) are); sessions = λ number. inl refl }
+
 pub loses_object : (held : Held) (new_view : ObjectsView) (item : ℕ) → new_view.items ≡ set held.objects.items item no_item
     → Loses held (record { objects = new_view; sessions = held.sessions })
 loses_object held new_view item are =

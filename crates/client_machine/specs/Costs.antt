@@ -1,17 +1,16 @@
 -- What calls send at the most, and what stays in the device, by what is kept beside it: so over every device.
-use Rattle.std.specs.Prelude.{◌≡◌, ◌≤◌, ◌⊎◌, ℕ, ◌+◌, ◌*◌, nat_lt, true, List, Option, Some, None, is_some, if◌then◌else◌}
+use Rattle.std.specs.Prelude.{◌≡◌, ◌≤◌, ◌⊎◌, ℕ, ◌+◌, ◌*◌, ◌&&◌, nat_lt, true, List, Option, Some, None, if◌then◌else◌}
 use Rattle.std.specs.List.{count_by}
 use Rattle.tab_spec.specs.declared.TheConstants.{ACTIVE_SESSIONS, LOADED_SESSIONS}
 use Rattle.tab_spec.specs.declared.Admitted.{Admitted}
 use Rattle.client_laws.specs.Ready.{starts_session}
 use Rattle.device_port.specs.Device.{Seen, sent_of}
 use Rattle.object_swap.specs.Items as objects
-use Rattle.object_swap.specs.Items.{is_resident, is_vacant, residents}
+use Rattle.object_swap.specs.Items.{Item, is_client, is_resident, is_vacant, residents}
 use Rattle.session_swap.specs.Items as sessions
 use Rattle.session_swap.specs.Items.{is_loaded_item, is_owned, loaded_items}
 use Rattle.session_swap.specs.declared.TheConstants.{RENEWAL_GAP}
 use Rattle.client_machine.specs.declared.held.Held.{Held}
-use Rattle.client_machine.specs.Tables.{slot_handle}
 
 -- no more than so many commands were sent
 abbrev pub SendsUpTo : {D : Type 0} (seen : D → Seen) → ℕ → (old new : D) → Type 0
@@ -43,10 +42,13 @@ places_of a = if starts_session a then 1 else 0
 
 -- ---- a close
 
--- how many objects of a table are in slots
-abbrev pub residents_of : List objects.Item → List (Option ℕ) → ℕ
-residents_of items table = count_by (λ place. is_some (slot_handle items place)) table
+-- how many objects a client has, and how many of them are in slots
+abbrev pub own_objects : ℕ → List Item → ℕ
+own_objects client items = count_by (is_client client) items
 
--- what the close of a client with this table costs: a flush for each object of it that is in a slot, and for each session of the client
-abbrev pub close_bound : ℕ → Held → List (Option ℕ) → ℕ
-close_bound client held table = residents_of held.objects.items table + count_by (is_owned client) held.sessions.items
+abbrev pub own_residents : ℕ → List Item → ℕ
+own_residents client items = count_by (λ item. is_resident item && is_client client item) items
+
+-- what the close of a client costs: a flush for each of its objects that is in a slot, and for each of its sessions
+abbrev pub close_bound : ℕ → Held → ℕ
+close_bound client held = own_residents client held.objects.items + count_by (is_owned client) held.sessions.items

@@ -1,15 +1,16 @@
 -- What each step leaves while what a client has is dropped.
-use Rattle.std.specs.Prelude.{◌≡◌, ◌≤◌, ◌⊎◌, ℕ, ◌+◌, false, List, length, Option, Some, None, Result, IfErr}
+use Rattle.std.specs.Prelude.{◌≡◌, ◌≤◌, ◌⊎◌, ℕ, ◌+◌, false, List, length, Option, Some, None, Result, IfErr, OnErr}
 use Rattle.tab_spec.specs.Count.{largest_count}
 use Rattle.device_spec.specs.Answers.{IsRight, IsWrongAnswer}
 use Rattle.device_spec.specs.Slots.{SlotState}
-use Rattle.device_port.specs.Device.{Seen, asked_of, last_of}
+use Rattle.device_port.specs.Device.{Seen, asked_of, last_of, sent_of}
 use Rattle.session_swap.specs.Items.{Item, is_owned, item_at}
 use Rattle.world_spec.specs.World.{without_owner}
 use Rattle.client_machine.specs.declared.held.Held.{Held}
-use Rattle.client_machine.specs.Moves.{AreCounted, CountsOnBy, Keeps, KeepsObjectsOf, KeepsOwners, KeepsPersist, other_than}
+use Rattle.client_machine.specs.Costs.{own_objects, own_residents}
+use Rattle.client_machine.specs.Moves.{CountsOnBy, GainsNone, Keeps, KeepsObjectsOf, KeepsOwners, KeepsPersist, other_than}
 use Rattle.client_machine.specs.Settled.{Settled, orphan_count, sessions_in}
-use Rattle.client_machine.specs.Tables.{AreOpenOwners, IsTable}
+use Rattle.client_machine.specs.Tables.{AreOpenOwners}
 
 -- each that is left to nobody has a failed transmission of its own, where these are still counted
 abbrev pub AreLeftByFaults : (nobodys faults new_nobodys new_faults : ℕ) → Type 0
@@ -19,25 +20,27 @@ AreLeftByFaults nobodys faults new_nobodys new_faults = (new_nobodys + faults �
 abbrev pub KeepsOthers : ℕ → (items new_items : List (Option Item)) → Type 0
 KeepsOthers client items new_items = (number : ℕ) → is_owned client (item_at items number) ≡ false → item_at new_items number ≡ item_at items number
 
--- What can't be flushed is nobody's then. This holds of each step, also of one that met a wrong answer, whose code is the error
+-- What can't be flushed is nobody's then. This holds of each step, also of one that met a wrong answer: its code is the error, and no list of
+-- objects gets another owner
 pub record Disowns {D A : Type 0} (seen : D → Seen) (old new : D) (held new_held : Held) (result : Result A ℕ) : Type 0 where
   pub keeps : Keeps seen old new
   pub slots : new_held.objects.slots ≡ held.objects.slots
   pub length_is : length new_held.objects.items ≡ length held.objects.items
+  pub lists : OnErr result (new_held.objects.owners ≡ held.objects.owners)
   pub left : AreLeftByFaults (orphan_count held) (seen old).faults (orphan_count new_held) (seen new).faults
   pub err : IfErr result (λ code. IsWrongAnswer (asked_of (seen new)) (last_of (seen new)) code × ((seen new).state ≡ None))
 
--- A client has the one table before and the other after it, and so many of its objects and sessions are left to nobody since their
--- flush failed.
+-- A client loses objects and sessions, of which so many are left to nobody since their flush failed. These are the owners of the lists of
+-- objects then.
 pub record Drops {D : Type 0} (seen : D → Seen)
-    (client : ℕ) (old new : D) (held new_held : Held) (table new_table : List (Option ℕ)) (failed : ℕ) : Type 0 where
+    (client : ℕ) (old new : D) (held new_held : Held) (owners_after : List (Option ℕ)) (failed : ℕ) : Type 0 where
   pub keeps : Keeps seen old new
   pub settled : Settled (seen new).state new_held
   pub counts : CountsOnBy 0 (seen old).state (seen new).state
   pub others : KeepsOwners (other_than client) held.objects.items new_held.objects.items
+  pub gained : GainsNone (other_than client) held.objects.items new_held.objects.items
   pub other_objects : KeepsObjectsOf (other_than client) (seen old).state (seen new).state held.objects.items new_held.objects.items
-  pub own_table : IsTable new_held.objects.items client new_table
-  pub counted : AreCounted held.objects.items new_held.objects.items table new_table
+  pub lists : new_held.objects.owners ≡ owners_after
   pub other_sessions : (slots after : SlotState) → (seen old).state ≡ Some slots → (seen new).state ≡ Some after
       → without_owner client (sessions_in after new_held.sessions.items) ≡ without_owner client (sessions_in slots held.sessions.items)
   pub owners : (present : List ℕ) → AreOpenOwners present held.sessions.items → AreOpenOwners present new_held.sessions.items
@@ -49,3 +52,12 @@ pub record Drops {D : Type 0} (seen : D → Seen)
   pub right : (new ≡ old) ⊎ IsRight (asked_of (seen new)) (last_of (seen new))
   pub slots : new_held.objects.slots ≡ held.objects.slots
   pub length_is : length new_held.objects.items ≡ length held.objects.items
+
+-- one object of the client's
+pub record DropsOne {D : Type 0} (seen : D → Seen) (client : ℕ) (old new : D) (held new_held : Held) : Type 0 where
+  pub failed : ℕ
+  pub drops : Drops seen client old new held new_held held.objects.owners failed
+  pub fewer : own_objects client new_held.objects.items + 1 ≡ own_objects client held.objects.items
+  -- a command is sent only where one fewer of them is in a slot then
+  pub costs : sent_of (seen new) + own_residents client new_held.objects.items
+      ≤ sent_of (seen old) + own_residents client held.objects.items

@@ -20,19 +20,19 @@ use Rattle.device_spec.specs.ContextCommands.{flush_context_command}
 use Rattle.device_spec.specs.Slots.{SlotState, is_free}
 use Rattle.client_laws.specs.Ready.{ends_session, is_sent, named_sessions, sent_for, starts_session, tells_object, tells_session}
 use Rattle.object_swap.specs.Items as objects
-use Rattle.object_swap.specs.Items.{Item, Names, is_orphan, is_vacant, item_at, item_object, keeps_context, new_item}
+use Rattle.object_swap.specs.Items.{Item, Names, is_vacant, item_at, item_object, keeps_context, new_item}
 use Rattle.session_swap.specs.Items as sessions
 use Rattle.session_swap.specs.Items.{AreLoaded, IsNarrow, context_number, gap_in, gap_kept, has_owner, saved_by_client}
 use Rattle.session_swap.specs.declared.TheConstants.{RENEWAL_GAP}
 use Rattle.history_spec.specs.declared.Pick.{Pick}
 use Rattle.history_spec.specs.declared.Pick.TheVariants as picks
-use Rattle.history_spec.specs.Table.{count_held, held_under, is_full, next_handle, put_least}
+use Rattle.history_spec.specs.Table.{held_under, is_full, next_handle, put_least}
 use Rattle.world_spec.specs.World.{ClientState, ClientStep, client_step, flush_handle}
 use Rattle.client_machine.specs.declared.held.Held.{Held}
 use Rattle.client_machine.specs.Costs.{SendsUpTo, StaysIn, new_bound, places_of}
 use Rattle.client_machine.specs.Replies.{own_answer, reply_of, sessions_given}
 use Rattle.client_machine.specs.Settled.{AreBelow, Sequences, Settled, most_contexts, orphan_count, sessions_in}
-use Rattle.client_machine.specs.Tables.{AreOpenOwners, IsPlaced, IsTable, device_handle, flush_fault_of, flush_sent, flushed_handle, flushed_sessions, flushed_table, held_items, is_open, objects_in, owned_handles, sessions_without, table_with, table_without, tables_had}
+use Rattle.client_machine.specs.Tables.{AreOpenOwners, IsPlaced, IsTable, device_handle, flush_fault_of, flush_sent, flushed_handle, flushed_sessions, flushed_table, is_open, objects_in, owned_handles, sessions_without, table_with, table_without, tables_had}
 
 -- what each call keeps of a device: what its history began from, and whether it tells its state. Its fault count never falls
 pub record Keeps {D : Type 0} (seen : D → Seen) (old new : D) : Type 0 where
@@ -79,6 +79,11 @@ KeepsOwners whose items new_items =
     (index owner : ℕ) → Names items index → (item_at items index).client ≡ Some owner → whose owner ≡ true
     → Names new_items index × ((item_at new_items index).client ≡ Some owner)
 
+-- and they have no more
+abbrev pub GainsNone : (ℕ → Bool) → List Item → List Item → Type 0
+GainsNone whose items new_items =
+    (index owner : ℕ) → (item_at new_items index).client ≡ Some owner → whose owner ≡ true → (item_at items index).client ≡ Some owner
+
 -- and what they are, where the device tells its state
 abbrev pub KeepsObjectsOf : (ℕ → Bool) → Option SlotState → Option SlotState → List Item → List Item → Type 0
 KeepsObjectsOf whose old_state new_state items new_items =
@@ -98,11 +103,6 @@ abbrev pub KeepsPersist : Option SlotState → Option SlotState → Type 0
 KeepsPersist old_state new_state =
     (slots new : SlotState) → old_state ≡ Some slots → new_state ≡ Some new → new.persist ≡ slots.persist
 
--- each object that goes is one of this table's or nobody's
-abbrev pub AreCounted : List Item → List Item → (table new_table : List (Option ℕ)) → Type 0
-AreCounted items new_items table new_table =
-    held_items new_items + count_held table + count_by is_orphan items ≡ held_items items + count_held new_table + count_by is_orphan new_items
-
 -- the numbers of contexts never fall, and rise by so many at most; in one call by fewer than that
 pub record CountsOnBy (most : ℕ) (old_state new_state : Option SlotState) : Type 0 where
   pub objects_rise : objects.counter_of old_state ≤ objects.counter_of new_state
@@ -113,16 +113,16 @@ pub record CountsOnBy (most : ℕ) (old_state new_state : Option SlotState) : Ty
 abbrev pub CountsOn : (old_state new_state : Option SlotState) → Type 0
 CountsOn old_state new_state = CountsOnBy most_contexts old_state new_state
 
--- a call for one client, which had the one table before and has the other after it
-pub record Moves {D : Type 0} (seen : D → Seen) (client : ℕ) (old new : D)
-    (held new_held : Held) (table new_table : List (Option ℕ)) : Type 0 where
+-- a call for one client, which has this table after it. Whose the lists of objects are stays
+pub record Moves {D : Type 0} (seen : D → Seen) (client : ℕ) (old new : D) (held new_held : Held) (new_table : List (Option ℕ)) : Type 0 where
   pub keeps : Keeps seen old new
   pub settled : Settled (seen new).state new_held
   pub counts : CountsOn (seen old).state (seen new).state
   pub others : KeepsOwners (other_than client) held.objects.items new_held.objects.items
+  pub gained : GainsNone (other_than client) held.objects.items new_held.objects.items
   pub other_objects : KeepsObjectsOf (other_than client) (seen old).state (seen new).state held.objects.items new_held.objects.items
   pub own_table : IsTable new_held.objects.items client new_table
-  pub counted : AreCounted held.objects.items new_held.objects.items table new_table
+  pub lists : new_held.objects.owners ≡ held.objects.owners
   -- a session is that of an open client, or nobody's, and no more is nobody's
   pub owners : (present : List ℕ) → is_open client present ≡ true → AreOpenOwners present held.sessions.items
       → AreOpenOwners present new_held.sessions.items
@@ -168,13 +168,14 @@ pub record Prepares {D : Type 0} (contexts : ℕ) (seen : D → Seen) (old new :
   pub keeps : Keeps seen old new
   pub counts : CountsOnBy contexts (seen old).state (seen new).state
   pub owners : KeepsOwners any_client held.objects.items new_held.objects.items
+  pub gained : GainsNone any_client held.objects.items new_held.objects.items
+  pub lists : new_held.objects.owners ≡ held.objects.owners
   pub objects : KeepsObjectsOf any_client (seen old).state (seen new).state held.objects.items new_held.objects.items
   pub session_owners : owned_handles new_held.sessions.items ≡ owned_handles held.sessions.items
   pub sessions : (slots after : SlotState) → (seen old).state ≡ Some slots → (seen new).state ≡ Some after
       → sessions_in after new_held.sessions.items ≡ sessions_in slots held.sessions.items
   pub persist : KeepsPersist (seen old).state (seen new).state
   pub settled : Settled (seen new).state new_held
-  pub counted : AreCounted held.objects.items new_held.objects.items [] []
   pub vacant : list_any is_vacant held.objects.items ≡ true → list_any is_vacant new_held.objects.items ≡ true
   pub gone : StaysGone held new_held
   pub orphans : orphan_count new_held ≤ orphan_count held
@@ -184,8 +185,7 @@ pub record Prepares {D : Type 0} (contexts : ℕ) (seen : D → Seen) (old new :
 -- what was nobody's was flushed, and what is a client's stays where it is. Where nothing was nobody's, nothing changes
 pub record Clears {D : Type 0} (seen : D → Seen) (old new : D) (held new_held : Held) : Type 0 where
   pub prepared : Prepares 0 seen old new held new_held
-  pub objects : (index owner : ℕ) → (item_at held.objects.items index).client ≡ Some owner
-      → item_at new_held.objects.items index ≡ item_at held.objects.items index
+  pub objects : new_held.objects ≡ record held.objects { left = new_held.objects.left }
   pub sessions : (number : ℕ) → sessions.is_orphan (sessions.item_at held.sessions.items number) ≡ false
       → sessions.item_at new_held.sessions.items number ≡ sessions.item_at held.sessions.items number
   pub loses : Loses held new_held
@@ -208,7 +208,7 @@ pub record Stays (old_state new_state : Option SlotState) (held new_held : Held)
 -- a call for one client that ends with this result
 pub record Serves {D A : Type 0} (seen : D → Seen) (client : ℕ) (old new : D)
     (held new_held : Held) (table new_table : List (Option ℕ)) (result : Result A SwapError) : Type 0 where
-  pub moves : Moves seen client old new held new_held table new_table
+  pub moves : Moves seen client old new held new_held new_table
   -- nothing was sent, or the last response was taken
   pub right : OnOk result ((new ≡ old) ⊎ IsRight (asked_of (seen new)) (last_of (seen new)))
   pub stays : OnErr result (Stays (seen old).state (seen new).state held new_held table new_table)
@@ -228,7 +228,7 @@ told_handle reply = from_be_bytes w32 (take 4 (drop 10 reply))
 -- the object that a response tells can be held for its client
 pub record MayAdopt (view : objects.ObjectsView) (table : List (Option ℕ)) (spare : ℕ) (reply : List ℕ) : Type 0 where
   pub vacant : list_any is_vacant view.items ≡ true
-  pub slot : objects.residents view.items < view.slots
+  pub slot : objects.residents view.items + length view.left < view.slots
   pub room : 1 ≤ spare
   pub few : is_full table ≡ false
   pub long : 14 ≤ length reply

@@ -1,10 +1,9 @@
 -- The device, and the objects and the sessions beside it, are settled between two calls.
-use Rattle.std.specs.Prelude.{◌≤◌, ℕ, ◌+◌, List, [], map, Option, Some, None, IfSome}
+use Rattle.std.specs.Prelude.{◌≤◌, ℕ, ◌+◌, List, [], length, map, Option, Some, None, IfSome}
 use Rattle.std.specs.List.{count_by}
 use Rattle.tab_spec.specs.Session.{Session}
 use Rattle.tab_spec.specs.Shape.{octet_of}
 use Rattle.device_spec.specs.Slots.{SlotState}
-use Rattle.object_swap.specs.Items as objects
 use Rattle.object_swap.specs.Items.{ObjectsStand}
 use Rattle.session_swap.specs.Items as sessions
 use Rattle.session_swap.specs.Items.{HasGapRoom, SessionsStand, SessionsView, item_session}
@@ -22,10 +21,11 @@ call_contexts = 2000
 abbrev pub swap_contexts : ℕ
 swap_contexts = 1000
 
--- between two calls each object stands in a slot or in a context, and each session in a place or in a context. Each slot and each
--- session number that is taken is that of one of them. The gap leaves room for what the next call saves
+-- between two calls each object stands in a slot or in a context, and each session in a place or in a context. Each slot that is taken
+-- is that of one object, a client's or nobody's, and each session number that is taken that of one session. The gap leaves room for what
+-- the next call saves
 pub record IsSettled (slots : SlotState) (held : Held) : Type 0 where
-  pub objects : ObjectsStand slots held.objects.items []
+  pub objects : ObjectsStand slots held.objects.items held.objects.left
   pub sessions : SessionsStand slots held.sessions []
   pub gap : HasGapRoom (Some slots)
 
@@ -35,9 +35,9 @@ Settled state held = IfSome state (λ slots. IsSettled slots held)
 
 -- ---- what closed clients left
 
--- how many objects of nobody are in slots, and sessions of nobody
+-- how many objects of nobody there are, which are in slots, and how many sessions
 abbrev pub orphan_count : Held → ℕ
-orphan_count held = count_by objects.is_orphan held.objects.items + count_by sessions.is_orphan held.sessions.items
+orphan_count held = length held.objects.left + count_by sessions.is_orphan held.sessions.items
 
 -- ---- the sessions of the world
 

@@ -1,5 +1,5 @@
 -- The table of a client: which item stands for each handle of an object that it has. And whose each session is.
-use Rattle.std.specs.Prelude.{◌≡◌, ◌≤◌, ℕ, ◌==◌, not, Bool, true, false, List, length, map, set, Option, Some, None, is_some, IfSome, Result, Ok, Err, if◌then◌else◌}
+use Rattle.std.specs.Prelude.{◌≡◌, ◌≤◌, ℕ, ◌==◌, Bool, true, false, List, length, map, set, Option, Some, None, is_some, IfSome, Result, Ok, Err, if◌then◌else◌}
 use Rattle.std.specs.List.{AllByRecursion, count_by, list_any}
 use Rattle.tab_spec.specs.declared.TheConstants.{HT_TRANSIENT}
 use Rattle.tab_spec.specs.Admission.{Tables}
@@ -8,7 +8,7 @@ use Rattle.tab_spec.specs.Shape.{number_of_session, octet_of}
 use Rattle.device_spec.specs.Slots.{SlotState}
 use Rattle.session_swap.specs.Items as sessions
 use Rattle.session_swap.specs.Items.{is_owner, is_user, owner_in}
-use Rattle.object_swap.specs.Items.{Item, Names, handle_in, is_vacant, item_at, item_object}
+use Rattle.object_swap.specs.Items.{Item, Names, handle_in, item_at, item_object}
 use Rattle.history_spec.specs.declared.TheConstants.{CLIENT_OBJECTS}
 use Rattle.history_spec.specs.Table.{count_held, held_under, is_full, put_least, without_handle}
 use Rattle.world_spec.specs.World.{flush_fault}
@@ -41,10 +41,11 @@ abbrev pub IsPlaceOf : ℕ → List Item → Option ℕ → Type 0
 IsPlaceOf client items None = Unit {0}
 IsPlaceOf client items (Some index) = Names items index × ((item_at items index).client ≡ Some client)
 
--- a client's table: it names objects of the client, each once, under no more numbers than a client may have objects
+-- a client's table: it names the objects of the client, each once, under no more numbers than a client may have objects
 pub record IsTable (items : List Item) (client : ℕ) (table : List (Option ℕ)) : Type 0 where
   pub named : AllByRecursion (λ place. IsPlaceOf client items place) table
   pub apart : (index : ℕ) → naming_in index table ≤ 1
+  pub all : (index : ℕ) → (item_at items index).client ≡ Some client → 1 ≤ naming_in index table
   pub few : count_held table ≤ CLIENT_OBJECTS
   pub short : length table ≤ CLIENT_OBJECTS
 
@@ -74,10 +75,6 @@ owned_handle (Some item) = with_owner item.client item.handle item.handed
 
 abbrev pub owned_handles : List (Option sessions.Item) → List (Option OwnedHandle)
 owned_handles sessions = map owned_handle sessions
-
--- how many objects there are
-abbrev pub held_items : List Item → ℕ
-held_items items = count_by (λ item. not (is_vacant item)) items
 
 -- ---- objects
 

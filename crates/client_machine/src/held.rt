@@ -1,4 +1,4 @@
-ghost use Rattle.std.specs.Prelude.{◌≡◌, ◌≤◌, ◌^◌, length};
+ghost use Rattle.std.specs.Prelude.{◌≡◌};
 ghost use Rattle.client_machine.specs.Settled.{orphan_count};
 
 use object_swap::Objects;
@@ -15,9 +15,8 @@ pub struct Held {
 impl Held {
     /// How many objects and sessions are nobody's.
     pub fn orphans(&self) -> u32
-        requires { length self.now.objects.items ≤ 2 ^ 31 }
         ensures { result ≡ orphan_count self.now }
     {
-        self.objects.orphans() + u32::from(self.sessions.orphans())
+        u32::from(self.objects.orphans()) + u32::from(self.sessions.orphans())
     }
 }

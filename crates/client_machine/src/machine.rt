@@ -1,5 +1,5 @@
-ghost use Rattle.std.specs.Prelude.{◌≡◌, ◌==◌, ◌⊎◌, ◌≤◌, ◌+◌, ◌++◌, ◌∷◌, ℕ, true, false, Bool};
-ghost use Rattle.std.specs.Prelude.{List, Option, None, Ok, [], length, IfOk, IfErr, IfSome, OnOk};
+ghost use Rattle.std.specs.Prelude.{◌≡◌, ◌==◌, ◌⊎◌, ◌≤◌, ◌+◌, ◌*◌, ◌++◌, ◌∷◌, ℕ, true, false, Bool};
+ghost use Rattle.std.specs.Prelude.{Some, None, Ok, [], length, set, IfOk, IfErr, IfSome, OnOk};
 ghost use Rattle.std.specs.Prelude.{OnErr};
 ghost use Rattle.std.specs.List.{count_by, list_any};
 ghost use Rattle.tab_spec.specs.declared.TheConstants.{ACTIVE_SESSIONS, CC_FLUSH_CONTEXT};
@@ -9,16 +9,15 @@ ghost use Rattle.tab_spec.specs.Admission.{client_admitted};
 ghost use Rattle.tab_spec.specs.Frame.{is_frame};
 ghost use Rattle.tab_spec.specs.Reply.{with_response_handle};
 ghost use Rattle.tab_spec.specs.Shape.{makes_object_by, number_of_session};
-ghost use Rattle.device_port.specs.Device.{sent_of};
 ghost use Rattle.device_spec.specs.Answers.{takes};
 ghost use Rattle.device_spec.specs.Slots.{slot_step};
-ghost use Rattle.object_swap.specs.Items.{is_vacant, no_item};
+ghost use Rattle.object_swap.specs.Items as objects;
+ghost use Rattle.object_swap.specs.Items.{HasNone, is_vacant, no_item, owner_at};
 ghost use Rattle.object_swap.specs.declared.TheConstants.{PLACES_MOST};
 ghost use Rattle.session_swap.specs.Items.{Names, is_owned, is_owner, item_at, owner_in};
 ghost use Rattle.client_laws.specs.Ready as ready;
 ghost use Rattle.client_laws.specs.Ready.{is_sent};
-ghost use Rattle.history_spec.specs.declared.TheConstants.{CLIENT_OBJECTS};
-ghost use Rattle.history_spec.specs.Table.{count_held, next_handle};
+ghost use Rattle.history_spec.specs.Table.{next_handle};
 ghost use Rattle.world_spec.specs.World.{flush_handle, without_named};
 ghost use Rattle.client_machine.specs.Moves as moves;
 ghost use Rattle.client_machine.specs.Moves.{Adopts, CarriesOut, Flushes, HasRoomFor, IsAtHand};
@@ -26,8 +25,8 @@ ghost use Rattle.client_machine.specs.Moves.{IsCalm, IsTaken, IsUnflushed, IsUnt
 ghost use Rattle.client_machine.specs.Moves.{MayAdopt, MayFlush, MayMove, MayStart, Serves};
 ghost use Rattle.client_machine.specs.Moves.{moves_for, number_taken, order_after};
 ghost use Rattle.client_machine.specs.Moves.{saved_list_after, saves_session, sessions_held_after};
-ghost use Rattle.client_machine.specs.Costs.{SendsUpTo, close_bound, residents_of};
-ghost use Rattle.client_machine.specs.Dropping.{Disowns, Drops, KeepsOthers};
+ghost use Rattle.client_machine.specs.Costs.{SendsUpTo, close_bound, own_objects, own_residents};
+ghost use Rattle.client_machine.specs.Dropping.{Disowns, Drops, DropsOne, KeepsOthers};
 ghost use Rattle.client_machine.specs.Settled.{Settled, call_contexts, orphan_count};
 ghost use Rattle.client_machine.specs.Tables.{IsTable, flush_fault_of, tables_had, tables_seen};
 
@@ -38,14 +37,16 @@ use crate::seen::Seen;
 use device_port::{Device, DeviceFailed, SwapError, takes};
 use fx_sessions::is_continued;
 use history_spec::Pick;
-use object_swap::Objects;
+use linked_records::Steps;
+use object_swap::{Objects, Uncounted, Visits};
 use session_swap::Sessions;
 use std::alloc::AllocError;
+use std::sync::ledger::Ledger;
 use tab_bytes::{Buffer, Reader};
 use tab_spec::{
     Admitted, CC_CONTEXT_LOAD, CC_CONTEXT_SAVE, CC_FLUSH_CONTEXT, CC_START_AUTH_SESSION,
     HEADER_BYTES, HT_TRANSIENT, RC_HANDLE, RC_INSUFFICIENT, RC_SUCCESS, RC_VALUE, ST_NO_SESSIONS,
-    ST_SESSIONS, TRANSIENT_FIRST,
+    ST_SESSIONS,
 };
 use tab_values::{end_parameters, in_parameter};
 use tab_wire::{
@@ -205,17 +206,21 @@ pub fn pick_of(admitted: &Admitted, reply: &[u8]) -> Pick
 
 // Holds a client's new object, whose handle in the device a response tells, and writes the client's
 // own handle into it.
-fn adopt(objects: &mut Objects, table: &mut ClientTable, client: u32, reply: &mut Buffer)
-    requires { MayAdopt objects.old table.old.items table.old.spare reply.old }
+fn adopt(objects: &mut Objects, table: &mut ClientTable, client: u32, list: u32, reply: &mut Buffer)
+    requires list { owner_at objects.old.owners list ≡ Some client }
+    requires may { MayAdopt objects.old table.old.items table.old.spare reply.old }
     // The item is the last in the order of use.
     ensures adopted { (adopts : Adopts client (moves.told_handle reply.old) objects.old.items
         objects.new.items table.old.items table.new.items)
         × (objects.new.order ≡ objects.old.order ++ adopts.item ∷ []) }
-    ensures slots { objects.new.slots ≡ objects.old.slots }
+    ensures rest { objects.new ≡ record objects.old {
+      items = objects.new.items;
+      order = objects.new.order;
+    } }
     ensures reply { reply.new ≡ with_response_handle reply.old (next_handle table.old.items) }
 {
     let handle = told_handle(reply.as_slice());
-    let item = objects.adopt(client, handle);
+    let item = objects.adopt(client, list, handle);
     let own = table.add(item);
     set_response_handle(reply, own);
 }
@@ -310,6 +315,7 @@ impl<D: Device> Machine<D> {
         &mut self,
         table: &mut ClientTable,
         client: u32,
+        list: u32,
         admitted: &Admitted,
         bytes: &[u8],
         reply: &mut Buffer,
@@ -319,6 +325,7 @@ impl<D: Device> Machine<D> {
         requires params { admitted.now.auths.params ≤ length bytes.now }
         requires room { HasRoomFor admitted.now bytes.now
             table.old.spare self.old.held.objects.items }
+        requires list { owner_at self.old.held.objects.owners list ≡ Some client }
         requires table { IsTable self.old.held.objects.items client table.old.items }
         requires may { MayMove call_contexts D.seen self.old.device self.old.held }
         ensures serves { Serves D.seen client self.old.device self.new.device self.old.held
@@ -347,7 +354,7 @@ impl<D: Device> Machine<D> {
         ) {
             return Ok(());
         }
-        self.run(table, client, admitted, bytes, reply)
+        self.run(table, client, list, admitted, bytes, reply)
     }
 
     // Runs a client's command that was admitted, and that is sent. ContextSave of a session goes by
@@ -356,6 +363,7 @@ impl<D: Device> Machine<D> {
         &mut self,
         table: &mut ClientTable,
         client: u32,
+        list: u32,
         admitted: &Admitted,
         bytes: &[u8],
         reply: &mut Buffer,
@@ -365,6 +373,7 @@ impl<D: Device> Machine<D> {
         requires sort { is_sent admitted.now bytes.now ≡ true }
         requires room { HasRoomFor admitted.now bytes.now
             table.old.spare self.old.held.objects.items }
+        requires list { owner_at self.old.held.objects.owners list ≡ Some client }
         requires table { IsTable self.old.held.objects.items client table.old.items }
         requires may { MayMove call_contexts D.seen self.old.device self.old.held }
         ensures serves { Serves D.seen client self.old.device self.new.device self.old.held
@@ -404,7 +413,7 @@ impl<D: Device> Machine<D> {
         )?;
         keep_sessions(&mut self.held.sessions, client, admitted, reply.as_slice());
         if tells_object(admitted, reply.as_slice()) {
-            adopt(&mut self.held.objects, table, client, reply);
+            adopt(&mut self.held.objects, table, client, list, reply);
         }
         Ok(())
     }
@@ -496,35 +505,88 @@ impl<D: Device> Machine<D> {
         Ok(())
     }
 
-    /// Drops all that a client has: each session, and each object that is in a slot, is flushed
-    /// (Part 3, "TPM2_FlushContext"). What can't be flushed is nobody's then; how much that is. An
-    /// error is the code of a wrong answer.
-    pub fn drop_all(&mut self, table: ClientTable, client: u32) -> Result<u32, u32>
-        requires table { IsTable self.old.held.objects.items client table.items }
+    /// Drops all that the client of a list has: each session, and each object that is in a slot, is
+    /// flushed (Part 3, "TPM2_FlushContext"). What can't be flushed is nobody's then; how much that
+    /// is. Its list is nobody's too. An error is the code of a wrong answer.
+    pub fn drop_all(&mut self, client: u32, list: u32) -> Result<u32, u32>
+        requires list { owner_at self.old.held.objects.owners list ≡ Some client }
         requires may { MayMove call_contexts D.seen self.old.device self.old.held }
         ensures ok { IfOk result (λ failed. Drops D.seen client self.old.device self.new.device
-            self.old.held self.new.held table.items [] failed) }
-        ensures none { OnOk result
-            (list_any (is_owned client) self.new.held.sessions.items ≡ false) }
+            self.old.held self.new.held (set self.old.held.objects.owners list None) failed) }
+        ensures none { OnOk result (HasNone self.new.held.objects.items client
+            × (list_any (is_owned client) self.new.held.sessions.items ≡ false)) }
         ensures others { KeepsOthers client self.old.held.sessions.items
             self.new.held.sessions.items }
         // Each that is left has a failed transmission of its own, also after a wrong answer.
         ensures disowns { Disowns D.seen self.old.device self.new.device self.old.held
             self.new.held result }
-        ensures costs { SendsUpTo D.seen (close_bound client self.old.held table.items)
+        ensures costs { SendsUpTo D.seen (close_bound client self.old.held)
             self.old.device self.new.device }
     {
+        self.drop_all_by(client, list, &mut Uncounted)
+    }
+
+    /// `drop_all`, which visits six records at most for each object of the client.
+    pub fn drop_all_counted<L: Ledger>(
+        &mut self,
+        client: u32,
+        list: u32,
+        steps: &mut Steps<L>,
+    ) -> Result<u32, u32>
+        requires list { owner_at self.old.held.objects.owners list ≡ Some client }
+        requires may { MayMove call_contexts D.seen self.old.device self.old.held }
+        ensures ok { IfOk result (λ failed. Drops D.seen client self.old.device self.new.device
+            self.old.held self.new.held (set self.old.held.objects.owners list None) failed) }
+        ensures none { OnOk result (HasNone self.new.held.objects.items client
+            × (list_any (is_owned client) self.new.held.sessions.items ≡ false)) }
+        ensures others { KeepsOthers client self.old.held.sessions.items
+            self.new.held.sessions.items }
+        // Each that is left has a failed transmission of its own, also after a wrong answer.
+        ensures disowns { Disowns D.seen self.old.device self.new.device self.old.held
+            self.new.held result }
+        ensures costs { SendsUpTo D.seen (close_bound client self.old.held)
+            self.old.device self.new.device }
+        ensures steps { steps.new
+            ≤ steps.old + 6 * own_objects client self.old.held.objects.items }
+    {
+        self.drop_all_by(client, list, steps)
+    }
+}
+
+impl<D: Device> Machine<D> {
+    /// `drop_all`, which tells what it visits.
+    pub fn drop_all_by<C: Visits>(
+        &mut self,
+        client: u32,
+        list: u32,
+        steps: &mut C,
+    ) -> Result<u32, u32>
+        requires list { owner_at self.old.held.objects.owners list ≡ Some client }
+        requires may { MayMove call_contexts D.seen self.old.device self.old.held }
+        ensures ok { IfOk result (λ failed. Drops D.seen client self.old.device self.new.device
+            self.old.held self.new.held (set self.old.held.objects.owners list None) failed) }
+        ensures none { OnOk result (HasNone self.new.held.objects.items client
+            × (list_any (is_owned client) self.new.held.sessions.items ≡ false)) }
+        ensures others { KeepsOthers client self.old.held.sessions.items
+            self.new.held.sessions.items }
+        ensures disowns { Disowns D.seen self.old.device self.new.device self.old.held
+            self.new.held result }
+        ensures costs { SendsUpTo D.seen (close_bound client self.old.held)
+            self.old.device self.new.device }
+        ensures steps { C.count steps.new
+            ≤ C.count steps.old + 6 * own_objects client self.old.held.objects.items }
+    {
         let of_sessions = self.drop_sessions(client)?;
-        let of_objects = self.drop_objects(table, client)?;
-        Ok(of_sessions + of_objects)
+        let of_objects = self.drop_objects(list, steps)?;
+        self.held.objects.end_client(list);
+        Ok(of_sessions + u32::from(of_objects))
     }
 
     // The sessions of a client.
     fn drop_sessions(&mut self, client: u32) -> Result<u32, u32>
         requires may { MayMove call_contexts D.seen self.old.device self.old.held }
-        ensures ok { IfOk result (λ failed. (table : List (Option ℕ))
-            → IsTable self.old.held.objects.items client table → Drops D.seen client self.old.device
-            self.new.device self.old.held self.new.held table table failed) }
+        ensures ok { IfOk result (λ failed. Drops D.seen client self.old.device self.new.device
+            self.old.held self.new.held self.old.held.objects.owners failed) }
         ensures none { OnOk result
             (list_any (is_owned client) self.new.held.sessions.items ≡ false) }
         ensures few { IfOk result (λ failed. failed ≤ ACTIVE_SESSIONS) }
@@ -552,10 +614,10 @@ impl<D: Device> Machine<D> {
         requires named { Names self.old.held.sessions.items handle }
         requires slots { self.old.held.objects.slots ≡ OBJECT_SLOTS }
         requires settled { Settled (D.seen self.old.device).state self.old.held }
-        ensures ok { IfOk result (λ failed. (client : ℕ) (table : List (Option ℕ))
+        ensures ok { IfOk result (λ failed. (client : ℕ)
             → is_owner client (owner_in self.old.held.sessions.items handle) ≡ true
-            → IsTable self.old.held.objects.items client table → Drops D.seen client self.old.device
-            self.new.device self.old.held self.new.held table table failed) }
+            → Drops D.seen client self.old.device self.new.device self.old.held self.new.held
+            self.old.held.objects.owners failed) }
         ensures count { OnOk result
             ((client : ℕ) → is_owner client (owner_in self.old.held.sessions.items handle) ≡ true
             → count_by (is_owned client) self.new.held.sessions.items + 1
@@ -584,63 +646,66 @@ impl<D: Device> Machine<D> {
         }
     }
 
-    // The objects of a client, which has this table.
-    fn drop_objects(&mut self, table: ClientTable, client: u32) -> Result<u32, u32>
-        requires table { IsTable self.old.held.objects.items client table.items }
+    // The objects of the client of a list. It returns how many flushes failed.
+    fn drop_objects<C: Visits>(&mut self, list: u32, steps: &mut C) -> Result<u8, u32>
+        requires list { (client : ℕ) × (owner_at self.old.held.objects.owners list ≡ Some client) }
         requires slots { self.old.held.objects.slots ≡ OBJECT_SLOTS }
         requires settled { Settled (D.seen self.old.device).state self.old.held }
-        ensures ok { IfOk result (λ failed. Drops D.seen client self.old.device self.new.device
-            self.old.held self.new.held table.items [] failed) }
-        ensures few { IfOk result (λ failed. failed ≤ CLIENT_OBJECTS) }
-        ensures rest { self.new.held.sessions ≡ self.old.held.sessions }
+        ensures ok { IfOk result (λ failed. (client : ℕ)
+            → owner_at self.old.held.objects.owners list ≡ Some client
+            → Drops D.seen client self.old.device self.new.device self.old.held self.new.held
+            self.old.held.objects.owners failed) }
+        ensures none { OnOk result ((client : ℕ)
+            → owner_at self.old.held.objects.owners list ≡ Some client
+            → HasNone self.new.held.objects.items client) }
+        ensures rest { (self.new.held.sessions ≡ self.old.held.sessions)
+            × (self.new.held.objects.owners ≡ self.old.held.objects.owners) }
         // Each that is left has a failed transmission of its own, also after a wrong answer.
         ensures disowns { Disowns D.seen self.old.device self.new.device self.old.held
             self.new.held result }
-        ensures costs { SendsUpTo D.seen (residents_of self.old.held.objects.items table.items)
+        ensures costs { (client : ℕ) → owner_at self.old.held.objects.owners list ≡ Some client
+            → SendsUpTo D.seen (own_residents client self.old.held.objects.items)
             self.old.device self.new.device }
+        ensures steps { (client : ℕ) → owner_at self.old.held.objects.owners list ≡ Some client
+            → C.count steps.new
+            ≤ C.count steps.old + 6 * own_objects client self.old.held.objects.items }
     {
-        let mut table = table;
-        let mut failed = 0;
-        for _number in 0..table.len() {
-            failed += self.drop_object(&mut table)?;
+        let before = self.held.objects.orphans();
+        while let Some(item) = self.held.objects.first_by(list, steps) {
+            self.drop_object(item, steps)?;
         }
-        Ok(failed)
+        Ok(self.held.objects.orphans() - before)
     }
 
-    // The object of the least handle of a client's table, which it leaves. It returns how many
-    // flushes failed, 0 or 1.
-    fn drop_object(&mut self, table: &mut ClientTable) -> Result<u32, u32>
-        requires some { 1 ≤ count_held table.old.items }
-        requires table { (client : ℕ) × IsTable self.old.held.objects.items client table.old.items }
+    // One object, which is a client's. Where its flush failed it is nobody's.
+    fn drop_object<C: Visits>(&mut self, item: u32, steps: &mut C) -> Result<(), u32>
+        requires named { objects.Names self.old.held.objects.items item }
         requires slots { self.old.held.objects.slots ≡ OBJECT_SLOTS }
         requires settled { Settled (D.seen self.old.device).state self.old.held }
-        ensures ok { IfOk result
-            (λ failed. (client : ℕ) → IsTable self.old.held.objects.items client table.old.items
-            → Drops D.seen client self.old.device self.new.device self.old.held self.new.held
-            table.old.items table.new.items failed) }
-        ensures count { OnOk result (count_held table.new.items + 1 ≡ count_held table.old.items) }
-        ensures few { IfOk result (λ failed. failed ≤ 1) }
-        ensures rest { self.new.held.sessions ≡ self.old.held.sessions }
+        ensures ok { OnOk result ((client : ℕ)
+            → (objects.item_at self.old.held.objects.items item).client ≡ Some client
+            → DropsOne D.seen client self.old.device self.new.device
+            self.old.held self.new.held) }
+        ensures rest { (self.new.held.sessions ≡ self.old.held.sessions)
+            × (self.new.held.objects.owners ≡ self.old.held.objects.owners) }
         // Each that is left has a failed transmission of its own, also after a wrong answer.
         ensures disowns { Disowns D.seen self.old.device self.new.device self.old.held
             self.new.held result }
-        // A command is sent only where the table has one object fewer then that is in a slot.
-        ensures costs { sent_of (D.seen self.new.device)
-            + residents_of self.new.held.objects.items table.new.items
-            ≤ sent_of (D.seen self.old.device)
-            + residents_of self.old.held.objects.items table.old.items }
+        ensures costs { (client : ℕ)
+            → (objects.item_at self.old.held.objects.items item).client ≡ Some client
+            → SendsUpTo D.seen (own_residents client self.old.held.objects.items)
+            self.old.device self.new.device }
+        ensures steps { C.count steps.new ≤ C.count steps.old + 5 }
     {
-        let handle = table.from(TRANSIENT_FIRST).unwrap();
-        let item = table.remove(handle).unwrap();
         match self
             .held
             .objects
-            .drop_object(&mut self.device, item, &mut self.scratch)
+            .drop_by(&mut self.device, item, &mut self.scratch, steps)
         {
-            Ok(()) => Ok(0),
+            Ok(()) => Ok(()),
             Err(SwapError::Failed(_)) => {
-                self.held.objects.disown(item);
-                Ok(1)
+                self.held.objects.orphan_by(item, steps);
+                Ok(())
             }
             Err(SwapError::Answer(code)) => Err(code),
         }

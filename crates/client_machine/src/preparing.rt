@@ -43,9 +43,7 @@ pub(crate) fn flush_orphans<D: Device>(
     while let Some(handle) = held.sessions.orphan() {
         held.sessions.drop_session(device, handle, scratch)?;
     }
-    while let Some(item) = held.objects.orphan() {
-        held.objects.drop_object(device, item, scratch)?;
-    }
+    while held.objects.flush_orphan(device, scratch)? {}
     Ok(())
 }
 
@@ -148,8 +146,7 @@ fn bring<D: Device>(
     new_slots: u8,
     scratch: &mut Buffer,
 ) -> Result<(), SwapError>
-    requires named { IfSome named (λ item. Names held.old.objects.items item
-        × (is_some (item_at held.old.objects.items item).client ≡ true)) }
+    requires named { IfSome named (λ item. Names held.old.objects.items item) }
     requires few { new_slots ≤ 1 }
     requires may { MayMove swap_contexts D.seen device.old held.old }
     requires nobodys { orphan_count held.old ≡ 0 }

@@ -1,6 +1,6 @@
--- Where a client's table stands, and what a change of one leaves of the others.
-use Rattle.std.proofs.Common.{◌≡◌, ◌+◌, ◌≤◌, ◌<◌, ℕ, zero, suc, Bool, true, false, List, [], ◌∷◌, ◌++◌, Option, Result, Ok, Err, length, set, get_or, refl, sym, ◌∙◌, ap, inl, inr, arith, length-append}
-use Rattle.std.specs.Prelude.{◌==◌, if◌then◌else◌, map}
+-- Where a client's table and its list stand, and what a change of one leaves of the others.
+use Rattle.std.proofs.Common.{◌≡◌, ◌+◌, ◌≤◌, ◌<◌, ℕ, zero, suc, Bool, true, false, List, [], ◌∷◌, ◌++◌, Result, Ok, Err, length, set, get_or, refl, sym, ◌∙◌, ap, inl, inr, arith, length-append}
+use Rattle.std.specs.Prelude.{◌==◌, ◌||◌, if◌then◌else◌, map}
 use Rattle.std.specs.List.{range_with_len, remove}
 use Rattle.std.specs.List.Sorted.{IsBinarySearchResult}
 use Rattle.std.specs.Ordering.{nat_cmp}
@@ -12,13 +12,13 @@ use Rattle.std.proofs.lemmas.List.Sorted.{searched}
 use Rattle.std.proofs.lemmas.Bool.{cases_Bool, cases_eq, cases_lt, eqb-true, eq-eqb, ne_eqb, or_cases, or_parts}
 use Rattle.history_spec.specs.Entry.{without}
 use Rattle.virtual_handles.specs.View.{TableView}
-use Rattle.client_tables.specs.Kept.{Kept, RisesTo, all_items, is_among, items_of}
+use Rattle.client_tables.specs.Kept.{Kept, RisesTo, all_beside, beside, is_among}
 
 -- ---- tests
 
-same_both : {A : Type 0} (b : Bool) (x : A) → (if b then x else x) ≡ x
-same_both true x = refl
-same_both false x = refl
+first_or : {A : Type 0} (a b : Bool) (x y z : A) → (if a then x else if b then y else z) ≡ (if a || b then if a then x else y else z)
+first_or true b x y z = refl
+first_or false b x y z = refl
 
 once : {A : Type 0} (b : Bool) (x y z : A) → (if b then x else z) ≡ (if b then x else if b then y else z)
 once true x y z = refl
@@ -97,162 +97,203 @@ without_place least (m ∷ ns) most (suc i) n up low is =
     ap (λ (b : Bool). if b then ns else m ∷ without n ns) (ne_eqb m n (λ same. omega (arith, same, is, at.0)))
     ∙ ap (λ (l : List ℕ). m ∷ l) (without_place (m + 1) ns most i n up.1 (omega arith) is)
 
--- ---- the items of one client
+-- ---- what stands beside one number
 
-pub items_absent : (ns : List ℕ) (ts : List TableView) (n : ℕ) → is_among n ns ≡ false → items_of ns ts n ≡ []
-items_absent [] ts n none = refl
-items_absent (m ∷ ns) [] n none = refl
-items_absent (m ∷ ns) (t ∷ ts) n none =
+pub beside_absent : {A B : Type 0} (see : A → B) (d : B) (ns : List ℕ) (ts : List A) (n : ℕ) → is_among n ns ≡ false → beside see d ns ts n ≡ d
+beside_absent see d [] ts n none = refl
+beside_absent see d (m ∷ ns) [] n none = refl
+beside_absent see d (m ∷ ns) (t ∷ ts) n none =
     let both = or_parts (m == n) (is_among n ns) none in
-    ap (λ (b : Bool). if b then t.items else items_of ns ts n) both.0 ∙ items_absent ns ts n both.1
+    ap (λ (b : Bool). if b then see t else beside see d ns ts n) both.0 ∙ beside_absent see d ns ts n both.1
 
 -- a number that is out of their range isn't among them
-pub items_below : (least : ℕ) (ns : List ℕ) (ts : List TableView) (most n : ℕ) → RisesTo least ns most → n < least → items_of ns ts n ≡ []
-items_below least ns ts most n up low =
+pub beside_below : {A B : Type 0} (see : A → B) (d : B) (least : ℕ) (ns : List ℕ) (ts : List A) (most n : ℕ) → RisesTo least ns most → n < least
+    → beside see d ns ts n ≡ d
+beside_below see d least ns ts most n up low =
     elim (cases_Bool (is_among n ns)) [
       | inl there ↦ absurd (let both = among_between least ns most n up there in omega (arith, both.0, low))
-      | inr none ↦ items_absent ns ts n none
+      | inr none ↦ beside_absent see d ns ts n none
     ]
 
-pub items_above : (least : ℕ) (ns : List ℕ) (ts : List TableView) (most n : ℕ) → RisesTo least ns most → most ≤ n → items_of ns ts n ≡ []
-items_above least ns ts most n up high =
+pub beside_above : {A B : Type 0} (see : A → B) (d : B) (least : ℕ) (ns : List ℕ) (ts : List A) (most n : ℕ) → RisesTo least ns most → most ≤ n
+    → beside see d ns ts n ≡ d
+beside_above see d least ns ts most n up high =
     elim (cases_Bool (is_among n ns)) [
       | inl there ↦ absurd (let both = among_between least ns most n up there in omega (arith, both.1, high))
-      | inr none ↦ items_absent ns ts n none
+      | inr none ↦ beside_absent see d ns ts n none
     ]
 
-pub items_pushed : (ns : List ℕ) (ts : List TableView) (m : ℕ) (t : TableView) (n : ℕ) → length ts ≡ length ns → t.items ≡ [] → items_of (ns ++ m ∷ []) (ts ++ t ∷ []) n ≡ items_of ns ts n
-items_pushed [] [] m t n each empty = ap (λ (l : List (Option ℕ)). if m == n then l else []) empty ∙ same_both (m == n) []
-items_pushed [] (u ∷ ts) m t n each empty = absurd (omega (arith, each))
-items_pushed (k ∷ ns) [] m t n each empty = absurd (omega (arith, each))
-items_pushed (k ∷ ns) (u ∷ ts) m t n each empty =
-    ap (λ (l : List (Option ℕ)). if k == n then u.items else l) (items_pushed ns ts m t n (omega arith) empty)
+pub beside_pushed : {A B : Type 0} (see : A → B) (d : B) (ns : List ℕ) (ts : List A) (m : ℕ) (t : A) (n : ℕ) → length ts ≡ length ns
+    → beside see d (ns ++ m ∷ []) (ts ++ t ∷ []) n ≡ (if is_among n ns then beside see d ns ts n else if m == n then see t else d)
+beside_pushed see d [] [] m t n each = refl
+beside_pushed see d [] (u ∷ ts) m t n each = absurd (omega (arith, each))
+beside_pushed see d (k ∷ ns) [] m t n each = absurd (omega (arith, each))
+beside_pushed see d (k ∷ ns) (u ∷ ts) m t n each =
+    ap (λ x. if k == n then see u else x) (beside_pushed see d ns ts m t n (omega arith))
+    ∙ first_or (k == n) (is_among n ns) (see u) (beside see d ns ts n) (if m == n then see t else d)
 
-pub items_at : (least : ℕ) (ns : List ℕ) (ts : List TableView) (most i n : ℕ) (d : TableView) → RisesTo least ns most → length ts ≡ length ns → i < length ns → get_or ns i 0 ≡ n
-    → items_of ns ts n ≡ (get_or ts i d).items
-items_at least [] ts most i n d up each low is = absurd (omega (arith, low))
-items_at least (m ∷ ns) [] most i n d up each low is = absurd (omega (arith, each))
-items_at least (m ∷ ns) (t ∷ ts) most zero n d up each low is = ap (λ (b : Bool). if b then t.items else items_of ns ts n) (eq-eqb m n is)
-items_at least (m ∷ ns) (t ∷ ts) most (suc i) n d up each low is =
+pub beside_at : {A B : Type 0} (see : A → B) (d : B) (least : ℕ) (ns : List ℕ) (ts : List A) (most i n : ℕ) (e : A) → RisesTo least ns most → length ts ≡ length ns → i < length ns → get_or ns i 0 ≡ n
+    → beside see d ns ts n ≡ see (get_or ts i e)
+beside_at see d least [] ts most i n e up each low is = absurd (omega (arith, low))
+beside_at see d least (m ∷ ns) [] most i n e up each low is = absurd (omega (arith, each))
+beside_at see d least (m ∷ ns) (t ∷ ts) most zero n e up each low is = ap (λ (b : Bool). if b then see t else beside see d ns ts n) (eq-eqb m n is)
+beside_at see d least (m ∷ ns) (t ∷ ts) most (suc i) n e up each low is =
     let at : (m + 1 + i ≤ get_or ns i 0) × (get_or ns i 0 < most) = rises_at (m + 1) ns most i 0 up.1 (omega arith) in
-    ap (λ (b : Bool). if b then t.items else items_of ns ts n) (ne_eqb m n (λ same. omega (arith, same, is, at.0)))
-    ∙ items_at (m + 1) ns ts most i n d up.1 (omega arith) (omega arith) is
+    ap (λ (b : Bool). if b then see t else beside see d ns ts n) (ne_eqb m n (λ same. omega (arith, same, is, at.0)))
+    ∙ beside_at see d (m + 1) ns ts most i n e up.1 (omega arith) (omega arith) is
 
-pub items_set : (least : ℕ) (ns : List ℕ) (ts : List TableView) (most i n k : ℕ) (w : TableView) → RisesTo least ns most → length ts ≡ length ns → i < length ns → get_or ns i 0 ≡ n
-    → items_of ns (set ts i w) k ≡ (if n == k then w.items else items_of ns ts k)
-items_set least [] ts most i n k w up each low is = absurd (omega (arith, low))
-items_set least (m ∷ ns) [] most i n k w up each low is = absurd (omega (arith, each))
-items_set least (m ∷ ns) (t ∷ ts) most zero n k w up each low is =
-    once (m == k) w.items t.items (items_of ns ts k)
-    ∙ ap (λ (x : ℕ). if x == k then w.items else if m == k then t.items else items_of ns ts k) is
-items_set least (m ∷ ns) (t ∷ ts) most (suc i) n k w up each low is =
+pub beside_set : {A B : Type 0} (see : A → B) (d : B) (least : ℕ) (ns : List ℕ) (ts : List A) (most i n k : ℕ) (w : A) → RisesTo least ns most → length ts ≡ length ns → i < length ns → get_or ns i 0 ≡ n
+    → beside see d ns (set ts i w) k ≡ (if n == k then see w else beside see d ns ts k)
+beside_set see d least [] ts most i n k w up each low is = absurd (omega (arith, low))
+beside_set see d least (m ∷ ns) [] most i n k w up each low is = absurd (omega (arith, each))
+beside_set see d least (m ∷ ns) (t ∷ ts) most zero n k w up each low is =
+    once (m == k) (see w) (see t) (beside see d ns ts k)
+    ∙ ap (λ (x : ℕ). if x == k then see w else if m == k then see t else beside see d ns ts k) is
+beside_set see d least (m ∷ ns) (t ∷ ts) most (suc i) n k w up each low is =
     let at : (m + 1 + i ≤ get_or ns i 0) × (get_or ns i 0 < most) = rises_at (m + 1) ns most i 0 up.1 (omega arith) in
-    ap (λ (l : List (Option ℕ)). if m == k then t.items else l) (items_set (m + 1) ns ts most i n k w up.1 (omega arith) (omega arith) is)
-    ∙ either (m == k) (n == k) t.items w.items (items_of ns ts k) (λ p q. omega (arith, eqb-true m k p, eqb-true n k q, is, at.0))
+    ap (λ x. if m == k then see t else x) (beside_set see d (m + 1) ns ts most i n k w up.1 (omega arith) (omega arith) is)
+    ∙ either (m == k) (n == k) (see t) (see w) (beside see d ns ts k) (λ p q. omega (arith, eqb-true m k p, eqb-true n k q, is, at.0))
 
-pub items_removed : (least : ℕ) (ns : List ℕ) (ts : List TableView) (most i n k : ℕ) → RisesTo least ns most → length ts ≡ length ns → i < length ns → get_or ns i 0 ≡ n
-    → items_of (remove ns i) (remove ts i) k ≡ (if n == k then [] else items_of ns ts k)
-items_removed least [] ts most i n k up each low is = absurd (omega (arith, low))
-items_removed least (m ∷ ns) [] most i n k up each low is = absurd (omega (arith, each))
-items_removed least (m ∷ ns) (t ∷ ts) most zero n k up each low is =
-    gone (m == k) [] t.items (items_of ns ts k) (λ same. items_below (m + 1) ns ts most k up.1 (omega (arith, eqb-true m k same)))
-    ∙ ap (λ (x : ℕ). if x == k then [] else if m == k then t.items else items_of ns ts k) is
-items_removed least (m ∷ ns) (t ∷ ts) most (suc i) n k up each low is =
+pub beside_removed : {A B : Type 0} (see : A → B) (d : B) (least : ℕ) (ns : List ℕ) (ts : List A) (most i n k : ℕ) → RisesTo least ns most → length ts ≡ length ns → i < length ns → get_or ns i 0 ≡ n
+    → beside see d (remove ns i) (remove ts i) k ≡ (if n == k then d else beside see d ns ts k)
+beside_removed see d least [] ts most i n k up each low is = absurd (omega (arith, low))
+beside_removed see d least (m ∷ ns) [] most i n k up each low is = absurd (omega (arith, each))
+beside_removed see d least (m ∷ ns) (t ∷ ts) most zero n k up each low is =
+    gone (m == k) d (see t) (beside see d ns ts k) (λ same. beside_below see d (m + 1) ns ts most k up.1 (omega (arith, eqb-true m k same)))
+    ∙ ap (λ (x : ℕ). if x == k then d else if m == k then see t else beside see d ns ts k) is
+beside_removed see d least (m ∷ ns) (t ∷ ts) most (suc i) n k up each low is =
     let at : (m + 1 + i ≤ get_or ns i 0) × (get_or ns i 0 < most) = rises_at (m + 1) ns most i 0 up.1 (omega arith) in
-    ap (λ (l : List (Option ℕ)). if m == k then t.items else l) (items_removed (m + 1) ns ts most i n k up.1 (omega arith) (omega arith) is)
-    ∙ either (m == k) (n == k) t.items [] (items_of ns ts k) (λ p q. omega (arith, eqb-true m k p, eqb-true n k q, is, at.0))
+    ap (λ x. if m == k then see t else x) (beside_removed see d (m + 1) ns ts most i n k up.1 (omega arith) (omega arith) is)
+    ∙ either (m == k) (n == k) (see t) d (beside see d ns ts k) (λ p q. omega (arith, eqb-true m k p, eqb-true n k q, is, at.0))
 
--- ---- the items of all clients
+-- ---- beside the numbers of all clients
 
-pub listed_length : (ns : List ℕ) (ts : List TableView) (opened : ℕ) → length (all_items ns ts opened) ≡ opened
-listed_length ns ts opened = length-map-range_with_len (items_of ns ts) 0 opened
+pub listed_length : {A B : Type 0} (see : A → B) (d : B) (ns : List ℕ) (ts : List A) (opened : ℕ) → length (all_beside see d ns ts opened) ≡ opened
+listed_length see d ns ts opened = length-map-range_with_len (beside see d ns ts) 0 opened
 
-listed_at : (ns : List ℕ) (ts : List TableView) (opened client : ℕ) → client < opened → get_or (all_items ns ts opened) client [] ≡ items_of ns ts client
-listed_at ns ts opened client low = get_or-map-range_with_len (items_of ns ts) 0 opened client client [] low (omega arith)
+listed_at : {A B : Type 0} (see : A → B) (d : B) (ns : List ℕ) (ts : List A) (opened client : ℕ) → client < opened
+    → get_or (all_beside see d ns ts opened) client d ≡ beside see d ns ts client
+listed_at see d ns ts opened client low = get_or-map-range_with_len (beside see d ns ts) 0 opened client client d low (omega arith)
 
-listed_with : (ns : List ℕ) (ts : List TableView) (opened n k : ℕ) (x : List (Option ℕ)) → n < opened → k < opened
-    → get_or (set (all_items ns ts opened) n x) k [] ≡ (if n == k then x else items_of ns ts k)
-listed_with ns ts opened n k x there low =
+listed_with : {A B : Type 0} (see : A → B) (d : B) (ns : List ℕ) (ts : List A) (opened n k : ℕ) (x : B) → n < opened → k < opened
+    → get_or (set (all_beside see d ns ts opened) n x) k d ≡ (if n == k then x else beside see d ns ts k)
+listed_with see d ns ts opened n k x there low =
     elim (cases_eq k n) [
       | inl same ↦
-          get_or-set_at (all_items ns ts opened) n k x [] same (omega (arith, there, listed_length ns ts opened))
-          ∙ sym (ap (λ (b : Bool). if b then x else items_of ns ts k) (eq-eqb n k (sym same)))
+          get_or-set_at (all_beside see d ns ts opened) n k x d same (omega (arith, there, listed_length see d ns ts opened))
+          ∙ sym (ap (λ (b : Bool). if b then x else beside see d ns ts k) (eq-eqb n k (sym same)))
       | inr apart ↦
-          get_or-set_other (all_items ns ts opened) n k x [] apart
-          ∙ listed_at ns ts opened k low
-          ∙ sym (ap (λ (b : Bool). if b then x else items_of ns ts k) (ne_eqb n k (λ same. apart (sym same))))
+          get_or-set_other (all_beside see d ns ts opened) n k x d apart
+          ∙ listed_at see d ns ts opened k low
+          ∙ sym (ap (λ (b : Bool). if b then x else beside see d ns ts k) (ne_eqb n k (λ same. apart (sym same))))
     ]
 
--- where a client's table stands
+-- where a client's table and its list stand
 pub record Place (ns : List ℕ) (client place : ℕ) : Type 0 where
   pub within : place < length ns
   pub is : get_or ns place 0 ≡ client
 
 -- a list that differs at one client
-changed : (ns new : List ℕ) (ts news : List TableView) (opened n : ℕ) (x : List (Option ℕ)) → n < opened
-    → ((k : ℕ) → items_of new news k ≡ (if n == k then x else items_of ns ts k))
-    → all_items new news opened ≡ set (all_items ns ts opened) n x
-changed ns new ts news opened n x there is =
-    sym (fill_by_all (items_of new news) (set (all_items ns ts opened) n x) opened []
-    (length-set (all_items ns ts opened) n x ∙ listed_length ns ts opened)
-    (λ k low. listed_with ns ts opened n k x there low ∙ sym (is k)))
+changed : {A B : Type 0} (see : A → B) (d : B) (ns new : List ℕ) (ts news : List A) (opened n : ℕ) (x : B) → n < opened
+    → ((k : ℕ) → beside see d new news k ≡ (if n == k then x else beside see d ns ts k))
+    → all_beside see d new news opened ≡ set (all_beside see d ns ts opened) n x
+changed see d ns new ts news opened n x there is =
+    sym (fill_by_all (beside see d new news) (set (all_beside see d ns ts opened) n x) opened d
+    (length-set (all_beside see d ns ts opened) n x ∙ listed_length see d ns ts opened)
+    (λ k low. listed_with see d ns ts opened n k x there low ∙ sym (is k)))
 
-pub client_below : {ns : List ℕ} {ts : List TableView} {opened : ℕ} (client place : ℕ) → Kept ns ts opened → Place ns client place → client < opened
-client_below {ns} {ts} {opened} client place kept p =
-    let at : (0 + place ≤ get_or ns place 0) × (get_or ns place 0 < opened) = rises_at 0 ns opened place 0 kept.rise p.within in
+pub client_below : (ns : List ℕ) (opened client place : ℕ) → RisesTo 0 ns opened → Place ns client place → client < opened
+client_below ns opened client place rise p =
+    let at : (0 + place ≤ get_or ns place 0) × (get_or ns place 0 < opened) = rises_at 0 ns opened place 0 rise p.within in
     omega (arith, at.1, p.is)
 
-pub listed_table : {ns : List ℕ} {ts : List TableView} {opened : ℕ} (client place : ℕ) (t : TableView) → Kept ns ts opened → Place ns client place → t ≡ get_or ts place t
-    → t.items ≡ get_or (all_items ns ts opened) client []
-listed_table {ns} {ts} {opened} client place t kept p is =
-    ap (λ (u : TableView). u.items) is
-    ∙ sym (listed_at ns ts opened client (client_below client place kept p) ∙ items_at 0 ns ts opened place client t kept.rise kept.each p.within p.is)
+pub listed_value : {A B : Type 0} (see : A → B) (d : B) (ns : List ℕ) (ts : List A) (opened client place : ℕ) (t : A) → RisesTo 0 ns opened → length ts ≡ length ns → Place ns client place → t ≡ get_or ts place t
+    → see t ≡ get_or (all_beside see d ns ts opened) client d
+listed_value see d ns ts opened client place t rise each p is =
+    ap see is
+    ∙ sym (listed_at see d ns ts opened client (client_below ns opened client place rise p) ∙ beside_at see d 0 ns ts opened place client t rise each p.within p.is)
 
-pub listed_set : {ns : List ℕ} {ts : List TableView} {opened : ℕ} (client place : ℕ) (w : TableView) → Kept ns ts opened → Place ns client place
-    → all_items ns (set ts place w) opened ≡ set (all_items ns ts opened) client w.items
-listed_set {ns} {ts} {opened} client place w kept p =
-    changed ns ns ts (set ts place w) opened client w.items (client_below client place kept p)
-    (λ k. items_set 0 ns ts opened place client k w kept.rise kept.each p.within p.is)
+pub listed_set : {A B : Type 0} (see : A → B) (d : B) (ns : List ℕ) (ts : List A) (opened client place : ℕ) (w : A) → RisesTo 0 ns opened → length ts ≡ length ns → Place ns client place
+    → all_beside see d ns (set ts place w) opened ≡ set (all_beside see d ns ts opened) client (see w)
+listed_set see d ns ts opened client place w rise each p =
+    changed see d ns ns ts (set ts place w) opened client (see w) (client_below ns opened client place rise p)
+    (λ k. beside_set see d 0 ns ts opened place client k w rise each p.within p.is)
 
-pub listed_closed : {ns : List ℕ} {ts : List TableView} {opened : ℕ} (client place : ℕ) → Kept ns ts opened → Place ns client place
-    → all_items (remove ns place) (remove ts place) opened ≡ set (all_items ns ts opened) client []
-listed_closed {ns} {ts} {opened} client place kept p =
-    changed ns (remove ns place) ts (remove ts place) opened client [] (client_below client place kept p)
-    (λ k. items_removed 0 ns ts opened place client k kept.rise kept.each p.within p.is)
+pub listed_closed : {A B : Type 0} (see : A → B) (d : B) (ns : List ℕ) (ts : List A) (opened client place : ℕ) → RisesTo 0 ns opened → length ts ≡ length ns → Place ns client place
+    → all_beside see d (remove ns place) (remove ts place) opened ≡ set (all_beside see d ns ts opened) client d
+listed_closed see d ns ts opened client place rise each p =
+    changed see d ns (remove ns place) ts (remove ts place) opened client d (client_below ns opened client place rise p)
+    (λ k. beside_removed see d 0 ns ts opened place client k rise each p.within p.is)
 
-pub listed_opened : {ns : List ℕ} {ts : List TableView} {opened : ℕ} (t : TableView) → Kept ns ts opened → t.items ≡ []
-    → all_items (ns ++ opened ∷ []) (ts ++ t ∷ []) (opened + 1) ≡ all_items ns ts opened ++ [] ∷ []
-listed_opened {ns} {ts} {opened} t kept empty =
-    let same : items_of (ns ++ opened ∷ []) (ts ++ t ∷ []) ≡ items_of ns ts = λ i k. items_pushed ns ts opened t k kept.each empty i in
-    ap (λ (f : ℕ → List (Option ℕ)). map f (range_with_len 0 (opened + 1))) same
-    ∙ map-range_with_len_more (items_of ns ts) 0 opened opened (omega arith)
-    ∙ ap (λ (l : List (Option ℕ)). all_items ns ts opened ++ l ∷ []) (items_above 0 ns ts opened opened kept.rise (omega arith))
+-- the next number, and what stands beside it
+pushed_at : {A B : Type 0} (see : A → B) (d : B) (ns : List ℕ) (ts : List A) (opened : ℕ) (t : A) (n : ℕ) → RisesTo 0 ns opened → length ts ≡ length ns → n < opened
+    → beside see d (ns ++ opened ∷ []) (ts ++ t ∷ []) n ≡ beside see d ns ts n
+pushed_at see d ns ts opened t n rise each low =
+    elim (cases_Bool (is_among n ns)) [
+      | inl there ↦
+          beside_pushed see d ns ts opened t n each
+          ∙ ap (λ (b : Bool). if b then beside see d ns ts n else if opened == n then see t else d) there
+      | inr none ↦
+          beside_pushed see d ns ts opened t n each
+          ∙ ap (λ (b : Bool). if b then beside see d ns ts n else if opened == n then see t else d) none
+          ∙ ap (λ (b : Bool). if b then see t else d) (ne_eqb opened n (λ same. omega (arith, same, low)))
+          ∙ sym (beside_absent see d ns ts n none)
+    ]
 
-pub listed_empty : {ns : List ℕ} {ts : List TableView} {opened : ℕ} → Kept ns ts opened → (client : ℕ) → is_among client ns ≡ false → get_or (all_items ns ts opened) client [] ≡ []
-listed_empty {ns} {ts} {opened} kept client none =
+not_among : (ns : List ℕ) (opened : ℕ) → RisesTo 0 ns opened → is_among opened ns ≡ false
+not_among ns opened rise =
+    elim (cases_Bool (is_among opened ns)) [
+      | inl there ↦ absurd (let both = among_between 0 ns opened opened rise there in omega (arith, both.1))
+      | inr none ↦ none
+    ]
+
+pushed_last : {A B : Type 0} (see : A → B) (d : B) (ns : List ℕ) (ts : List A) (opened : ℕ) (t : A) → RisesTo 0 ns opened → length ts ≡ length ns
+    → beside see d (ns ++ opened ∷ []) (ts ++ t ∷ []) opened ≡ see t
+pushed_last see d ns ts opened t rise each =
+    beside_pushed see d ns ts opened t opened each
+    ∙ ap (λ (b : Bool). if b then beside see d ns ts opened else if opened == opened then see t else d) (not_among ns opened rise)
+    ∙ ap (λ (b : Bool). if b then see t else d) (eq-eqb opened opened refl)
+
+pub listed_opened : {A B : Type 0} (see : A → B) (d : B) (ns : List ℕ) (ts : List A) (opened : ℕ) (t : A) → RisesTo 0 ns opened → length ts ≡ length ns
+    → all_beside see d (ns ++ opened ∷ []) (ts ++ t ∷ []) (opened + 1) ≡ all_beside see d ns ts opened ++ see t ∷ []
+listed_opened see d ns ts opened t rise each =
+    let new : ℕ → _ = beside see d (ns ++ opened ∷ []) (ts ++ t ∷ []) in
+    map-range_with_len_more new 0 opened opened (omega arith)
+    ∙ ap (λ x. map new (range_with_len 0 opened) ++ x ∷ []) (pushed_last see d ns ts opened t rise each)
+    ∙ ap (λ all. all ++ see t ∷ []) (fill_by_all (beside see d ns ts) (map new (range_with_len 0 opened)) opened d (length-map-range_with_len new 0 opened)
+    (λ k low. get_or-map-range_with_len new 0 opened k k d low (omega arith) ∙ pushed_at see d ns ts opened t k rise each low))
+
+pub listed_empty : {A B : Type 0} (see : A → B) (d : B) (ns : List ℕ) (ts : List A) (opened client : ℕ) → is_among client ns ≡ false
+    → get_or (all_beside see d ns ts opened) client d ≡ d
+listed_empty see d ns ts opened client none =
     elim (cases_lt client opened) [
-      | inl low ↦ listed_at ns ts opened client low ∙ items_absent ns ts client none
-      | inr high ↦ get_or_past (all_items ns ts opened) client [] (omega (arith, high, listed_length ns ts opened))
+      | inl low ↦ listed_at see d ns ts opened client low ∙ beside_absent see d ns ts client none
+      | inr high ↦ get_or_past (all_beside see d ns ts opened) client d (omega (arith, high, listed_length see d ns ts opened))
     ]
 
 -- ---- what is kept stays right
 
-pub kept_opened : {ns : List ℕ} {ts : List TableView} {opened : ℕ} (t : TableView) → Kept ns ts opened → Kept (ns ++ opened ∷ []) (ts ++ t ∷ []) (opened + 1)
-kept_opened {ns} {ts} {opened} t kept = record {
+pub kept_opened : {ns : List ℕ} {ts : List TableView} {ls : List ℕ} {opened : ℕ} (t : TableView) (list : ℕ) → Kept ns ts ls opened
+    → Kept (ns ++ opened ∷ []) (ts ++ t ∷ []) (ls ++ list ∷ []) (opened + 1)
+kept_opened {ns} {ts} {ls} {opened} t list kept = record {
   rise = rises_opened 0 ns opened kept.rise;
   each = omega (arith, kept.each, length-append ns (opened ∷ []), length-append ts (t ∷ []));
+  each_list = omega (arith, kept.each_list, length-append ns (opened ∷ []), length-append ls (list ∷ []));
 }
 
-pub kept_closed : {ns : List ℕ} {ts : List TableView} {opened : ℕ} (place : ℕ) → Kept ns ts opened → place < length ns → Kept (remove ns place) (remove ts place) opened
-kept_closed {ns} {ts} {opened} place kept low =
+pub kept_closed : {ns : List ℕ} {ts : List TableView} {ls : List ℕ} {opened : ℕ} (place : ℕ) → Kept ns ts ls opened → place < length ns
+    → Kept (remove ns place) (remove ts place) (remove ls place) opened
+kept_closed {ns} {ts} {ls} {opened} place kept low =
     let there : place < length ts = omega (arith, low, kept.each) in
+    let listed : place < length ls = omega (arith, low, kept.each_list) in
     record {
       rise = rises_removed 0 ns opened place kept.rise low;
       each = omega (arith, kept.each, length-remove ns place low, length-remove ts place there);
+      each_list = omega (arith, kept.each_list, length-remove ns place low, length-remove ls place listed);
     }
 
-pub closed_present : {ns : List ℕ} {ts : List TableView} {opened : ℕ} (client place : ℕ) → Kept ns ts opened → Place ns client place → remove ns place ≡ without client ns
-closed_present {ns} {ts} {opened} client place kept p = sym (without_place 0 ns opened place client kept.rise p.within p.is)
+pub closed_present : (ns : List ℕ) (opened client place : ℕ) → RisesTo 0 ns opened → Place ns client place → remove ns place ≡ without client ns
+closed_present ns opened client place rise p = sym (without_place 0 ns opened place client rise p.within p.is)
 
 -- ---- the search
 

@@ -1,4 +1,4 @@
--- How the tables are kept: the numbers of the open clients beside their tables.
+-- How the tables are kept: the numbers of the open clients beside their tables and their lists.
 use Rattle.std.specs.Prelude.{◌≡◌, ◌+◌, ◌≤◌, ◌==◌, ℕ, Bool, List, [], ◌∷◌, Option, length, map, if◌then◌else◌}
 use Rattle.std.specs.List.{list_any, range_with_len}
 use Rattle.virtual_handles.specs.View.{TableView}
@@ -16,17 +16,25 @@ RisesTo least (n ∷ ns) most = (least ≤ n) × RisesTo (n + 1) ns most
 abbrev pub Rise : List ℕ → Type 0
 Rise numbers = (most : ℕ) × RisesTo 0 numbers most
 
--- the items of the table that stands beside a number; none where the number isn't there
-abbrev pub items_of : List ℕ → List TableView → ℕ → List (Option ℕ)
-items_of [] tables client = []
-items_of (n ∷ ns) [] client = []
-items_of (n ∷ ns) (t ∷ tables) client = if n == client then t.items else items_of ns tables client
+-- what stands beside a number, seen so; nothing where the number isn't there
+abbrev pub beside : {A B : Type 0} → (A → B) → B → List ℕ → List A → ℕ → B
+beside see none [] values client = none
+beside see none (n ∷ ns) [] client = none
+beside see none (n ∷ ns) (v ∷ values) client = if n == client then see v else beside see none ns values client
 
--- the items of each client that was opened
+-- the same of each client that was opened
+abbrev pub all_beside : {A B : Type 0} → (A → B) → B → List ℕ → List A → ℕ → List B
+all_beside see none numbers values opened = map (beside see none numbers values) (range_with_len 0 opened)
+
+-- the items of each, and the number of its list
 abbrev pub all_items : List ℕ → List TableView → ℕ → List (List (Option ℕ))
-all_items numbers tables opened = map (items_of numbers tables) (range_with_len 0 opened)
+all_items numbers tables opened = all_beside (λ (t : TableView). t.items) [] numbers tables opened
 
--- the numbers rise, and are of clients that were opened; there is a table beside each
-pub record Kept (numbers : List ℕ) (tables : List TableView) (opened : ℕ) : Type 0 where
+abbrev pub all_lists : List ℕ → List ℕ → ℕ → List ℕ
+all_lists numbers lists opened = all_beside (λ (list : ℕ). list) 0 numbers lists opened
+
+-- the numbers rise, and are of clients that were opened; there is a table beside each, and a list
+pub record Kept (numbers : List ℕ) (tables : List TableView) (lists : List ℕ) (opened : ℕ) : Type 0 where
   pub rise : RisesTo 0 numbers opened
   pub each : length tables ≡ length numbers
+  pub each_list : length lists ≡ length numbers

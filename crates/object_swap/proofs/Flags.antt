@@ -3,7 +3,7 @@ use Rattle.std.proofs.Common.{◌≡◌, ◌≢◌, ◌+◌, ◌<◌, ◌≤◌,
 use Rattle.std.specs.Prelude.{◌==◌, ◌||◌}
 use Rattle.std.specs.List.{count_by, remove}
 use Rattle.std.proofs.lemmas.Bool.{eq-eqb, eqb-true, ne_eqb, cases_eq, cases_lt}
-use Rattle.std.proofs.lemmas.List.{get_or-set_same, get_or-set_other, get_or_past, get_or_push, set-get_or, set_past}
+use Rattle.std.proofs.lemmas.List.{get_or-set_same, get_or-set_other, get_or_past, set-get_or, set_past}
 use Rattle.std.proofs.lemmas.List.Edits.{length-remove}
 use Rattle.std.proofs.lemmas.List.Sums.{count_by-le-length, sum_by-remove, sum_by_push}
 use Rattle.device_port.specs.Use.{is_among}
@@ -44,12 +44,6 @@ false_past [] zero = refl
 false_past [] (suc n) = refl
 false_past (flag ∷ flags) zero = refl
 false_past (flag ∷ flags) (suc n) = false_past flags n
-
-true_elsewhere : (flags : List Bool) (n : ℕ) → n ≢ length flags → get_or (flags ++ true ∷ []) n false ≡ get_or flags n false
-true_elsewhere [] zero apart = absurd (apart refl)
-true_elsewhere [] (suc n) apart = refl
-true_elsewhere (flag ∷ flags) zero apart = refl
-true_elsewhere (flag ∷ flags) (suc n) apart = true_elsewhere flags n (λ same. apart (ap suc same))
 
 unset_there : (flags : List Bool) (n index : ℕ) → index ≡ n → get_or (set flags n false) index false ≡ true → ⊥
 unset_there flags n index same is =
@@ -143,31 +137,6 @@ pub lists_false : (flags : List Bool) (indices : List ℕ) → ListsFlags flags 
 lists_false flags indices lists = record {
   each = λ n. lists.each n ∙ ap number (sym (false_past flags n));
   count = omega (arith, lists.count, sum_by_push number flags false);
-}
-
-pub lists_true : (flags : List Bool) (indices : List ℕ) → ListsFlags flags indices → ListsFlags (flags ++ true ∷ []) (indices ++ length flags ∷ [])
-lists_true flags indices lists = record {
-  each = λ n. elim (cases_eq n (length flags)) [
-    | inl same ↦ omega (
-      arith,
-      lists.each n,
-      sum_by_push (λ (one : ℕ). number (names n one)) indices (length flags),
-      ap (λ (n : ℕ). number (names n (length flags))) same,
-      names_this (length flags),
-      ap (λ (n : ℕ). number (get_or flags n false)) same,
-      ap number (get_or_past flags (length flags) false (omega arith)),
-      ap (λ (n : ℕ). number (get_or (flags ++ true ∷ []) n false)) same,
-      ap number (get_or_push flags true false (length flags) refl),
-    )
-    | inr apart ↦ omega (
-      arith,
-      lists.each n,
-      sum_by_push (λ (one : ℕ). number (names n one)) indices (length flags),
-      names_other n (length flags) (λ e. apart (sym e)),
-      ap number (true_elsewhere flags n apart),
-    )
-  ];
-  count = omega (arith, lists.count, length-append indices (length flags ∷ []), sum_by_push number flags true);
 }
 
 -- ---- among those that are needed

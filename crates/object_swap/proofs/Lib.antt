@@ -7,10 +7,12 @@ mod Making
 mod Missing
 pub mod Moved
 pub mod Order
-mod Orphans
+pub mod Orphans
+mod Owned
 mod Recorded
 pub mod Room
 pub mod Standing
+mod Threaded
 mod Told
 mod Vacancies
 mod Views

@@ -17,14 +17,14 @@ use Rattle.object_swap.proofs.Standing.{Moves, elsewhere_free, elsewhere_named, 
 
 -- ---- slots
 
-taken_here : (slots : SlotState) (slot : ℕ) (held : Option Object) → slot < length slots.slots
+pub taken_here : (slots : SlotState) (slot : ℕ) (held : Option Object) → slot < length slots.slots
     → taken (with_slot slots slot held) slot ≡ number (is_some held)
 taken_here slots slot held fits = ap (λ (o : Option Object). number (is_some o)) (get_or-set_same slots.slots slot held None fits)
 
-taken_there : (slots : SlotState) (slot n : ℕ) (held : Option Object) → n ≢ slot → taken (with_slot slots slot held) n ≡ taken slots n
+pub taken_there : (slots : SlotState) (slot n : ℕ) (held : Option Object) → n ≢ slot → taken (with_slot slots slot held) n ≡ taken slots n
 taken_there slots slot n held apart = ap (λ (o : Option Object). number (is_some o)) (get_or-set_other slots.slots slot n held None apart)
 
-taken_fits : (slots : SlotState) (slot : ℕ) → 1 ≤ taken slots slot → slot < length slots.slots
+pub taken_fits : (slots : SlotState) (slot : ℕ) → 1 ≤ taken slots slot → slot < length slots.slots
 taken_fits slots slot is =
     elim (cases_lt slot (length slots.slots)) [
       | inl fits ↦ fits
@@ -373,7 +373,7 @@ pub record Drops (old_state new_state : Option SlotState) (old new : List Item) 
   pub objects : objects_of new_state new ≡ without_object index (objects_of old_state old)
   pub stand : Stand new_state new others
 
-no_item_stands : (slots : SlotState) → ItemStands slots no_item
+pub no_item_stands : (slots : SlotState) → ItemStands slots no_item
 no_item_stands slots = record { there = λ somewhere. absurd cc; beside = λ resident kept. absurd cc }
 
 pub emptied_counter : (handle : ℕ) (state : Option SlotState) → counter_of (emptied handle state) ≡ counter_of state

@@ -105,15 +105,6 @@ without_unlisted index (one ∷ order) none =
     (without_unlisted index order (omega (arith, count_cons (λ (one : ℕ). one == index) one order)))
     ∙ none_by index one order (one == index) refl none
 
-fewer_by : (one : ℕ) (order rest : List ℕ) (same : Bool) → length rest ≤ length order → length (if same then order else one ∷ rest) ≤ length (one ∷ order)
-fewer_by one order rest true less = omega arith
-fewer_by one order rest false less = omega (arith, less)
-
--- and no more are left
-pub without_fewer : (index : ℕ) (order : List ℕ) → length (without_one index order) ≤ length order
-without_fewer index [] = omega arith
-without_fewer index (one ∷ order) = fewer_by one order (without_one index order) (one == index) (without_fewer index order)
-
 used_last : (needed order : List ℕ) (index : ℕ) → all_used order (needed ++ index ∷ []) ≡ used_after (all_used order needed) index
 used_last [] order index = refl
 used_last (one ∷ needed) order index = used_last needed (used_after order one) index

@@ -61,7 +61,7 @@ objects_moved slots items index slot held item moves =
     ∙ map_but (item_object (with_slot slots slot held)) (item_object slots) items index (item_object (with_slot slots slot held) item) no_item
     (λ j inside apart. object_elsewhere slots slot held (item_at items j).slot (item_at items j).blob (moves.elsewhere j inside apart))
 
-item_elsewhere : (slots : SlotState) (slot : ℕ) (held : Option Object) (item : Item) → is_named item.slot slot ≡ false → ItemStands slots item
+pub item_elsewhere : (slots : SlotState) (slot : ℕ) (held : Option Object) (item : Item) → is_named item.slot slot ≡ false → ItemStands slots item
     → ItemStands (with_slot slots slot held) item
 item_elsewhere slots slot held item apart stands =
     let same = object_elsewhere slots slot held item.slot item.blob apart in

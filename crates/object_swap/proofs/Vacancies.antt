@@ -1,100 +1,26 @@
--- Items that are nowhere, and the code's list of them.
-use Rattle.std.proofs.Common.{◌≡◌, ◌+◌, ◌<◌, ◌≤◌, ◌^◌, ℕ, Bool, true, false, List, [], ◌∷◌, ◌++◌, length, get_or, set, map, refl, ap, subst, sym, ◌∙◌, ◌/◌, arith, length-append, length-set}
-use Rattle.std.specs.Prelude.{◌==◌, not, ◌&&◌, Option, Some, None, is_some, IfSome, if◌then◌else◌}
-use Rattle.std.specs.List.{count_by, list_any, remove}
+-- What holds of the residents and of the objects of nobody, and what the calls make of it.
+use Rattle.std.proofs.Common.{◌≡◌, ◌+◌, ◌<◌, ◌≤◌, ◌^◌, inl, inr, ℕ, Bool, true, false, List, [], ◌∷◌, ◌++◌, length, get_or, set, map, refl, ap, subst, sym, ◌∙◌, ◌/◌, arith, length-append, length-set}
+use Rattle.std.specs.Prelude.{◌==◌, not, ◌&&◌, Option, Some, None, is_some, max, IfSome, if◌then◌else◌}
+use Rattle.std.specs.List.{list_any}
 use Rattle.std.proofs.lemmas.List.Elements.{All-push}
-use Rattle.std.proofs.lemmas.List.{map-set, set-get_or, get_or-map, get_or_push, length-map, map_push}
-use Rattle.std.proofs.lemmas.Bool.{eqb-true}
+use Rattle.std.proofs.lemmas.List.{map-set, set-get_or, length-map, map_push}
+use Rattle.std.proofs.lemmas.Bool.{cases_lt, eqb-true}
 use Rattle.tab_spec.specs.declared.TheConstants.{HT_TRANSIENT}
 use Rattle.tab_spec.specs.Shape.{octet_of}
 use Rattle.device_spec.specs.Slots.{slot_of}
-use Rattle.device_port.specs.Use.{without_one}
+use Rattle.linked_records.specs.View.{IsListed, RecordsView, record_count}
 use Rattle.object_swap.specs.declared.record.Record.{Record}
-use Rattle.object_swap.specs.Items.{Item, handle_in, is_vacant, is_resident, item_at, new_item, no_item, owners, residents}
-use Rattle.object_swap.specs.Records.{AreRecords, Holds, IsRecord, ListsFlags, ListsResidents, ListsVacant, item_of, items_of, residency, slot_in, vacancy}
-use Rattle.object_swap.proofs.Counts.{count_cons, count_some, list_none, list_some}
-use Rattle.object_swap.proofs.Flags.{Listed, listed, lists_added, lists_false, lists_removed, lists_true, one_unlisted}
-use Rattle.object_swap.proofs.Listed.{counted_flags, flag_at, flags_length, same_vacancy}
-use Rattle.object_swap.proofs.Order.{without_fewer}
+use Rattle.object_swap.specs.Items.{Item, handle_in, is_resident, is_vacant, item_at, new_item, no_item, owners, residents}
+use Rattle.object_swap.specs.Records.{AreRecords, HoldsResidents, IsOwnedBy, IsRecord, ListsFlags, ListsResidents, item_of, items_of, residency, slot_in}
+use Rattle.object_swap.proofs.Counts.{count_set, number_true}
+use Rattle.object_swap.proofs.Flags.{lists_added, lists_false, one_unlisted}
+use Rattle.object_swap.proofs.Listed.{counted_flags, flag_at, flags_length}
+use Rattle.object_swap.proofs.Owned.{past_other, put_inside, put_vacant, some_vacant}
 use Rattle.object_swap.proofs.Recorded.{item_there, records_set, residency_set}
 
-pub vacancy_at : (items : List Item) (index : ℕ) → index < length items → get_or (map is_vacant items) index false ≡ is_vacant (item_at items index)
-vacancy_at items index inside = get_or-map is_vacant items index no_item false inside
-
-pub vacancy_set : (records : List Record) (index : ℕ) (n : Record) → vacancy (set records index n) ≡ set (vacancy records) index (is_vacant (item_of n))
-vacancy_set records index n = ap (map is_vacant) (map-set item_of records index n) ∙ map-set is_vacant (items_of records) index (item_of n)
-
-pub vacancy_length : (records : List Record) → length (vacancy records) ≡ length records
-vacancy_length records = omega (arith, length-map (items_of records) is_vacant, length-map records item_of)
-
--- an item that is somewhere
-pub record There (records : List Record) (index : ℕ) : Type 0 where
-  pub inside : index < length (vacancy records)
-  pub flag : get_or (vacancy records) index false ≡ false
-
-pub there_flag : (records : List Record) (index : ℕ) → index < length records → is_vacant (item_at (items_of records) index) ≡ false → There records index
-there_flag records index inside there = record {
-  inside = omega (arith, vacancy_length records);
-  flag = vacancy_at (items_of records) index (omega (arith, length-map records item_of)) ∙ there;
-}
-
-pub vacant_room : (records : List Record) (vacant : List ℕ) (index : ℕ) → ListsFlags (vacancy records) vacant → index < length records
-    → is_vacant (item_at (items_of records) index) ≡ false → length vacant < length records
-vacant_room records vacant index lists inside there =
-    let flag = there_flag records index inside there in
-    omega (arith, one_unlisted (vacancy records) vacant index lists flag.inside flag.flag, vacancy_length records)
-
-pub forgotten : (records : List Record) (vacant : List ℕ) (index : ℕ) (n : Record) → item_of n ≡ no_item → ListsFlags (vacancy records) vacant → index < length records
-    → is_vacant (item_at (items_of records) index) ≡ false → ListsFlags (vacancy (set records index n)) (vacant ++ index ∷ [])
-forgotten records vacant index n is lists inside there =
-    let flag = there_flag records index inside there in
-    subst (λ (flags : List Bool). ListsFlags flags (vacant ++ index ∷ [])) (sym (vacancy_set records index n ∙ ap (λ (i : Item). set (vacancy records) index (is_vacant i)) is))
-    (lists_added (vacancy records) vacant index lists flag.inside flag.flag)
-
-counted_vacant : (items : List Item) → count_by (λ flag. flag) (map is_vacant items) ≡ count_by is_vacant items
-counted_vacant [] = refl
-counted_vacant (item ∷ items) =
-    omega (arith, count_cons (λ (flag : Bool). flag) (is_vacant item) (map is_vacant items), count_cons is_vacant item items, counted_vacant items)
-
--- where an item is vacant, one is listed
-pub vacant_listed : (records : List Record) (vacant : List ℕ) → ListsFlags (vacancy records) vacant → list_any is_vacant (items_of records) ≡ true → 1 ≤ length vacant
-vacant_listed records vacant lists some =
-    omega (arith, lists.count, counted_vacant (items_of records), count_some is_vacant (items_of records) some)
-
--- ---- an item that is adopted
-
-remove_last : (rest : List ℕ) (x : ℕ) → remove (rest ++ x ∷ []) (length rest) ≡ rest
-remove_last [] x = refl
-remove_last (y ∷ rest) x = ap (λ (l : List ℕ). y ∷ l) (remove_last rest x)
-
-pub record Popped (records : List Record) (rest : List ℕ) (item : ℕ) : Type 0 where
-  pub inside : item < length records
-  pub vacant : is_vacant (item_at (items_of records) item) ≡ true
-  pub out : is_resident (item_at (items_of records) item) ≡ false
-  pub lists : ListsFlags (set (vacancy records) item false) rest
-
-vacant_out : (slot : Option ℕ) (blob : Option (List ℕ)) → (not (is_some slot) && not (is_some blob)) ≡ true → is_some slot ≡ false
+pub vacant_out : (slot : Option ℕ) (blob : Option (List ℕ)) → (not (is_some slot) && not (is_some blob)) ≡ true → is_some slot ≡ false
 vacant_out None blob vacant = refl
 vacant_out (Some n) blob vacant = absurd cc
-
-pub popped : (records : List Record) (vacant rest : List ℕ) (item : ℕ) → ListsFlags (vacancy records) vacant → vacant ≡ rest ++ item ∷ [] → Popped records rest item
-popped records vacant rest item lists is =
-    let at = length rest in
-    let whole : ListsFlags (vacancy records) (rest ++ item ∷ []) = subst (λ (l : List ℕ). ListsFlags (vacancy records) l) is lists in
-    let inside : at < length (rest ++ item ∷ []) = omega (arith, length-append rest (item ∷ [])) in
-    let there : get_or (rest ++ item ∷ []) at 0 ≡ item = get_or_push rest item 0 at refl in
-    let found : Listed (vacancy records) item = subst (λ (n : ℕ). Listed (vacancy records) n) there (listed (vacancy records) (rest ++ item ∷ []) at 0 whole inside) in
-    let within : item < length records = omega (arith, found.inside, vacancy_length records) in
-    let vacant : is_vacant (item_at (items_of records) item) ≡ true =
-    sym (vacancy_at (items_of records) item (omega (arith, length-map records item_of))) ∙ found.flag in
-    record {
-      inside = within;
-      vacant = vacant;
-      out = vacant_out (item_at (items_of records) item).slot (item_at (items_of records) item).blob vacant;
-      lists = subst (λ (l : List ℕ). ListsFlags (set (vacancy records) item false) l) (remove_last rest item)
-          (subst (λ (n : ℕ). ListsFlags (set (vacancy records) n false) (remove (rest ++ item ∷ []) at)) there
-          (lists_removed (vacancy records) (rest ++ item ∷ []) at 0 whole inside));
-    }
 
 pub out_flag : (records : List Record) (item : ℕ) → is_resident (item_at (items_of records) item) ≡ false → get_or (residency records) item false ≡ false
 out_flag records item out = flag_at (items_of records) item ∙ out
@@ -104,6 +30,40 @@ pub resident_room : (records : List Record) (loaded : List ℕ) (item : ℕ) →
     → is_resident (item_at (items_of records) item) ≡ false → length loaded < length records
 resident_room records loaded item lists inside out =
     omega (arith, one_unlisted (residency records) loaded item lists (omega (arith, flags_length records)) (out_flag records item out), flags_length records)
+
+-- ---- the place of a new object
+
+-- the index that an insertion into a list gives is that of a vacant record; so many are
+pub record Placed (records : List Record) (view : RecordsView (Unit {0})) (count item : ℕ) : Type 0 where
+  pub some : 1 ≤ count
+  pub inside : item < length records
+  pub items_inside : item < length (items_of records)
+  pub vacant : is_vacant (item_at (items_of records) item) ≡ true
+  pub out : is_resident (item_at (items_of records) item) ≡ false
+  pub least : (given : ℕ) → given ≡ max view.given (item + 1) → record_count view.lists + 1 ≤ given
+  pub most : (given : ℕ) → given ≡ max view.given (item + 1) → given ≤ length (items_of records)
+
+pub placed : (records : List Record) (view : RecordsView (Unit {0})) (owners : List (Option ℕ)) (vacant item : ℕ)
+    → IsOwnedBy (items_of records) view owners vacant → list_any is_vacant (items_of records) ≡ true → (IsListed view.lists item → ⊥)
+    → (record_count view.lists ≡ view.given → item ≡ view.given) → (record_count view.lists < view.given → item < view.given)
+    → Placed records view vacant item
+placed records view owners vacant item has room fresh last before =
+    let items = items_of records in
+    let some = some_vacant items view owners vacant has room in
+    let inside = put_inside items view owners vacant has item fresh some last before in
+    let is = put_vacant items view owners vacant has item fresh in
+    record {
+      some = some;
+      inside = omega (arith, inside, length-map records item_of);
+      items_inside = inside;
+      vacant = is;
+      out = vacant_out (item_at items item).slot (item_at items item).blob is;
+      least = λ given is. elim (cases_lt (record_count view.lists) view.given) [
+        | inl less ↦ omega (arith, less, is)
+        | inr most ↦ omega (arith, last (omega (arith, most, has.counted.given_least)), most, has.counted.given_least, is)
+      ];
+      most = λ given is. omega (arith, is, inside, has.counted.given_most);
+    }
 
 vacant_unkept : (slot : Option ℕ) (kept : Bool) (bytes : List ℕ) → (not (is_some slot) && not (is_some (if kept then Some bytes else None))) ≡ true → kept ≡ false
 vacant_unkept slot false bytes vacant = refl
@@ -121,26 +81,6 @@ pub adopted_item : (n : Record) (client handle : ℕ) → n.client ≡ Some clie
 adopted_item n client handle client_is handle_is kept_is =
     λ i. record { client = client_is i; slot = slot_in (handle_is i); blob = if kept_is i then Some n.blob.items else None }
 
--- what holds of the records afterwards
-pub adopted_holds : (records : List Record) (vacant rest loaded : List ℕ) (vacant_room loaded_room new_loaded_room slots item client slot : ℕ) (n : Record)
-    → Holds records vacant loaded vacant_room loaded_room slots → vacant ≡ rest ++ item ∷ [] → item_of n ≡ new_item client slot → IsRecord n
-    → loaded_room ≤ new_loaded_room → residents (items_of records) < slots
-    → Holds (set records item n) rest (loaded ++ item ∷ []) vacant_room new_loaded_room slots
-adopted_holds records vacant rest loaded vacant_room loaded_room new_loaded_room slots item client slot n holds is item_is sound more free =
-    let popped = popped records vacant rest item holds.vacancies is in
-    record {
-      sound = records_set records item n holds.sound sound;
-      vacancies = subst (λ (flags : List Bool). ListsFlags flags rest)
-          (sym (vacancy_set records item n ∙ ap (λ (i : Item). set (vacancy records) item (is_vacant i)) item_is)) popped.lists;
-      residents = subst (λ (flags : List Bool). ListsFlags flags (loaded ++ item ∷ []))
-          (sym (residency_set records item n ∙ ap (λ (i : Item). set (residency records) item (is_resident i)) item_is))
-          (lists_added (residency records) loaded item holds.residents (omega (arith, flags_length records, popped.inside)) (out_flag records item popped.out));
-      room_for_vacant = omega (arith, length-set records item n, holds.room_for_vacant);
-      room_for_loaded = omega (arith, length-set records item n, holds.room_for_loaded);
-      few = omega (arith, length-set records item n, holds.few);
-      fits = omega (arith, length-append loaded (item ∷ []), holds.residents.count, counted_flags (items_of records), free);
-    }
-
 -- the handle of a slot
 pub handle_again : (handle : Option ℕ) → IfSome handle (λ h. (octet_of h == HT_TRANSIENT) ≡ true) → handle_in (slot_in handle) ≡ handle
 handle_again None is = refl
@@ -148,76 +88,121 @@ handle_again (Some h) is =
     let octet : h / 2 ^ 24 ≡ HT_TRANSIENT = eqb-true (h / 2 ^ 24) HT_TRANSIENT is in
     ap (λ (n : ℕ). Some n) (omega (arith, octet))
 
--- ---- an item that is dropped
+-- ---- what holds of the residents
 
+-- an object comes
+pub held_adopted : (records : List Record) (loaded left : List ℕ) (loaded_room new_loaded_room left_room slots item client slot : ℕ) (n : Record)
+    → HoldsResidents records loaded left loaded_room left_room slots → item < length records → is_resident (item_at (items_of records) item) ≡ false
+    → item_of n ≡ new_item client slot → IsRecord n → loaded_room ≤ new_loaded_room → residents (items_of records) + length left < slots
+    → HoldsResidents (set records item n) (loaded ++ item ∷ []) left new_loaded_room left_room slots
+held_adopted records loaded left loaded_room new_loaded_room left_room slots item client slot n holds inside out item_is sound more free = record {
+  sound = records_set records item n holds.sound sound;
+  residents = subst (λ (flags : List Bool). ListsFlags flags (loaded ++ item ∷ []))
+      (sym (residency_set records item n ∙ ap (λ (i : Item). set (residency records) item (is_resident i)) item_is))
+      (lists_added (residency records) loaded item holds.residents (omega (arith, flags_length records, inside)) (out_flag records item out));
+  room_for_loaded = omega (arith, length-set records item n, holds.room_for_loaded);
+  few = omega (arith, length-set records item n, holds.few);
+  fits = omega (arith, length-append loaded (item ∷ []), holds.residents.count, counted_flags (items_of records), free);
+  room_for_left = holds.room_for_left;
+  transient = holds.transient;
+}
+
+-- an object goes
 forgotten_flags : (records new_records : List Record) (item : ℕ) → items_of new_records ≡ set (items_of records) item no_item
     → residency new_records ≡ set (residency records) item false
 forgotten_flags records new_records item is = ap (map is_resident) is ∙ map-set is_resident (items_of records) item no_item
 
--- where it was in no slot
-pub left_holds : (records new_records : List Record) (vacant new_vacant loaded : List ℕ) (vacant_room new_vacant_room loaded_room slots item : ℕ)
-    → Holds records vacant loaded vacant_room loaded_room slots → items_of new_records ≡ set (items_of records) item no_item → AreRecords new_records
-    → ListsVacant new_records new_vacant new_vacant_room → length new_records ≡ length records
-    → is_resident (item_at (items_of records) item) ≡ false → Holds new_records new_vacant loaded new_vacant_room loaded_room slots
-left_holds records new_records vacant new_vacant loaded vacant_room new_vacant_room loaded_room slots item holds is sound listed count out =
-    let same : set (residency records) item false ≡ residency records =
-    ap (set (residency records) item) (sym (out_flag records item out)) ∙ set-get_or (residency records) item false in
-    record {
+module _ (records new_records : List Record) (loaded left : List ℕ) (loaded_room left_room slots item : ℕ)
+    (holds : HoldsResidents records loaded left loaded_room left_room slots) (is : items_of new_records ≡ set (items_of records) item no_item)
+    (sound : AreRecords new_records) (count : length new_records ≡ length records) where
+  -- where it was in no slot
+  pub held_out : is_resident (item_at (items_of records) item) ≡ false → HoldsResidents new_records loaded left loaded_room left_room slots
+  held_out out =
+      let same : set (residency records) item false ≡ residency records =
+      ap (set (residency records) item) (sym (out_flag records item out)) ∙ set-get_or (residency records) item false in
+      record {
+        sound = sound;
+        residents = subst (λ (flags : List Bool). ListsFlags flags loaded) (sym (forgotten_flags records new_records item is ∙ same)) holds.residents;
+        room_for_loaded = omega (arith, holds.room_for_loaded);
+        few = omega (arith, holds.few);
+        fits = holds.fits;
+        room_for_left = holds.room_for_left;
+        transient = holds.transient;
+      }
+
+  module _ (new_loaded : List ℕ) (new_loaded_room : ℕ) (inside : item < length records)
+      (resident : is_resident (item_at (items_of records) item) ≡ true) (lists : ListsFlags (set (residency records) item false) new_loaded)
+      (same : new_loaded_room ≡ loaded_room) where
+    pub one_fewer : length new_loaded + 1 ≡ length loaded
+    one_fewer =
+        let flags = residency records in
+        omega (
+          arith,
+          lists.count,
+          holds.residents.count,
+          count_set (λ (flag : Bool). flag) flags item false false (omega (arith, flags_length records, inside)),
+          number_true (get_or flags item false) (flag_at (items_of records) item ∙ resident),
+        )
+
+    -- where it was in one
+    pub held_flushed : HoldsResidents new_records new_loaded left new_loaded_room left_room slots
+    held_flushed = record {
       sound = sound;
-      vacancies = listed.lists;
-      residents = subst (λ (flags : List Bool). ListsFlags flags loaded) (sym (forgotten_flags records new_records item is ∙ same)) holds.residents;
-      room_for_vacant = listed.most;
-      room_for_loaded = omega (arith, holds.room_for_loaded);
+      residents = subst (λ (flags : List Bool). ListsFlags flags new_loaded) (sym (forgotten_flags records new_records item is)) lists;
+      room_for_loaded = omega (arith, holds.room_for_loaded, same);
       few = omega (arith, holds.few);
-      fits = holds.fits;
+      fits = omega (arith, one_fewer, holds.fits);
+      room_for_left = holds.room_for_left;
+      transient = holds.transient;
     }
 
--- where it was in one
-pub flushed_holds : (records new_records : List Record) (vacant new_vacant loaded new_loaded : List ℕ)
-    (vacant_room new_vacant_room loaded_room new_loaded_room slots item : ℕ)
-    → Holds records vacant loaded vacant_room loaded_room slots → items_of new_records ≡ set (items_of records) item no_item → AreRecords new_records
-    → ListsVacant new_records new_vacant new_vacant_room → length new_records ≡ length records
-    → ListsFlags (set (residency records) item false) new_loaded → new_loaded ≡ without_one item loaded → new_loaded_room ≡ loaded_room
-    → Holds new_records new_vacant new_loaded new_vacant_room new_loaded_room slots
-flushed_holds records new_records vacant new_vacant loaded new_loaded vacant_room new_vacant_room loaded_room new_loaded_room slots item holds is sound listed count lists order same = record {
-  sound = sound;
-  vacancies = listed.lists;
-  residents = subst (λ (flags : List Bool). ListsFlags flags new_loaded) (sym (forgotten_flags records new_records item is)) lists;
-  room_for_vacant = listed.most;
-  room_for_loaded = omega (arith, holds.room_for_loaded);
-  few = omega (arith, holds.few);
-  fits = omega (arith, ap (λ (l : List ℕ). length l) order, without_fewer item loaded, holds.fits);
-}
+    -- and where that is left to nobody
+    pub held_orphaned : (handle new_left_room : ℕ) → (octet_of handle == HT_TRANSIENT) ≡ true → left_room ≤ new_left_room
+        → HoldsResidents new_records new_loaded (left ++ handle ∷ []) new_loaded_room new_left_room slots
+    held_orphaned handle new_left_room is_transient more = record {
+      sound = sound;
+      residents = held_flushed.residents;
+      room_for_loaded = held_flushed.room_for_loaded;
+      few = held_flushed.few;
+      fits = omega (arith, one_fewer, holds.fits, length-append left (handle ∷ []));
+      room_for_left = omega (arith, holds.room_for_left, more);
+      transient = All-push (λ (h : ℕ). (octet_of h == HT_TRANSIENT) ≡ true) left handle holds.transient is_transient;
+    }
 
--- ---- one record more
-
-pub more_holds : (records : List Record) (vacant loaded : List ℕ) (vacant_room loaded_room slots : ℕ) (n : Record) → AreRecords records → IsRecord n
-    → item_of n ≡ no_item → ListsFlags (vacancy records) vacant → ListsFlags (residency records) loaded → length records + 1 ≤ vacant_room
-    → length records + 1 ≤ loaded_room → length records + 1 < 2 ^ 32 → length loaded ≤ slots
-    → Holds (records ++ n ∷ []) (vacant ++ length records ∷ []) loaded vacant_room loaded_room slots
-more_holds records vacant loaded vacant_room loaded_room slots n sound is item vacancies residents room more few fits =
-    let items = map_push item_of records n ∙ ap (λ (i : Item). items_of records ++ i ∷ []) item in
-    let flags = ap (map is_vacant) items ∙ map_push is_vacant (items_of records) no_item in
-    let slots = ap (map is_resident) items ∙ map_push is_resident (items_of records) no_item in
+-- one of those of nobody goes
+pub held_popped : (records : List Record) (loaded left new_left : List ℕ) (loaded_room left_room new_left_room slots handle : ℕ)
+    → HoldsResidents records loaded left loaded_room left_room slots → left ≡ new_left ++ handle ∷ [] → new_left_room ≡ left_room
+    → HoldsResidents records loaded new_left loaded_room new_left_room slots
+held_popped records loaded left new_left loaded_room left_room new_left_room slots handle holds is same =
+    let count = ap (λ (l : List ℕ). length l) is in
     record {
-      sound = All-push (λ (r : Record). IsRecord r) records n sound is;
-      vacancies = subst (λ (f : List Bool). ListsFlags f (vacant ++ length records ∷ [])) (sym flags)
-          (subst (λ (index : ℕ). ListsFlags (vacancy records ++ true ∷ []) (vacant ++ index ∷ [])) (vacancy_length records) (lists_true (vacancy records) vacant vacancies));
-      residents = subst (λ (f : List Bool). ListsFlags f loaded) (sym slots) (lists_false (residency records) loaded residents);
-      room_for_vacant = omega (arith, length-append records (n ∷ []));
-      room_for_loaded = omega (arith, length-append records (n ∷ []));
-      few = omega (arith, length-append records (n ∷ []));
-      fits = fits;
+      sound = holds.sound;
+      residents = holds.residents;
+      room_for_loaded = holds.room_for_loaded;
+      few = holds.few;
+      fits = omega (arith, holds.fits, count, length-append new_left (handle ∷ []));
+      room_for_left = omega (arith, holds.room_for_left, same);
+      transient = λ k d inside. ap (λ (h : ℕ). octet_of h == HT_TRANSIENT)
+          (sym (past_other new_left handle d k (omega (arith, inside))) ∙ sym (ap (λ (l : List ℕ). get_or l k d) is))
+          ∙ holds.transient k d (omega (arith, inside, count, length-append new_left (handle ∷ [])));
     }
 
--- where no index is listed, no item is vacant; where one is, some item is
-pub none_vacant : (records : List Record) (vacant : List ℕ) → ListsFlags (vacancy records) vacant → length vacant ≡ 0 → list_any is_vacant (items_of records) ≡ false
-none_vacant records vacant lists none =
-    list_none is_vacant (items_of records) (omega (arith, lists.count, counted_vacant (items_of records)))
-
-pub some_vacant : (records : List Record) (vacant : List ℕ) → ListsFlags (vacancy records) vacant → 1 ≤ length vacant → list_any is_vacant (items_of records) ≡ true
-some_vacant records vacant lists some =
-    list_some is_vacant (items_of records) (omega (arith, lists.count, counted_vacant (items_of records)))
+-- one record more
+pub held_more : (records : List Record) (loaded left : List ℕ) (loaded_room new_loaded_room left_room slots : ℕ) (n : Record)
+    → HoldsResidents records loaded left loaded_room left_room slots → IsRecord n → item_of n ≡ no_item → length records + 1 ≤ new_loaded_room
+    → length records + 1 < 2 ^ 32 → HoldsResidents (records ++ n ∷ []) loaded left new_loaded_room left_room slots
+held_more records loaded left loaded_room new_loaded_room left_room slots n holds is item more few =
+    let items = map_push item_of records n ∙ ap (λ (i : Item). items_of records ++ i ∷ []) item in
+    let flags = ap (map is_resident) items ∙ map_push is_resident (items_of records) no_item in
+    record {
+      sound = All-push (λ (r : Record). IsRecord r) records n holds.sound is;
+      residents = subst (λ (f : List Bool). ListsFlags f loaded) (sym flags) (lists_false (residency records) loaded holds.residents);
+      room_for_loaded = omega (arith, length-append records (n ∷ []), more);
+      few = omega (arith, length-append records (n ∷ []), few);
+      fits = holds.fits;
+      room_for_left = holds.room_for_left;
+      transient = holds.transient;
+    }
 
 -- ---- objects that are swapped
 
@@ -232,18 +217,23 @@ same_length records new_records same =
       length-map new_records item_of,
     )
 
-pub swapped_holds : (records new_records : List Record) (vacant loaded new_loaded : List ℕ) (vacant_room loaded_room new_loaded_room slots : ℕ)
-    → Holds records vacant loaded vacant_room loaded_room slots → owners (items_of new_records) ≡ owners (items_of records) → AreRecords new_records
-    → ListsResidents new_records new_loaded new_loaded_room → length new_loaded ≤ slots
-    → Holds new_records vacant new_loaded vacant_room new_loaded_room slots
-swapped_holds records new_records vacant loaded new_loaded vacant_room loaded_room new_loaded_room slots holds same sound listed fits =
+pub same_items : (records new_records : List Record) → owners (items_of new_records) ≡ owners (items_of records)
+    → length (items_of new_records) ≡ length (items_of records)
+same_items records new_records same =
+    omega (arith, same_length records new_records same, length-map records item_of, length-map new_records item_of)
+
+pub swapped_held : (records new_records : List Record) (loaded new_loaded left : List ℕ) (loaded_room new_loaded_room left_room slots : ℕ)
+    → HoldsResidents records loaded left loaded_room left_room slots → owners (items_of new_records) ≡ owners (items_of records) → AreRecords new_records
+    → ListsResidents new_records new_loaded new_loaded_room → length new_loaded + length left ≤ slots
+    → HoldsResidents new_records new_loaded left new_loaded_room left_room slots
+swapped_held records new_records loaded new_loaded left loaded_room new_loaded_room left_room slots holds same sound listed fits =
     let count = same_length records new_records same in
     record {
       sound = sound;
-      vacancies = subst (λ (flags : List Bool). ListsFlags flags vacant) (sym (same_vacancy (items_of records) (items_of new_records) same)) holds.vacancies;
       residents = listed.lists;
-      room_for_vacant = omega (arith, holds.room_for_vacant);
       room_for_loaded = listed.most;
       few = omega (arith, holds.few);
       fits = fits;
+      room_for_left = holds.room_for_left;
+      transient = holds.transient;
     }

@@ -1,6 +1,6 @@
 -- The objects that a swapper holds for its clients: each in a slot of the device, in a context beside it, or both (Part 1,
 -- "Context Management"). What a device that tells its state has of them is said over that state.
-use Rattle.std.specs.Prelude.{◌≡◌, ◌<◌, ◌≤◌, ℕ, ◌+◌, ◌-◌, ◌==◌, ◌&&◌, ◌||◌, not, bytes_eq, Bool, true, false, List, [], ◌∷◌, length, map, take, get_or, set, Option, Some, None, is_some, IfSome, Result, Ok, OnErr, OnOk, if◌then◌else◌}
+use Rattle.std.specs.Prelude.{◌≡◌, ◌<◌, ◌≤◌, ℕ, ◌+◌, ◌-◌, ◌==◌, ◌&&◌, ◌||◌, not, bytes_eq, Bool, true, false, List, [], ◌∷◌, ◌++◌, length, map, take, get_or, set, Option, Some, None, is_some, IfSome, Result, Ok, OnErr, OnOk, if◌then◌else◌}
 use Rattle.std.specs.List.{AllByRecursion, count_by, list_any}
 use Rattle.tab_spec.specs.declared.TheConstants.{CONTEXT_LIMIT, TRANSIENT_FIRST}
 use Rattle.tab_spec.specs.Object.{Object}
@@ -16,12 +16,14 @@ pub record Item : Type 0 where
   pub slot : Option ℕ
   pub blob : Option (List ℕ)
 
--- what is seen of a swapper: its items, by index, how many slots its device has, and the indices of the items in slots, the least
--- recently used first
+-- what is seen of a swapper: its items, by index, how many slots its device has, the indices of the items in slots, the least
+-- recently used first, whose each list is, if anybody's, and the slots with objects of nobody
 pub record ObjectsView : Type 0 where
   pub items : List Item
   pub slots : ℕ
   pub order : List ℕ
+  pub owners : List (Option ℕ)
+  pub left : List ℕ
 
 -- ---- items
 
@@ -42,13 +44,17 @@ item_at items index = get_or items index no_item
 abbrev pub new_item : ℕ → ℕ → Item
 new_item client slot = record { client = Some client; slot = Some slot; blob = None }
 
--- the same object, left to nobody
-abbrev pub disowned : Item → Item
-disowned item = record item { client = None }
+-- whether it is this client's
+abbrev pub is_owner : ℕ → Option ℕ → Bool
+is_owner client None = false
+is_owner client (Some owner) = owner == client
 
--- an object of nobody that is in a slot
-abbrev pub is_orphan : Item → Bool
-is_orphan item = is_some item.slot && not (is_some item.client)
+abbrev pub is_client : ℕ → Item → Bool
+is_client client item = is_owner client item.client
+
+-- a client has no object
+abbrev pub HasNone : List Item → ℕ → Type 0
+HasNone items client = (index : ℕ) → is_client client (item_at items index) ≡ false
 
 -- whether these bytes are the context that is kept for an object
 abbrev pub is_kept : List ℕ → Option (List ℕ) → Bool
@@ -86,6 +92,23 @@ owners items = map (λ item. (item.client, is_vacant item)) items
 abbrev pub handle_in : Option ℕ → Option ℕ
 handle_in None = None
 handle_in (Some slot) = Some (TRANSIENT_FIRST + slot)
+
+-- ---- lists of the clients
+
+-- whose a list is, if anybody's
+abbrev pub owner_at : List (Option ℕ) → ℕ → Option ℕ
+owner_at owners list = get_or owners list None
+
+-- whether a client has one
+abbrev pub has_list : List (Option ℕ) → ℕ → Bool
+has_list owners client = list_any (λ owner. is_owner client owner) owners
+
+-- whether it is nobody's, and whether any list is
+abbrev pub is_nobodys : Option ℕ → Bool
+is_nobodys owner = not (is_some owner)
+
+abbrev pub has_free_list : List (Option ℕ) → Bool
+has_free_list owners = list_any is_nobodys owners
 
 -- ---- what stands for the objects, in the state of a device
 
@@ -258,6 +281,8 @@ pub record MakesRoom {D : Type 0} (seen : D → Seen) (old new : D) (needed : Li
 -- what moves leave, whether they failed or not: every object stands as before, and whose it is
 pub record Moved {D : Type 0} (seen : D → Seen) (old new : D) (old_view new_view : ObjectsView) : Type 0 where
   pub slots : new_view.slots ≡ old_view.slots
+  pub owners : new_view.owners ≡ old_view.owners
+  pub left : new_view.left ≡ old_view.left
   pub objects : KeepsObjects (seen old).state (seen new).state old_view.items new_view.items
   pub stand : Stand (seen new).state new_view.items []
   pub rest : KeepsRest seen old new
@@ -270,6 +295,17 @@ pub record Forgets (index : ℕ) (old_state new_state : Option SlotState) (old n
 -- what a drop leaves, whether it failed or not: what is left stands, and no context was made
 pub record Dropped {D : Type 0} (seen : D → Seen) (old new : D) (old_view new_view : ObjectsView) : Type 0 where
   pub slots : new_view.slots ≡ old_view.slots
+  pub owners : new_view.owners ≡ old_view.owners
+  pub left : new_view.left ≡ old_view.left
   pub stand : (others : List ℕ) → Stand (seen old).state old_view.items others → Stand (seen new).state new_view.items others
   pub counter : counter_of (seen new).state ≡ counter_of (seen old).state
   pub rest : KeepsRest seen old new
+
+-- an object of nobody is gone, the last of them, and each other object stands as before
+pub record LosesOrphan (old_state new_state : Option SlotState) (old new : ObjectsView) : Type 0 where
+  pub slot : ℕ
+  pub left : old.left ≡ new.left ++ slot ∷ []
+  pub same : new ≡ record old { left = new.left }
+  pub objects : objects_of new_state new.items ≡ objects_of old_state old.items
+  pub stand : Stand new_state new.items new.left
+  pub counter : counter_of new_state ≡ counter_of old_state

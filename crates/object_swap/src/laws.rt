@@ -1,7 +1,8 @@
-ghost use Rattle.std.specs.Prelude.{◌≡◌, ◌<◌, ℕ, List, ◌∷◌, length, map, set, get_or, true, None};
+ghost use Rattle.std.specs.Prelude.{◌≡◌, ◌<◌, ◌++◌, ◌∷◌, [], ℕ, List, Some, None};
+ghost use Rattle.std.specs.Prelude.{length, map, set, get_or, true};
 ghost use Rattle.device_spec.specs.Slots.{SlotState};
-ghost use Rattle.object_swap.specs.Items.{Item, Names, ObjectsStand, disowned, is_vacant, item_at};
-ghost use Rattle.object_swap.specs.Items.{item_object, new_item};
+ghost use Rattle.object_swap.specs.Items.{Item, ObjectsStand, is_vacant, item_at};
+ghost use Rattle.object_swap.specs.Items.{item_object, new_item, no_item};
 
 /// An object in a slot that is nobody's yet may become an item, in the place of one that is
 /// nowhere. The objects of the other items stay, and that of the new one is what the slot holds.
@@ -16,12 +17,18 @@ pub fn adopted_objects_stand()
         ≡ set (map (item_object slots) items) index (get_or slots.slots slot None) }
 {}
 
-/// An object that is left to nobody stands as before, and so does each other one.
-pub fn disowned_objects_stand()
-    ensures stand { (slots : SlotState) (items : List Item) (index : ℕ) (others : List ℕ)
-        → Names items index → ObjectsStand slots items others
-        → ObjectsStand slots (set items index (disowned (item_at items index))) others }
-    ensures objects { (slots : SlotState) (items : List Item) (index : ℕ) → Names items index
-        → map (item_object slots) (set items index (disowned (item_at items index)))
-        ≡ map (item_object slots) items }
+/// An object that is left to nobody leaves its place, and its slot is that of nobody's object. The
+/// objects of the other items stay.
+pub fn orphaned_objects_stand()
+    ensures stand { (slots : SlotState) (items : List Item) (index slot : ℕ) (others : List ℕ)
+        → ObjectsStand slots items others → index < length items
+        → (item_at items index).slot ≡ Some slot
+        → ObjectsStand slots (set items index no_item) (slot ∷ others) }
+    ensures objects { (slots : SlotState) (items : List Item) (index : ℕ)
+        → map (item_object slots) (set items index no_item)
+        ≡ set (map (item_object slots) items) index None }
+    // In which order those of nobody stand doesn't count.
+    ensures last { (slots : SlotState) (items : List Item) (slot : ℕ) (others : List ℕ)
+        → ObjectsStand slots items (slot ∷ others)
+        → ObjectsStand slots items (others ++ slot ∷ []) }
 {}

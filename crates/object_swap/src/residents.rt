@@ -1,14 +1,14 @@
 ghost use Rattle.std.specs.Prelude.{◌≡◌, ◌≤◌, ◌<◌, ◌+◌, ◌||◌, not, ℕ, length, get_or};
 ghost use Rattle.std.specs.Prelude.{true, false, vec_capacity, IfSome, OnOk, MatchOption};
-ghost use Rattle.std.specs.List.{count_by, list_any};
+ghost use Rattle.std.specs.List.{list_any};
 ghost use Rattle.device_spec.specs.Slots.{is_free};
 ghost use Rattle.device_port.specs.Device.{asked_of, last_of};
 ghost use Rattle.device_port.specs.Own.{AsksSome, IsAnswered};
 ghost use Rattle.device_port.specs.Use.{is_among};
 ghost use Rattle.object_swap.specs.Items.{AreResident, AreThere, KeepsSlots, MakesRoom, Names};
-ghost use Rattle.object_swap.specs.Items.{is_kept, is_orphan, is_resident, item_at, missing};
-ghost use Rattle.object_swap.specs.Records.{AreAmong, ListsFlags, ListsResidents, item_of};
-ghost use Rattle.object_swap.specs.Records.{items_of, residency, view_of};
+ghost use Rattle.object_swap.specs.Items.{is_kept, is_resident, item_at, missing};
+ghost use Rattle.object_swap.specs.Records.{AreAmong, ListsResidents, item_of};
+ghost use Rattle.object_swap.specs.Records.{items_of, view_of};
 ghost use Rattle.object_swap.specs.Moves.{Brings, CanFill, CanSwap, Evicts, Fills};
 ghost use Rattle.object_swap.specs.Moves.{PutsAway, Ready, Swaps};
 
@@ -46,32 +46,6 @@ pub fn any_keeps(records: &[Record], context: &[u8]) -> bool
     ensures { result ≡ list_any (λ r. is_kept context.now (item_of r).blob) records.now }
 {
     records.iter().any(|record| record.keeps(context))
-}
-
-/// How many residents are nobody's.
-pub fn count_orphans(records: &[Record]) -> usize
-    ensures count { result ≡ count_by is_orphan (items_of records.now) }
-    ensures most { result ≤ length records.now }
-{
-    records
-        .iter()
-        .filter(|record| record.handle.is_some() && record.client.is_none())
-        .count()
-}
-
-/// A resident that is nobody's.
-pub fn find_orphan(records: &[Record], loaded: &[u32]) -> Option<u32>
-    requires { ListsFlags (residency records.now) loaded.now }
-    ensures { MatchOption result (list_any is_orphan (items_of records.now) ≡ false)
-        (λ item. Names (items_of records.now) item
-        × (is_orphan (item_at (items_of records.now) item) ≡ true)) }
-{
-    for item in loaded {
-        if records[*item as usize].client.is_none() {
-            return Some(*item);
-        }
-    }
-    None
 }
 
 // Whether an object is in a slot.

@@ -1,72 +1,123 @@
-ghost use Rattle.std.specs.Prelude.{◌≡◌, ◌≤◌, ◌<◌, ◌-◌, ◌⊎◌, ◌==◌, [], ◌∷◌, ◌++◌};
-ghost use Rattle.std.specs.Prelude.{List, ℕ, length, set, true, false, Ok, IfOk};
+ghost use Rattle.std.specs.Prelude.{◌≡◌, ◌≤◌, ◌<◌, ◌+◌, ◌*◌, ◌-◌, ◌⊎◌, ◌==◌, [], ◌∷◌, ◌++◌};
+ghost use Rattle.std.specs.Prelude.{List, ℕ, Some, None, length, set, true, false, Ok, IfOk};
 ghost use Rattle.std.specs.Prelude.{OnOk, OnErr, MatchOption};
-ghost use Rattle.std.specs.List.{count_by, list_any};
+ghost use Rattle.std.specs.List.{list_any};
 ghost use Rattle.tab_spec.specs.declared.TheConstants.{HT_TRANSIENT, TRANSIENT_FIRST};
 ghost use Rattle.tab_spec.specs.Shape.{octet_of};
 ghost use Rattle.device_spec.specs.ContextCommands.{flush_context_command};
 ghost use Rattle.device_port.specs.Own.{Asks, AsksSome};
 ghost use Rattle.device_port.specs.Use.{without_one};
 ghost use Rattle.object_swap.specs.Items.{AreNeeded, Dropped, HasSlots, HaveSlots, KeepsSlots};
-ghost use Rattle.object_swap.specs.Items.{Forgets, MakesRoom, MayMove, Moved, Names, Stand};
-ghost use Rattle.object_swap.specs.Items.{disowned, handle_in, is_orphan, is_vacant, item_at};
-ghost use Rattle.object_swap.specs.Items.{keeps_context, new_item, no_item, residents};
+ghost use Rattle.object_swap.specs.Items.{Forgets, HasNone, KeepsRest, LosesOrphan, MakesRoom};
+ghost use Rattle.object_swap.specs.Items.{MayMove, Moved, Names, Stand, handle_in, has_free_list};
+ghost use Rattle.object_swap.specs.Items.{has_list, is_resident, is_vacant, item_at, keeps_context};
+ghost use Rattle.object_swap.specs.Items.{new_item, no_item, owner_at, residents};
 ghost use Rattle.object_swap.specs.declared.TheConstants.{PLACES_MOST};
 
 use crate::PLACES_MOST;
+use crate::lists::{Uncounted, Visits, free_list, release};
 use crate::moves::flush;
 use crate::record::Record;
-use crate::residents::{any_keeps, count_orphans, find_orphan, swap_objects};
-use crate::vacant::{forget, list_last, unlist};
+use crate::residents::{any_keeps, swap_objects};
+use crate::vacant::{list_last, unlist};
 use device_port::{Device, SwapError};
 use device_spec::MOST_OBJECT_CONTEXT_BYTES;
+use linked_records::{Records, Steps};
 use std::alloc::{AllocError, Global};
 use std::marker::Model;
+use std::sync::ledger::Ledger;
 use tab_bytes::Buffer;
 
 /// The objects of all clients: more of them than the device has slots. Each stands in a slot, in a
 /// context that the device made of it, or in both. It is seen as its items, by index; an item that
-/// is nowhere is a place for another object.
+/// is nowhere is a place for another object. Each client has a list of its objects, and those of
+/// nobody are kept apart, by their slots alone.
 #[derive(Drop)]
 pub struct Objects {
     alloc: Global,
     records: Vec<Record>,
-    // The indices of the records that are nowhere, and of those that are in a slot, the least
-    // recently used first: so no call goes over all records.
-    vacant: Vec<u32>,
+    // How many of the records are nowhere.
+    vacant: u32,
+    // The indices of the records of each client, and whose each of these lists is, if anybody's.
+    lists: Records<()>,
+    owners: Vec<Option<u32>>,
+    // The indices of the records that are in a slot, the least recently used first.
     loaded: Vec<u32>,
+    // The device's handles of the objects of nobody.
+    left: Vec<u32>,
     slots: u8,
 }
 
 impl Model for Objects {
     ghost use Rattle.std.specs.Prelude.{vec_capacity};
     ghost use Rattle.object_swap.specs.Items.{ObjectsView};
-    ghost use Rattle.object_swap.specs.Records.{Holds, items_of};
+    ghost use Rattle.object_swap.specs.Records.{Holds, view_with};
 
     ghost Value = { ObjectsView };
 
-    ghost view = { λ o. record {
-      items = items_of o.records.items;
-      slots = o.slots;
-      order = o.loaded.items;
-    } };
+    ghost view = { λ o. view_with o.records.items o.loaded.items o.slots
+        o.owners.items o.left.items };
 
-    ghost invariant = { λ o. Holds o.records.items o.vacant.items o.loaded.items
-        (vec_capacity o.vacant) (vec_capacity o.loaded) o.slots };
+    ghost invariant = { λ o. Holds o.records.items o.lists o.owners.items o.vacant
+        o.loaded.items o.left.items (vec_capacity o.loaded) (vec_capacity o.left) o.slots };
 }
 
 impl Objects {
     /// No objects, for a device with so many slots.
     pub fn new(alloc: Global, slots: u8) -> Result<Objects, AllocError>
-        ensures { IfOk result (λ o. o ≡ record { items = []; slots = slots; order = [] }) }
+        ensures { IfOk result (λ o. o
+            ≡ record { items = []; slots = slots; order = []; owners = []; left = [] }) }
     {
+        let lists = Records::new(alloc, 0)?;
+        let left = Vec::with_capacity(alloc, usize::from(slots))?;
         Ok(Objects {
             alloc,
             records: Vec::new(alloc),
-            vacant: Vec::new(alloc),
+            vacant: 0,
+            lists,
+            owners: Vec::new(alloc),
             loaded: Vec::new(alloc),
+            left,
             slots,
         })
+    }
+
+    /// Gives a client a list for its objects: one that is nobody's, or one more. It takes memory
+    /// only where every list is somebody's, and fails only there: for want of memory, or where
+    /// there are 2,147,483,648 lists already. An error changes nothing.
+    pub fn add_client(&mut self, client: u32) -> Result<u32, AllocError>
+        requires new { has_list self.old.owners client ≡ false }
+        ensures owner { IfOk result (λ list. owner_at self.new.owners list ≡ Some client) }
+        ensures again { has_free_list self.old.owners ≡ true → IfOk result (λ list.
+            (list < length self.old.owners) × (owner_at self.old.owners list ≡ None)
+            × (self.new ≡ record self.old
+            { owners = set self.old.owners list (Some client) })) }
+        ensures more { has_free_list self.old.owners ≡ false → IfOk result (λ list.
+            (list ≡ length self.old.owners)
+            × (self.new ≡ record self.old { owners = self.old.owners ++ Some client ∷ [] })) }
+        ensures err { OnErr result (self.new ≡ self.old) }
+        ensures none { OnErr result (has_free_list self.old.owners ≡ false) }
+    {
+        if let Some(list) = free_list(&self.owners) {
+            self.owners[list as usize] = Some(client);
+            return Ok(list);
+        }
+        if self.owners.len() >= PLACES_MOST as usize {
+            return Err(AllocError);
+        }
+        self.owners.reserve(1)?;
+        let list = self.lists.add_list()?;
+        self.owners.push_reserved(Some(client));
+        Ok(list)
+    }
+
+    /// The client of a list is closed, and has no object left: its list is nobody's.
+    pub fn end_client(&mut self, list: u32)
+        requires { (client : ℕ) × (owner_at self.old.owners list ≡ Some client)
+            × HasNone self.old.items client }
+        ensures { self.new ≡ record self.old { owners = set self.old.owners list None } }
+    {
+        self.owners[list as usize] = None;
     }
 
     /// Takes memory for one more object, where it isn't there yet. It fails only for want of
@@ -78,28 +129,27 @@ impl Objects {
         ensures same { (self.new.items ≡ self.old.items)
             ⊎ (list_any is_vacant self.old.items ≡ false)
             × (self.new.items ≡ self.old.items ++ no_item ∷ []) }
-        ensures rest { (self.new.slots ≡ self.old.slots) × (self.new.order ≡ self.old.order) }
+        ensures rest { self.new ≡ record self.old { items = self.new.items } }
         ensures err { OnErr result (self.new ≡ self.old) }
         ensures grows { OnErr result (list_any is_vacant self.old.items ≡ false) }
     {
-        if !self.vacant.is_empty() {
+        if self.vacant > 0 {
             return Ok(());
         }
         if self.records.len() >= PLACES_MOST as usize {
             return Err(AllocError);
         }
         let count = self.records.len() + 1;
-        self.vacant.reserve(count)?;
+        self.lists.reserve()?;
         self.loaded.reserve(count - self.loaded.len())?;
         let blob = Vec::with_capacity(self.alloc, MOST_OBJECT_CONTEXT_BYTES as usize)?;
-        let item = self.records.len() as u32;
         self.records.push(Record {
             client: None,
             handle: None,
             blob,
             kept: false,
         })?;
-        list_last(&mut self.vacant, item);
+        self.vacant = 1;
         Ok(())
     }
 
@@ -117,6 +167,7 @@ impl Objects {
     ) -> Result<(), SwapError>
         requires needed { AreNeeded needed.now new_slots self.old }
         requires may { MayMove (D.seen device.old).state self.old.slots }
+        requires nobodys { self.old.left ≡ [] }
         requires stand { Stand (D.seen device.old).state self.old.items [] }
         ensures ok { OnOk result
             (HaveSlots needed.now new_slots (D.seen device.new).state self.new) }
@@ -148,11 +199,12 @@ impl Objects {
         self.records[index].handle
     }
 
-    /// Holds a new object, which is in the slot of this handle, for a client; its index. The object
-    /// counts as used. It takes no memory.
-    pub fn adopt(&mut self, client: u32, handle: u32) -> u32
+    /// Holds a new object, which is in the slot of this handle, for a client with this list; its
+    /// index. The object counts as used. It takes no memory.
+    pub fn adopt(&mut self, client: u32, list: u32, handle: u32) -> u32
+        requires list { owner_at self.old.owners list ≡ Some client }
         requires room { list_any is_vacant self.old.items ≡ true }
-        requires slot { residents self.old.items < self.old.slots }
+        requires slot { residents self.old.items + length self.old.left < self.old.slots }
         requires handle { (octet_of handle == HT_TRANSIENT) ≡ true }
         ensures inside { result < length self.old.items }
         ensures vacant { is_vacant (item_at self.old.items result) ≡ true }
@@ -161,7 +213,8 @@ impl Objects {
           order = self.old.order ++ result ∷ [];
         } }
     {
-        let item = self.vacant.pop().unwrap();
+        let item = self.lists.insert_back(list, ());
+        self.vacant -= 1;
         let record = &mut self.records[item as usize];
         record.client = Some(client);
         record.handle = Some(handle);
@@ -169,14 +222,28 @@ impl Objects {
         item
     }
 
-    /// Leaves an object to nobody: its client is closed, and its flush failed.
-    pub fn disown(&mut self, item: u32)
-        requires { Names self.old.items item }
-        ensures { self.new ≡ record self.old
-            { items = set self.old.items item (disowned (item_at self.old.items item)) } }
+    /// An object of the client of a list; nothing where it has none.
+    pub fn first(&self, list: u32) -> Option<u32>
+        requires { (client : ℕ) × (owner_at self.now.owners list ≡ Some client) }
+        ensures { (client : ℕ) → owner_at self.now.owners list ≡ Some client
+            → MatchOption result (HasNone self.now.items client)
+            (λ item. Names self.now.items item
+            × ((item_at self.now.items item).client ≡ Some client)) }
     {
-        let record = &mut self.records[item as usize];
-        record.client = None;
+        self.first_by(list, &mut Uncounted)
+    }
+
+    /// `first`, which visits the record that it names: one, or none where the client has none.
+    pub fn first_counted<L: Ledger>(&self, list: u32, steps: &mut Steps<L>) -> Option<u32>
+        requires { (client : ℕ) × (owner_at self.now.owners list ≡ Some client) }
+        ensures first { (client : ℕ) → owner_at self.now.owners list ≡ Some client
+            → MatchOption result (HasNone self.now.items client)
+            (λ item. Names self.now.items item
+            × ((item_at self.now.items item).client ≡ Some client)) }
+        ensures steps { MatchOption result
+            (steps.new ≡ steps.old) (λ item. steps.new ≡ steps.old + 1) }
+    {
+        self.first_by(list, steps)
     }
 
     /// Whether these bytes are a context that is kept for an object of any client. It goes over all
@@ -185,22 +252,6 @@ impl Objects {
         ensures { result ≡ keeps_context self.now.items context.now }
     {
         any_keeps(&self.records, context)
-    }
-
-    /// How many objects of nobody are in slots. It goes over all objects.
-    pub fn orphans(&self) -> u32
-        ensures { result ≡ count_by is_orphan self.now.items }
-    {
-        count_orphans(&self.records) as u32
-    }
-
-    /// An object of nobody that is in a slot; nothing where there is none.
-    pub fn orphan(&self) -> Option<u32>
-        ensures { MatchOption result (list_any is_orphan self.now.items ≡ false)
-            (λ item. Names self.now.items item
-            × (is_orphan (item_at self.now.items item) ≡ true)) }
-    {
-        find_orphan(&self.records, &self.loaded)
     }
 
     /// Forgets an object, and flushes it where it is in a slot (Part 3, "TPM2_FlushContext"). Else
@@ -226,13 +277,201 @@ impl Objects {
         ensures dropped { Dropped D.seen device.old device.new self.old self.new }
         ensures asks { AsksSome D.seen device.old device.new result }
     {
-        let Some(handle) = self.records[item as usize].handle else {
-            forget(&mut self.records, &mut self.vacant, item);
+        self.drop_by(device, item, scratch, &mut Uncounted)
+    }
+
+    /// `drop_object`, which visits two to five records, and at most two where it fails.
+    pub fn drop_object_counted<D: Device, L: Ledger>(
+        &mut self,
+        device: &mut D,
+        item: u32,
+        scratch: &mut Buffer,
+        steps: &mut Steps<L>,
+    ) -> Result<(), SwapError>
+        requires named { Names self.old.items item }
+        requires numbers { HasSlots (D.seen device.old).state self.old.slots }
+        requires stand { (others : List ℕ) × Stand (D.seen device.old).state self.old.items others }
+        ensures ok { OnOk result (Forgets item (D.seen device.old).state
+            (D.seen device.new).state self.old.items self.new.items
+            × (self.new.order ≡ without_one item self.old.order)) }
+        ensures err { OnErr result ((self.new ≡ self.old)
+            × ((D.seen device.new).state ≡ (D.seen device.old).state)) }
+        // Exactly one FlushContext is sent where the object is in a slot.
+        ensures sent { MatchOption (handle_in (item_at self.old.items item).slot)
+            ((result ≡ Ok tt) × (device.new ≡ device.old))
+            (λ handle. Asks D.seen device.old device.new (flush_context_command handle) result) }
+        ensures dropped { Dropped D.seen device.old device.new self.old self.new }
+        ensures asks { AsksSome D.seen device.old device.new result }
+        ensures steps { OnOk result (steps.old + 2 ≤ steps.new)
+            × (steps.new ≤ steps.old + 5) }
+        ensures few { OnErr result (steps.new ≤ steps.old + 2) }
+    {
+        self.drop_by(device, item, scratch, steps)
+    }
+
+    /// Leaves an object to nobody: its client is closed, and its flush failed. Its record is free.
+    pub fn orphan_object(&mut self, item: u32)
+        requires named { Names self.old.items item }
+        requires slot { is_resident (item_at self.old.items item) ≡ true }
+        ensures { (slot : ℕ) → (item_at self.old.items item).slot ≡ Some slot
+            → self.new ≡ record self.old {
+              items = set self.old.items item no_item;
+              order = without_one item self.old.order;
+              left = self.old.left ++ slot ∷ [];
+            } }
+    {
+        self.orphan_by(item, &mut Uncounted);
+    }
+
+    /// `orphan_object`, which visits one to three records.
+    pub fn orphan_object_counted<L: Ledger>(&mut self, item: u32, steps: &mut Steps<L>)
+        requires named { Names self.old.items item }
+        requires slot { is_resident (item_at self.old.items item) ≡ true }
+        ensures left { (slot : ℕ) → (item_at self.old.items item).slot ≡ Some slot
+            → self.new ≡ record self.old {
+              items = set self.old.items item no_item;
+              order = without_one item self.old.order;
+              left = self.old.left ++ slot ∷ [];
+            } }
+        ensures steps { (steps.old + 1 ≤ steps.new) × (steps.new ≤ steps.old + 3) }
+    {
+        self.orphan_by(item, steps);
+    }
+
+    /// How many objects of nobody are in slots.
+    pub fn orphans(&self) -> u8
+        ensures { result ≡ length self.now.left }
+    {
+        // There are no more of them than slots.
+        let count = self.left.len();
+        prove!(count <= usize::from(self.slots));
+        count as u8
+    }
+
+    /// A place that is no client's is nowhere: a law, which does nothing when it runs.
+    pub fn show_vacant(&self)
+        ensures { (index : ℕ) → (item_at self.now.items index).client ≡ None
+            → is_vacant (item_at self.now.items index) ≡ true }
+    {
+        let _slots = self.slots;
+    }
+
+    /// Flushes one object of nobody, where there is one (Part 3, "TPM2_FlushContext"); whether
+    /// there was. Else nothing is sent. An error changes nothing.
+    pub fn flush_orphan<D: Device>(
+        &mut self,
+        device: &mut D,
+        scratch: &mut Buffer,
+    ) -> Result<bool, SwapError>
+        requires stand { Stand (D.seen device.old).state self.old.items self.old.left }
+        ensures none { IfOk result (λ some. some ≡ false → (self.old.left ≡ [])
+            × (self.new ≡ self.old) × (device.new ≡ device.old)) }
+        ensures flushed { IfOk result (λ some. some ≡ true → LosesOrphan
+            (D.seen device.old).state (D.seen device.new).state self.old self.new) }
+        ensures err { OnErr result ((self.new ≡ self.old)
+            × ((D.seen device.new).state ≡ (D.seen device.old).state)) }
+        ensures some { OnErr result (1 ≤ length self.old.left) }
+        // Exactly one FlushContext is sent, of the handle of the last of them.
+        ensures sent { (left : List ℕ) (slot : ℕ) → self.old.left ≡ left ++ slot ∷ []
+            → Asks D.seen device.old device.new
+            (flush_context_command (TRANSIENT_FIRST + slot)) result }
+        ensures rest { KeepsRest D.seen device.old device.new }
+        ensures asks { AsksSome D.seen device.old device.new result }
+    {
+        let Some(handle) = self.left.last() else {
+            return Ok(false);
+        };
+        flush(device, *handle, scratch)?;
+        self.left.pop();
+        Ok(true)
+    }
+}
+
+impl Objects {
+    /// `first`, which tells what it visits.
+    pub fn first_by<C: Visits>(&self, list: u32, steps: &mut C) -> Option<u32>
+        requires { (client : ℕ) × (owner_at self.now.owners list ≡ Some client) }
+        ensures first { (client : ℕ) → owner_at self.now.owners list ≡ Some client
+            → MatchOption result (HasNone self.now.items client)
+            (λ item. Names self.now.items item
+            × ((item_at self.now.items item).client ≡ Some client)) }
+        ensures steps { MatchOption result (C.count steps.new ≡ C.count steps.old)
+            (λ item. C.count steps.new ≡ C.count steps.old + C.weight) }
+        ensures few { C.count steps.new ≤ C.count steps.old + 1 }
+    {
+        steps.first(&self.lists, list)
+    }
+
+    /// `drop_object`, which tells what it visits.
+    pub fn drop_by<D: Device, C: Visits>(
+        &mut self,
+        device: &mut D,
+        item: u32,
+        scratch: &mut Buffer,
+        steps: &mut C,
+    ) -> Result<(), SwapError>
+        requires named { Names self.old.items item }
+        requires numbers { HasSlots (D.seen device.old).state self.old.slots }
+        requires stand { (others : List ℕ) × Stand (D.seen device.old).state self.old.items others }
+        ensures ok { OnOk result (Forgets item (D.seen device.old).state
+            (D.seen device.new).state self.old.items self.new.items
+            × (self.new.order ≡ without_one item self.old.order)) }
+        ensures err { OnErr result ((self.new ≡ self.old)
+            × ((D.seen device.new).state ≡ (D.seen device.old).state)) }
+        // Exactly one FlushContext is sent where the object is in a slot.
+        ensures sent { MatchOption (handle_in (item_at self.old.items item).slot)
+            ((result ≡ Ok tt) × (device.new ≡ device.old))
+            (λ handle. Asks D.seen device.old device.new (flush_context_command handle) result) }
+        ensures dropped { Dropped D.seen device.old device.new self.old self.new }
+        ensures asks { AsksSome D.seen device.old device.new result }
+        ensures steps { OnOk result (C.count steps.old + 2 * C.weight ≤ C.count steps.new)
+            × (C.count steps.new ≤ C.count steps.old + 5) }
+        ensures few { OnErr result (C.count steps.new ≤ C.count steps.old + 2) }
+    {
+        let Some(handle) = steps.look_up(&self.records, item).handle else {
+            release(
+                &mut self.records,
+                &mut self.lists,
+                &mut self.vacant,
+                item,
+                steps,
+            );
             return Ok(());
         };
         flush(device, handle, scratch)?;
         unlist(&mut self.loaded, item);
-        forget(&mut self.records, &mut self.vacant, item);
+        release(
+            &mut self.records,
+            &mut self.lists,
+            &mut self.vacant,
+            item,
+            steps,
+        );
         Ok(())
+    }
+
+    /// `orphan_object`, which tells what it visits.
+    pub fn orphan_by<C: Visits>(&mut self, item: u32, steps: &mut C)
+        requires named { Names self.old.items item }
+        requires slot { is_resident (item_at self.old.items item) ≡ true }
+        ensures left { (slot : ℕ) → (item_at self.old.items item).slot ≡ Some slot
+            → self.new ≡ record self.old {
+              items = set self.old.items item no_item;
+              order = without_one item self.old.order;
+              left = self.old.left ++ slot ∷ [];
+            } }
+        ensures steps { (C.count steps.old + C.weight ≤ C.count steps.new)
+            × (C.count steps.new ≤ C.count steps.old + 3) }
+    {
+        let handle = self.records[item as usize].handle.unwrap();
+        unlist(&mut self.loaded, item);
+        release(
+            &mut self.records,
+            &mut self.lists,
+            &mut self.vacant,
+            item,
+            steps,
+        );
+        list_last(&mut self.left, handle);
     }
 }

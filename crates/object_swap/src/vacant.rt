@@ -3,7 +3,7 @@ ghost use Rattle.std.specs.Prelude.{get_or, false, vec_capacity};
 ghost use Rattle.std.specs.List.{count_by, remove};
 ghost use Rattle.device_port.specs.Use.{used_after, without_one};
 ghost use Rattle.object_swap.specs.Items.{Names, no_item};
-ghost use Rattle.object_swap.specs.Records.{AreRecords, ListsFlags, ListsVacant, items_of};
+ghost use Rattle.object_swap.specs.Records.{AreRecords, ListsFlags, items_of};
 
 use crate::record::Record;
 
@@ -57,18 +57,15 @@ pub fn move_last(indices: &mut Vec<u32>, index: u32)
 }
 
 /// What was an object becomes a place for another one.
-pub fn forget(records: &mut Vec<Record>, vacant: &mut Vec<u32>, item: u32)
+pub fn forget(records: &mut Vec<Record>, item: u32)
     requires named { Names (items_of records.old.items) item }
     requires sound { AreRecords records.old.items }
-    requires listed { ListsVacant records.old.items vacant.old.items (vec_capacity vacant.old) }
     ensures items { items_of records.new.items ≡ set (items_of records.old.items) item no_item }
     ensures sound { AreRecords records.new.items }
-    ensures listed { ListsVacant records.new.items vacant.new.items (vec_capacity vacant.new) }
     ensures count { length records.new.items ≡ length records.old.items }
 {
     let record = &mut records[item as usize];
     record.client = None;
     record.handle = None;
     record.kept = false;
-    list_last(vacant, item);
 }

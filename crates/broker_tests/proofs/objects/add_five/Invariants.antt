@@ -1,6 +1,6 @@
-use Rattle.std.proofs.Common.{◌≡◌, false, length}
+use Rattle.std.proofs.Common.{◌≡◌, [], Some, false, length}
 use Rattle.std.specs.List.{list_any}
-use Rattle.object_swap.specs.Items.{is_vacant}
+use Rattle.object_swap.specs.Items.{is_vacant, owner_at}
 use Rattle.broker_tests.proofs.objects.add_five.Given as goal
 
 abbrev pub invariant-loop : goal.invariant-loop
@@ -8,4 +8,6 @@ invariant-loop l = record {
   full : list_any is_vacant l.objects.items ≡ false;
   count : length l.objects.items ≡ l.counter;
   slots : l.objects.slots ≡ 3;
+  left : l.objects.left ≡ [];
+  owner : owner_at l.objects.owners l.list ≡ Some 7;
 }

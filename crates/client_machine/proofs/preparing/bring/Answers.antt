@@ -1,22 +1,18 @@
-use Rattle.std.proofs.Common.{ap, ◌≡◌, ◌≤◌, ◌+◌, ℕ, true, [], ◌∷◌, sym, ◌∙◌, subst, arith}
-use Rattle.std.specs.Prelude.{Option, IfSome, is_some}
-use Rattle.std.specs.List.{count_by}
-use Rattle.object_swap.specs.Items.{Names, counter_of, is_orphan, is_resident, item_at}
+use Rattle.std.proofs.Common.{ap, ◌≡◌, ◌≤◌, ◌+◌, ℕ, true, [], ◌∷◌, subst, arith}
+use Rattle.std.specs.Prelude.{Option, IfSome}
+use Rattle.object_swap.specs.Items.{counter_of, is_resident, item_at}
 use Rattle.client_machine.specs.Moves.{listed}
-use Rattle.client_machine.proofs.Bringing.{brings_few, brings_none, none_left, none_owned, objects_moved, one_owned}
+use Rattle.client_machine.proofs.Bringing.{brings_few, brings_none, none_left, objects_moved}
 use Rattle.client_machine.proofs.preparing.bring.Goals as goal
 
 pub returns-in-None-clause-prepared : goal.returns-in-None-clause-prepared
 returns-in-None-clause-prepared g c =
     let D = g.D.Device in
-    let items = c.args.held.now.objects.items in
     let left = c.make_objects-in-None.ensures in
-    let none : count_by is_orphan items ≡ 0 = omega (arith, c.requires.nobodys) in
     let counter : counter_of (D.seen c.make_objects-in-None.new.device).state ≤ counter_of (D.seen c.args.device.now).state + 3 =
     omega (arith, left.room.counter, c.requires.few) in
     objects_moved D.seen 3 c.args.device.now c.make_objects-in-None.new.device c.args.held.now c.make_objects-in-None.new.self left.moved
-    (none_left [] items c.make_objects-in-None.new.self.items left.moved.objects.owners left.stay.others (none_owned items) none ∙ sym none)
-    counter c.requires.may.settled
+    (none_left c.args.held.now c.requires.nobodys) counter c.requires.may.settled
 
 pub returns-in-None-clause-still : goal.returns-in-None-clause-still
 returns-in-None-clause-still g c = λ zero resident.
@@ -31,17 +27,11 @@ returns-in-None-clause-costs g c =
 pub returns-in-Some-clause-prepared : goal.returns-in-Some-clause-prepared
 returns-in-Some-clause-prepared g c =
     let D = g.D.Device in
-    let items = c.args.held.now.objects.items in
-    let item = c.in-Some.item in
     let left = c.make_objects.ensures in
-    let none : count_by is_orphan items ≡ 0 = omega (arith, c.requires.nobodys) in
-    let own : Names items item × (is_some (item_at items item).client ≡ true) =
-    subst (λ (named : Option ℕ). IfSome named (λ n. Names items n × (is_some (item_at items n).client ≡ true))) c.in-Some.is c.requires.named in
     let counter : counter_of (D.seen c.make_objects.new.device).state ≤ counter_of (D.seen c.args.device.now).state + 3 =
     omega (arith, left.room.counter, c.requires.few) in
     objects_moved D.seen 3 c.args.device.now c.make_objects.new.device c.args.held.now c.make_objects.new.self left.moved
-    (none_left (item ∷ []) items c.make_objects.new.self.items left.moved.objects.owners left.stay.others (one_owned item items own.1) none ∙ sym none)
-    counter c.requires.may.settled
+    (none_left c.args.held.now c.requires.nobodys) counter c.requires.may.settled
 
 pub returns-in-Some-clause-still : goal.returns-in-Some-clause-still
 returns-in-Some-clause-still g c = λ zero resident.

@@ -1,9 +1,8 @@
 use Rattle.std.proofs.Common.{◌≡◌, ◌≤◌, ◌+◌}
-use Rattle.std.specs.Prelude.{Ok}
+use Rattle.std.specs.Prelude.{Ok, length}
 use Rattle.std.specs.List.{count_by}
 use Rattle.device_port.specs.Device.{sent_of}
 use Rattle.device_port.specs.Own.{AsksSome}
-use Rattle.object_swap.specs.Items as objects
 use Rattle.session_swap.specs.Items as sessions
 use Rattle.client_machine.specs.Moves.{Clears}
 use Rattle.client_machine.specs.Settled.{orphan_count}
@@ -21,8 +20,8 @@ invariant-loop-handle g l =
 abbrev pub decreases-loop-handle : goal.decreases-loop-handle
 decreases-loop-handle g l = count_by sessions.is_orphan l.held.sessions.items
 
-abbrev pub invariant-loop-item : goal.invariant-loop-item
-invariant-loop-item g l =
+abbrev pub invariant-loop : goal.invariant-loop
+invariant-loop g l =
     let D = g.D.Device in
     record {
       clears : Clears D.seen l.fn.device l.device l.fn.held l.held;
@@ -31,5 +30,5 @@ invariant-loop-item g l =
       none : count_by sessions.is_orphan l.held.sessions.items ≡ 0;
     }
 
-abbrev pub decreases-loop-item : goal.decreases-loop-item
-decreases-loop-item g l = count_by objects.is_orphan l.held.objects.items
+abbrev pub decreases-loop : goal.decreases-loop
+decreases-loop g l = length l.held.objects.left

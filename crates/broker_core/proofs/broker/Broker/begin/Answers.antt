@@ -26,7 +26,7 @@ invariant_of-result g c =
     let sent = sym c.is_err.ensures.value ∙ c.if-is_err.false in
     let answered = from_ok c.transmit.result _ c.transmit.ensures.answered sent in
     let taken : takes true true startup_command c.transmit.new.reply ≡ true = ap (takes true true startup_command) (sym c.as_slice.ensures.value) ∙ sym c.is_started.ensures ∙ c.if-not-is_started.false in
-    rw (c.in-Ok.ensures.empty, c.new-6.ensures.items, c.new-6.ensures.present) (
+    rw (c.in-Ok.ensures.empty, c.new-6.ensures.items, c.new-6.ensures.lists, c.new-6.ensures.present) (
       holds_begun _ _ _ c.transmit.new.reply _ _ _ (g.met.D.Device.told_together c.args.device) c.requires.at_base answered c.transmit.ensures.base
           (omega (arith, c.fault_count-began.ensures, c.transmit.ensures.count))
           (is_right_start _ c.transmit.new.reply _ (ap newest_command c.transmit.ensures.trace) (last_of c.transmit.result _ _ (ap newest_response c.transmit.ensures.trace) sent) taken)
@@ -41,3 +41,10 @@ returns-then-not-is_started-clause-keeps_err g c =
     let untaken : takes true true startup_command c.transmit.new.reply ≡ false = ap (takes true true startup_command) (sym c.as_slice.ensures.value) ∙ sym c.is_started.ensures ∙ c.if-not-is_started.true in
     let same = stays_untold _ _ c.transmit.new.reply answered untaken in
     (record { base_is = c.transmit.ensures.base; tells = ap is_some same; count = c.transmit.ensures.count }, same)
+
+pub returns-clause-keeps : goal.returns-clause-keeps
+returns-clause-keeps g c = record {
+  base_is = c.transmit.ensures.base;
+  tells = g.met.D.Device.told_together c.transmit.new.self ∙ ap is_some c.transmit.ensures.base ∙ sym (g.met.D.Device.told_together c.args.device);
+  count = c.transmit.ensures.count;
+}

@@ -7,7 +7,7 @@ use Rattle.tab_spec.specs.Reply.{error_reply}
 use Rattle.device_port.specs.Device.{asked_of, last_of}
 use Rattle.tab_laws.proofs.Cuts.{frame_long}
 use Rattle.tab_laws.proofs.Outcomes.{from_err, from_ok}
-use Rattle.object_swap.specs.Items.{ObjectsView}
+use Rattle.object_swap.specs.Items.{ObjectsView, owner_at}
 use Rattle.session_swap.specs.Items.{SessionsView}
 use Rattle.device_spec.specs.Answers.{IsRight}
 use Rattle.device_port.specs.declared.own.SwapError.{SwapError}
@@ -19,7 +19,7 @@ use Rattle.client_machine.specs.Moves.{MayMove, pick_of}
 use Rattle.client_machine.specs.Settled.{orphan_count}
 use Rattle.client_machine.specs.Tables.{owned_handles, tables_seen}
 use Rattle.broker_core.proofs.Entering.{costs_admitted, entered_carried, entered_faulted, entered_refused, entered_seen, context_now, left_more, long_now, made_by, owners_more, told_unentered, view_entered}
-use Rattle.broker_core.proofs.Holding.{are_more, few_more, held_same, holds_refused, holds_wrong, inside_tables, moves_now, none_is, table_carried, table_faulted, table_now, with_items_is}
+use Rattle.broker_core.proofs.Holding.{are_more, few_more, held_same, holds_refused, holds_wrong, inside_tables, moves_now, none_is, own_list, table_carried, table_faulted, table_now, with_items_is}
 use Rattle.broker_core.proofs.Placing.{kept_same, open_there, tables_same}
 use Rattle.broker_core.proofs.broker.Broker.command.Goals as goal
 
@@ -117,6 +117,18 @@ answer-requires-clause-table g c =
     let are = are_more _ _ c.reserve.ensures.items in
     table_now _ c.args.client _ c.self.invariant.0 none are (sym (c.reserve.ensures.same.3 ∙ c.table_mut-table.ensures.value))
 
+pub list-list-requires : goal.list-list-requires
+list-list-requires g c =
+    let opened = subst (λ (v : _). IsOpen v.journal c.args.client) (sym c.self.view_is) c.requires.present in
+    open_there c.self.inside.journal.entries c.args.client c.self.invariant.1 opened
+
+pub answer-requires-clause-list : goal.answer-requires-clause-list
+answer-requires-clause-list g c =
+    let opened = subst (λ (v : _). IsOpen v.journal c.args.client) (sym c.self.view_is) c.requires.present in
+    let none = sym c.is_some.ensures ∙ c.if-is_some.false in
+    ap (λ (v : ObjectsView). owner_at v.owners c.list-list.result) c.reserve.ensures.same.1
+    ∙ own_list c.args.client c.list-list.result c.self.invariant.0 none opened c.list-list.ensures
+
 pub answer-requires-clause-may : goal.answer-requires-clause-may
 answer-requires-clause-may g c =
     let are = are_more _ _ c.reserve.ensures.items in
@@ -156,7 +168,7 @@ invariant_of-self-in-Ok-answer g c =
     let device = c.reserve.ensures.same.0 in
     let done = c.in-Ok-answer.ensures in
     let holds = subst (λ (d : _). Holds c.self.inside.began (g.D.Device.seen d) c.self.inside.journal.entries c.self.inside.journal.limit
-    c.self.inside.tables.items c.self.inside.machine.held c.self.inside.present c.self.inside.wrong_code) (sym device) c.self.invariant.0 in
+    c.self.inside.tables.items c.self.inside.tables.lists c.self.inside.machine.held c.self.inside.present c.self.inside.wrong_code) (sym device) c.self.invariant.0 in
     let is_held = with_items_is c.self.inside.machine.held c.reserve.new.self.held c.reserve.ensures.same.1 c.reserve.ensures.same.2 in
     rw (c.enter_reply.ensures.entered, c.enter_reply.ensures.limit) (
       table_carried g.D.Device.seen c.reserve.new.self.held.objects.items c.args.client c.args.number (pick_of c.in-Ok.admitted c.answer.new.reply) c.args.bytes.now c.answer.new.reply holds none opened next ready.0
@@ -176,7 +188,7 @@ invariant_of-self-in-Err-Failed g c =
     let done = c.in-Err-Failed.ensures in
     let cause = subst (λ (e : SwapError). HasCause g.D.Device.seen e c.reserve.new.self.device c.answer.new.self.device) c.in-Err-Failed.field-0-is done.serves.cause in
     let holds = subst (λ (d : _). Holds c.self.inside.began (g.D.Device.seen d) c.self.inside.journal.entries c.self.inside.journal.limit
-    c.self.inside.tables.items c.self.inside.machine.held c.self.inside.present c.self.inside.wrong_code) (sym device) c.self.invariant.0 in
+    c.self.inside.tables.items c.self.inside.tables.lists c.self.inside.machine.held c.self.inside.present c.self.inside.wrong_code) (sym device) c.self.invariant.0 in
     let tables = tables_same c.self.inside.tables.items c.args.client c.answer.new.table.items (done.serves.stays.table_is ∙ sym is) in
     let is_held = with_items_is c.self.inside.machine.held c.reserve.new.self.held c.reserve.ensures.same.1 c.reserve.ensures.same.2 in
     rw (c.enter_fault.ensures.entered, c.enter_fault.ensures.limit, c.fault_count-faults.ensures, c.enter_fault.ensures.reply, tables) (

@@ -12,4 +12,4 @@ returns-clause-stands g c = subst (λ (v : _). StandsFor (g.D.Device.seen v.devi
 pub returns-clause-held : goal.returns-clause-held
 returns-clause-held g c =
     subst (λ (v : _). (clients_of v.journal).present ≡ [] → IfSome (g.D.Device.seen v.device).state (λ slots. FaultsCounted v.began (g.D.Device.seen v.device).faults v.journal (held slots))) c.self.view_is
-    (held_told _ _ _ _ _ _ _ _ (g.met.D.Device.told_together c.self.inside.machine.device) c.self.invariant.0.stands c.self.invariant.0.objects c.self.invariant.0.answers.taken)
+    (held_told _ _ _ _ _ _ _ _ (g.met.D.Device.told_together c.self.inside.machine.device) c.self.invariant.0.stands c.self.invariant.0.objects c.self.invariant.0.answers.taken c.show_vacant.ensures)

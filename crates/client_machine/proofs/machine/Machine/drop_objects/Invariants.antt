@@ -1,21 +1,33 @@
-use Rattle.std.proofs.Common.{◌≡◌, ◌+◌, ◌≤◌, ℕ}
-use Rattle.std.specs.Prelude.{Ok}
+use Rattle.std.proofs.Common.{◌≡◌, ◌+◌, ◌*◌, ◌≤◌, ℕ}
+use Rattle.std.specs.Prelude.{Ok, Some}
 use Rattle.device_port.specs.Device.{sent_of}
-use Rattle.history_spec.specs.Table.{count_held}
-use Rattle.client_machine.specs.Costs.{residents_of}
+use Rattle.object_swap.specs.Items.{owner_at}
+use Rattle.client_machine.specs.Costs.{own_objects, own_residents}
 use Rattle.client_machine.specs.Dropping.{Disowns, Drops}
+use Rattle.client_machine.specs.Settled.{Settled}
+use Rattle.client_machine.proofs.Dropping.{objects_left}
 use Rattle.client_machine.proofs.machine.Machine.drop_objects.Given as goal
 
-abbrev pub invariant-loop-number : goal.invariant-loop-number
-invariant-loop-number g l =
+abbrev pub invariant-loop-item : goal.invariant-loop-item
+invariant-loop-item g l =
     let D = g.D.Device in
+    let C = g.C.Visits in
     record {
-      drops : Drops D.seen l.fn.client l.fn.self.device l.self.device l.fn.self.held l.self.held
-          l.fn.table.items l.table.items l.failed;
-      count : count_held l.table.items + l._number ≡ count_held l.fn.table.items;
-      few : l.failed ≤ l._number;
-      disowns : Disowns {A = ℕ} D.seen l.fn.self.device l.self.device l.fn.self.held l.self.held (Ok 0);
-      costs : sent_of (D.seen l.self.device) + residents_of l.self.held.objects.items l.table.items
-          ≤ sent_of (D.seen l.fn.self.device) + residents_of l.fn.self.held.objects.items l.fn.table.items;
+      drops : (client : ℕ) → owner_at l.fn.self.held.objects.owners l.list ≡ Some client
+          → (failed : ℕ)
+          × Drops D.seen client l.fn.self.device l.self.device l.fn.self.held l.self.held l.fn.self.held.objects.owners failed;
+      settled : Settled (D.seen l.self.device).state l.self.held;
+      lists : l.self.held.objects.owners ≡ l.fn.self.held.objects.owners;
       rest : l.self.held.sessions ≡ l.fn.self.held.sessions;
+      disowns : Disowns {A = ℕ} D.seen l.fn.self.device l.self.device l.fn.self.held l.self.held (Ok 0);
+      costs : (client : ℕ) → owner_at l.fn.self.held.objects.owners l.list ≡ Some client
+          → sent_of (D.seen l.self.device) + own_residents client l.self.held.objects.items
+          ≤ sent_of (D.seen l.fn.self.device) + own_residents client l.fn.self.held.objects.items;
+      steps : (client : ℕ) → owner_at l.fn.self.held.objects.owners l.list ≡ Some client
+          → C.count l.steps + 6 * own_objects client l.self.held.objects.items
+          ≤ C.count l.fn.steps + 6 * own_objects client l.fn.self.held.objects.items;
     }
+
+-- how many the client of the list has
+abbrev pub decreases-loop-item : goal.decreases-loop-item
+decreases-loop-item g l = objects_left (owner_at l.fn.self.held.objects.owners l.list) l.self.held.objects.items

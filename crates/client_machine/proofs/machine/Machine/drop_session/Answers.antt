@@ -11,9 +11,9 @@ use Rattle.client_machine.proofs.machine.Machine.drop_session.Goals as goal
 
 pub returns-in-Ok-clause-ok : goal.returns-in-Ok-clause-ok
 returns-in-Ok-clause-ok g c =
-    λ client table own is.
+    λ client own.
     let done = c.in-Ok.ensures in
-    ended _ client _ _ c.args.self.now.held c.drop_session.new.self table (number_of_session c.args.handle)
+    ended _ client _ _ c.args.self.now.held c.drop_session.new.self (number_of_session c.args.handle)
     (record {
       items_are = ap (λ (v : SessionsView). v.items) done.ok.view_is;
       sessions = done.ok.sessions;
@@ -23,7 +23,7 @@ returns-in-Ok-clause-ok g c =
       rest = done.stands.rest;
       answered = done.asks.answered;
     })
-    (own_at _ client c.args.handle c.requires.named own) c.requires.settled is
+    (own_at _ client c.args.handle c.requires.named own) c.requires.settled
 
 pub returns-in-Ok-clause-count : goal.returns-in-Ok-clause-count
 returns-in-Ok-clause-count g c =
@@ -37,14 +37,14 @@ returns-in-Ok-clause-count g c =
 
 pub returns-in-Err-Failed-clause-ok : goal.returns-in-Err-Failed-clause-ok
 returns-in-Err-Failed-clause-ok g c =
-    λ client table own is.
+    λ client own.
     let failed = c.in-Err-Failed.ensures in
     let cause = failed_cause g.D.Device.seen _ c.in-Err-Failed.field-0-0 _ _ c.in-Err-Failed.field-0-is failed.asks.cause in
     let n = number_of_session c.args.handle in
-    left _ client _ _ c.args.self.now.held c.disown.new.self table c.args.handle
+    left _ client _ _ c.args.self.now.held c.disown.new.self c.args.handle
     (c.disown.ensures ∙ ap (λ (v : SessionsView). record v { items = set v.items n (disowned (item_at v.items n)) }) failed.err)
     failed.asks.err failed.stands.rest cause.0 cause.1 c.requires.named (own_at _ client c.args.handle c.requires.named own)
-    c.requires.settled is
+    c.requires.settled
 
 pub returns-in-Ok-clause-costs : goal.returns-in-Ok-clause-costs
 returns-in-Ok-clause-costs g c = sent_one g.D.Device.seen _ _ _ (Ok _) c.in-Ok.ensures.asks

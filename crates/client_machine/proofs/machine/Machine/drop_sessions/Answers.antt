@@ -1,19 +1,18 @@
-use Rattle.std.proofs.Common.{[], arith, refl, ◌∙◌}
+use Rattle.std.proofs.Common.{arith, refl, ◌∙◌}
 use Rattle.std.specs.Prelude.{Ok}
 use Rattle.std.proofs.lemmas.Result.{err_from_is_err_and}
 use Rattle.session_swap.specs.Items.{is_owned}
 use Rattle.history_laws.proofs.Counts.{list_none}
 use Rattle.client_machine.proofs.Disowning.{ended_owned, others_more, others_same, own_at, owned_few}
-use Rattle.client_machine.proofs.Dropping.{disowns_failed, disowns_none, disowns_ok, disowns_then, drops_none, drops_then, no_table}
+use Rattle.client_machine.proofs.Dropping.{disowns_failed, disowns_none, disowns_ok, disowns_then, drops_none, drops_then}
 use Rattle.client_machine.proofs.machine.Machine.drop_sessions.Goals as goal
 
 pub loop-number-init : goal.loop-number-init
 loop-number-init g c = record {
-  drops = λ table is. drops_none _ _ _ c.args.self.now.held table c.requires.may.settled is;
+  drops = drops_none _ _ _ c.args.self.now.held c.requires.may.settled;
   left = omega (arith, owned_few c.args.self.now.held.sessions.items c.args.client);
   few = omega arith;
   disowns = disowns_none _ _ _ 0;
-  settled = c.requires.may.settled;
   rest = refl;
   costs = omega arith;
   others = others_same c.args.client c.args.self.now.held.sessions.items;
@@ -26,12 +25,10 @@ loop-number-preserved g c =
     let client = c.args.client in
     let own = c.in-Some.ensures.1 in
     record {
-      drops = λ table is.
-          let first = so_far.drops table is in drops_then _ _ _ _ _ _ _ _ _ _ _ _ _ first (next.ok client table own first.own_table);
+      drops = drops_then _ _ _ _ _ _ _ _ _ _ so_far.drops (next.ok client own);
       left = omega (arith, so_far.left, next.count client own);
       few = omega (arith, so_far.few, next.few);
-      disowns = disowns_then _ _ _ _ _ _ _ 0 (Ok 0) so_far.disowns (disowns_ok _ _ _ _ _ _ 0 next.disowns);
-      settled = (next.ok client [] own (no_table _ client)).settled;
+      disowns = disowns_then _ _ _ _ _ _ _ 0 (Ok 0) so_far.drops.lists so_far.disowns (disowns_ok _ _ _ _ _ _ 0 next.disowns);
       rest = next.rest ∙ so_far.rest;
       costs = omega (arith, so_far.costs, next.costs, next.count client own);
       others = others_more _ _ _ client c.in-Some.handle so_far.others c.in-Some.ensures.0 own next.others;
@@ -51,7 +48,7 @@ returns-clause-disowns g c = disowns_ok _ _ _ _ _ 0 _ c.loop-number.invariant.di
 pub returns-in_err-failed-clause-disowns : goal.returns-in_err-failed-clause-disowns
 returns-in_err-failed-clause-disowns g c =
     let returned = c.from_residual in
-    disowns_then _ _ _ _ _ _ _ 0 returned.result c.loop-number.invariant.disowns
+    disowns_then _ _ _ _ _ _ _ 0 returned.result c.loop-number.invariant.drops.lists c.loop-number.invariant.disowns
     (disowns_failed _ _ _ _ _ _ returned.result (err_from_is_err_and returned.result returned.ensures.1) c.in_err-failed.ensures.disowns)
 
 pub returns-in_err-failed-clause-others : goal.returns-in_err-failed-clause-others

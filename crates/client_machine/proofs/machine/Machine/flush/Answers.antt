@@ -1,4 +1,5 @@
-use Rattle.std.proofs.Common.{◌≡◌, ℕ, true, [], inr, ap, sym, ◌∙◌, arith, rules}
+use Rattle.std.proofs.Common.{◌≡◌, ℕ, true, false, [], inr, ap, sym, ◌∙◌, arith, rules}
+use Rattle.std.proofs.lemmas.Bool.{false≢true}
 use Rattle.std.specs.Prelude.{Err, Ok, Option, is_some, not}
 use Rattle.std.proofs.lemmas.Result.{err_from_is_err_and}
 use Rattle.tab_spec.specs.Shape.{number_of_session}
@@ -8,9 +9,9 @@ use Rattle.device_port.proofs.Sending.{asks_then, cause_then}
 use Rattle.world_spec.specs.World.{ClientState, without_named}
 use Rattle.client_machine.specs.Settled.{orphan_count}
 use Rattle.client_machine.proofs.Disowning.{own_at}
-use Rattle.client_machine.proofs.Dropping.{dropped, held_named}
+use Rattle.client_machine.proofs.Dropping.{dropped, held_named, table_after}
 use Rattle.client_machine.proofs.DroppingSessions.{ended}
-use Rattle.client_machine.proofs.Flushing.{leaves_after, moves_after, not_transient, object_leaves, object_sent, none_without_object, none_without_session, transient}
+use Rattle.client_machine.proofs.Flushing.{leaves_after, moves_after, not_transient, object_leaves, object_sent, object_unsent, none_without_object, none_without_session, transient}
 use Rattle.client_machine.proofs.FlushingSessions.{may_flush_session, owned_stays, owner_again, owner_named, session_leaves, session_owners}
 use Rattle.client_machine.proofs.Keeping.{rightly}
 use Rattle.client_machine.proofs.Orphans.{prepares_failed, prepares_same, prepares_then}
@@ -67,8 +68,8 @@ returns-then-octet_of-ne-HT_TRANSIENT-clause-serves g c = λ client may.
     let same = before.sessions n (owned_stays client handle held.sessions.items own) in
     let still = owner_again client handle held.sessions.items between.sessions.items own same in
     record {
-      moves = moves_after seen client _ c.flush_orphans.new.device _ _ between _ _ _ before.prepared
-          (ended _ client _ _ between c.drop_session.new.self c.args.table.now.items n
+      moves = moves_after seen client _ c.flush_orphans.new.device _ _ between _ _ before.prepared
+          (ended _ client _ _ between c.drop_session.new.self n
           (record {
             items_are = ap (λ (v : SessionsView). v.items) done.ok.view_is;
             sessions = done.ok.sessions;
@@ -78,8 +79,8 @@ returns-then-octet_of-ne-HT_TRANSIENT-clause-serves g c = λ client may.
             rest = done.stands.rest;
             answered = done.asks.answered;
           })
-          (own_at between.sessions.items client handle (owner_named client handle between.sessions.items still) still)
-          settled (prepares_table client c.args.table.now.items before.prepared may.own_table));
+          (own_at between.sessions.items client handle (owner_named client handle between.sessions.items still) still) settled)
+          (prepares_table client c.args.table.now.items before.prepared may.own_table);
       right = rightly seen _ _ (inr done.asks.answered);
       stays = tt;
       costs = omega (arith, c.flush_orphans.ensures.costs, done.asks.once);
@@ -123,19 +124,23 @@ returns-then-is_none-clause-serves g c = λ client may.
     let settled = c.requires.may.settled in
     let here = sym c.find.ensures ∙ c.unwrap-item.ensures in
     record {
-      moves = moves_after g.D.Device.seen client _ c.args.self.now.device _ _ held _ _ _
+      moves = moves_after g.D.Device.seen client _ c.args.self.now.device _ _ held _ _
           (prepares_same g.D.Device.seen c.args.self.now.device held settled)
-          (dropped _ client _ _ held c.drop_object.new.self c.args.table.now.items c.remove.new.self.items c.args.handle c.unwrap-item.result
+          (dropped _ client _ _ held c.drop_object.new.self c.unwrap-item.result
           (record {
             items_are = done.ok.0.items;
             objects = done.ok.0.objects;
-            stand = done.dropped.stand [] (objects_settled (g.D.Device.seen c.args.self.now.device).state held settled);
+            stand = done.dropped.stand held.objects.left (objects_settled (g.D.Device.seen c.args.self.now.device).state held settled);
             counter = done.dropped.counter;
             rest = done.dropped.rest;
             taken = done.asks.answered;
             slots = done.dropped.slots;
+            owners = done.dropped.owners;
+            left = done.dropped.left;
           })
-          settled may.own_table here c.remove.ensures.items);
+          (held_named held.objects.items client c.args.table.now.items c.args.handle c.unwrap-item.result may.own_table here) settled)
+          (table_after held.objects.items c.drop_object.new.self.items client c.args.table.now.items c.remove.new.self.items c.args.handle
+          c.unwrap-item.result may.own_table here done.ok.0.items c.remove.ensures.items);
       right = rightly g.D.Device.seen _ _ done.asks.answered;
       stays = tt;
       costs = omega (
@@ -155,7 +160,31 @@ returns-then-is_none-clause-left g c = λ client may.
     c.requires.may.settled may.own_table here
     (transient c.octet_of.result c.args.handle c.octet_of.ensures c.if-octet_of-ne-HT_TRANSIENT.false) c.remove.ensures.items
 
+pub drop_object-requires-clause-stand : goal.drop_object-requires-clause-stand
+drop_object-requires-clause-stand g c = (c.args.self.now.held.objects.left, objects_settled _ _ c.requires.may.settled)
+
+pub returns-then-is_none-clause-flushes : goal.returns-then-is_none-clause-flushes
+returns-then-is_none-clause-flushes g c =
+    let held = c.args.self.now.held in
+    let item = c.unwrap-item.result in
+    let done = c.in_ok-drop_object.ensures in
+    let out : is_some (handle_in (item_at held.objects.items item).slot) ≡ false =
+    ap (λ (slot : Option ℕ). is_some slot) (sym c.slot_of.ensures) ∙ c.is_none.ensures ∙ ap not c.if-is_none.true in
+    let unsent = object_unsent _ _ g.D.Device.seen (orphan_count held) c.args.table.now.items held.objects.items c.args.handle item _ c.drop_object.new.device
+    (transient c.octet_of.result c.args.handle c.octet_of.ensures c.if-octet_of-ne-HT_TRANSIENT.false) (sym c.find.ensures ∙ c.unwrap-item.ensures) out done.sent in
+    record {
+      sent_is = unsent.0;
+      nobodys = λ sent. absurd (false≢true (sym unsent.1 ∙ sent));
+      table_is = search rules;
+      owners = search rules;
+      loses = loses_object held c.drop_object.new.self item done.ok.0.items;
+    }
+
 -- one that is in a slot
+pub drop_object-requires-2-clause-stand : goal.drop_object-requires-2-clause-stand
+drop_object-requires-2-clause-stand g c =
+    (c.flush_orphans-2.new.held.objects.left, objects_settled _ _ c.flush_orphans-2.ensures.clears.prepared.settled)
+
 pub drop_object-requires-2-clause-named : goal.drop_object-requires-2-clause-named
 drop_object-requires-2-clause-named g c =
     let may = c.requires.there in
@@ -189,20 +218,24 @@ returns-clause-serves g c = λ client may.
     let before = c.flush_orphans-2.ensures.clears.prepared in
     let done = c.in_ok-drop_object-2.ensures in
     let here = sym c.find.ensures ∙ c.unwrap-item.ensures in
+    let is = prepares_table client c.args.table.now.items before may.own_table in
     record {
-      moves = moves_after seen client _ c.flush_orphans-2.new.device _ _ between _ _ _ before
-          (dropped _ client _ _ between c.drop_object-2.new.self c.args.table.now.items c.remove-2.new.self.items c.args.handle
-          c.unwrap-item.result
+      moves = moves_after seen client _ c.flush_orphans-2.new.device _ _ between _ _ before
+          (dropped _ client _ _ between c.drop_object-2.new.self c.unwrap-item.result
           (record {
             items_are = done.ok.0.items;
             objects = done.ok.0.objects;
-            stand = done.dropped.stand [] (objects_settled (seen c.flush_orphans-2.new.device).state between before.settled);
+            stand = done.dropped.stand between.objects.left (objects_settled (seen c.flush_orphans-2.new.device).state between before.settled);
             counter = done.dropped.counter;
             rest = done.dropped.rest;
             taken = done.asks.answered;
             slots = done.dropped.slots;
+            owners = done.dropped.owners;
+            left = done.dropped.left;
           })
-          before.settled (prepares_table client c.args.table.now.items before may.own_table) here c.remove-2.ensures.items);
+          (held_named between.objects.items client c.args.table.now.items c.args.handle c.unwrap-item.result is here) before.settled)
+          (table_after between.objects.items c.drop_object-2.new.self.items client c.args.table.now.items c.remove-2.new.self.items c.args.handle
+          c.unwrap-item.result is here done.ok.0.items c.remove-2.ensures.items);
       right = rightly seen _ _ (asks_then seen _ c.flush_orphans-2.new.device _ tt (Ok tt) c.in_ok-flush_orphans-2.ensures.asks done.asks).answered;
       stays = tt;
       costs = omega (
@@ -216,12 +249,10 @@ returns-clause-serves g c = λ client may.
 
 pub returns-clause-flushes : goal.returns-clause-flushes
 returns-clause-flushes g c =
-    let may = c.requires.there in
     let items = c.args.self.now.held.objects.items in
     let item = c.unwrap-item.result in
     let done = c.in_ok-drop_object-2.ensures in
     let here = sym c.find.ensures ∙ c.unwrap-item.ensures in
-    let own = (held_named items may.0 c.args.table.now.items c.args.handle item may.1.own_table here).own in
     let there : is_some (handle_in (item_at items item).slot) ≡ true =
     ap (λ (slot : Option ℕ). is_some slot) (sym c.slot_of.ensures) ∙ c.is_none.ensures ∙ ap not c.if-is_none.false in
     record {
@@ -229,9 +260,9 @@ returns-clause-flushes g c =
           c.flush_orphans-2.new.held.objects.items
           c.args.handle item c.args.self.now.device c.flush_orphans-2.new.device c.drop_object-2.new.device
           (transient c.octet_of.result c.args.handle c.octet_of.ensures c.if-octet_of-ne-HT_TRANSIENT.false) here there
-          (c.flush_orphans-2.ensures.clears.objects item may.0 own) (sent_before c.in_ok-flush_orphans-2.ensures.asks)
+          (ap (λ (v : ObjectsView). item_at v.items item) c.flush_orphans-2.ensures.clears.objects) (sent_before c.in_ok-flush_orphans-2.ensures.asks)
           (λ none. (c.flush_orphans-2.ensures.clears.still none).0) done.sent;
-      nobodys = λ sent. none_without_object c.flush_orphans-2.new.held c.drop_object-2.new.self item done.ok.0.items c.in_ok-flush_orphans-2.ensures.none;
+      nobodys = λ sent. none_without_object c.flush_orphans-2.new.held c.drop_object-2.new.self done.dropped.left c.in_ok-flush_orphans-2.ensures.none;
       table_is = search rules;
       owners = search rules;
       loses = loses_then _ c.flush_orphans-2.new.held _ c.flush_orphans-2.ensures.clears.loses

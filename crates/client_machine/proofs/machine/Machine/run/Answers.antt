@@ -1,7 +1,8 @@
 use Rattle.std.proofs.Common.{subst, ◌≡◌, ◌∙◌, ap, sym, refl, true, false, [], arith, is_some}
-use Rattle.std.specs.Prelude.{ℕ, List}
+use Rattle.std.specs.Prelude.{ℕ, List, Option}
 use Rattle.std.proofs.lemmas.Result.{err_from_is_err_and}
 use Rattle.client_laws.specs.Ready.{tells_object, tells_session}
+use Rattle.object_swap.specs.Items.{owner_at}
 use Rattle.client_machine.specs.Moves.{MayStart, first_handle, moves_for}
 use Rattle.client_machine.proofs.Ran.{may_adopt, may_end, may_start, outcome_else, outcome_then, prepared, prepared_frame, prepared_taken, serves_failed, sent_before}
 use Rattle.client_machine.proofs.Handing.{slice_bytes}
@@ -62,12 +63,16 @@ keep_sessions-requires-clause-named g c =
     c.requires.sort c.requires.may c.type_inv.bytes c.in_ok-prepare.ensures.ready c.prepare.ensures.costs c.in_ok-prepare.ensures.stays c.in_ok-prepare.ensures.used c.as_slice.ensures.value in
     λ ends. may_end c.as_slice-2.result.now p ends
 
-pub adopt-requires : goal.adopt-requires
-adopt-requires g c =
+pub adopt-requires-clause-may : goal.adopt-requires-clause-may
+adopt-requires-clause-may g c =
     let p = prepared c.args.client c.args.table.now.items c.args.admitted.now c.args.bytes.now c.prepare.ensures.prepared c.requires.table c.requires.admitted
     c.requires.sort c.requires.may c.type_inv.bytes c.in_ok-prepare.ensures.ready c.prepare.ensures.costs c.in_ok-prepare.ensures.stays c.in_ok-prepare.ensures.used c.as_slice.ensures.value in
     may_adopt c.args.table.now.spare p c.in_ok-send.ensures.ok c.requires.room
     (ap (λ (reply : List ℕ). tells_object c.args.admitted.now reply) (sym c.as_slice-3.ensures.value) ∙ sym c.tells_object.ensures ∙ c.if-tells_object.true)
+
+pub adopt-requires-clause-list : goal.adopt-requires-clause-list
+adopt-requires-clause-list g c =
+    ap (λ (owners : List (Option ℕ)). owner_at owners c.args.list) c.prepare.ensures.prepared.lists ∙ c.requires.list
 
 pub returns-then-tells_object-clause-serves : goal.returns-then-tells_object-clause-serves
 returns-then-tells_object-clause-serves g c =
@@ -78,7 +83,7 @@ returns-then-tells_object-clause-serves g c =
     ap (λ (reply : List ℕ). tells_object c.args.admitted.now reply) (sym c.as_slice-3.ensures.value) ∙ sym c.tells_object.ensures ∙ c.if-tells_object.true in
     (outcome_then c.adopt.new.objects c.keep_sessions.new.sessions p sent (sent_before c.in_ok-prepare.ensures.asks) c.prepare.ensures.still
     (sym c.saves_one.ensures ∙ c.if-saves_one.false) (may_adopt c.args.table.now.spare p sent c.requires.room tells) tells c.adopt.ensures.adopted.0 c.adopt.ensures.adopted.1
-    c.adopt.ensures.slots c.adopt.ensures.reply c.keep_sessions.ensures c.as_slice-2.ensures.value).serves
+    c.adopt.ensures.rest c.adopt.ensures.reply c.keep_sessions.ensures c.as_slice-2.ensures.value).serves
 
 pub returns-then-tells_object-clause-carries : goal.returns-then-tells_object-clause-carries
 returns-then-tells_object-clause-carries g c =
@@ -89,7 +94,7 @@ returns-then-tells_object-clause-carries g c =
     ap (λ (reply : List ℕ). tells_object c.args.admitted.now reply) (sym c.as_slice-3.ensures.value) ∙ sym c.tells_object.ensures ∙ c.if-tells_object.true in
     (outcome_then c.adopt.new.objects c.keep_sessions.new.sessions p sent (sent_before c.in_ok-prepare.ensures.asks) c.prepare.ensures.still
     (sym c.saves_one.ensures ∙ c.if-saves_one.false) (may_adopt c.args.table.now.spare p sent c.requires.room tells) tells c.adopt.ensures.adopted.0 c.adopt.ensures.adopted.1
-    c.adopt.ensures.slots c.adopt.ensures.reply c.keep_sessions.ensures c.as_slice-2.ensures.value).carries
+    c.adopt.ensures.rest c.adopt.ensures.reply c.keep_sessions.ensures c.as_slice-2.ensures.value).carries
 
 pub returns-else-tells_object-clause-serves : goal.returns-else-tells_object-clause-serves
 returns-else-tells_object-clause-serves g c =

@@ -9,7 +9,7 @@ returns c =
     let p = at_place c.deref.result.now c.args.client c.place_of-place.result c.deref.ensures.value c.place_of-place.ensures.within c.place_of-place.ensures.place in (
       (
         refl,
-        λ w. seen_set c.args.self.now c.args.client c.place_of-place.result (min (vec_capacity c.self.inside.numbers) (vec_capacity c.self.inside.tables) - vec_len c.self.inside.numbers) w c.self.invariant p c.self.view_is,
+        λ w. seen_set c.args.self.now c.args.client c.place_of-place.result (min (min (vec_capacity c.self.inside.numbers) (vec_capacity c.self.inside.tables)) (vec_capacity c.self.inside.lists) - vec_len c.self.inside.numbers) w c.self.invariant p c.self.view_is,
       ),
       record {
         writes_back = tt;
