@@ -1,4 +1,4 @@
--- A broker that has begun, and a device that doesn't take Startup.
+-- A broker that has begun.
 use Rattle.std.proofs.Common.{◌≡◌, ◌≤◌, ◌+◌, ℕ, zero, suc, Bool, true, false, true≢false, cond, List, [], ◌∷◌, Option, Some, None, refl, sym, ap, subst, ◌∙◌, arith, inl, inr}
 use Rattle.std.proofs.lemmas.Bool.{false≢true}
 use Rattle.std.proofs.lemmas.List.Sums.{sum_by-cons}
@@ -6,20 +6,16 @@ use Rattle.std.specs.Prelude.{◌==◌, replicate, get_or, is_some, IfSome, not}
 use Rattle.std.specs.List.{count_by, list_any}
 use Rattle.std.proofs.lemmas.List.{length-replicate}
 use Rattle.tab_spec.specs.declared.TheConstants.{LOADED_SESSIONS, OBJECT_SLOTS}
-use Rattle.tab_spec.specs.Commands.{startup_command}
-use Rattle.tab_spec.specs.Frame.{reported_code}
 use Rattle.tab_spec.specs.Object.{Object}
 use Rattle.tab_spec.specs.Persist.{Persist}
-use Rattle.tab_spec.specs.Values.{AreBytes}
-use Rattle.device_spec.specs.Answers.{IsRight, IsWrongAnswer, takes, wrong}
-use Rattle.device_spec.specs.Slots.{SessionPlace, SlotState, IsSlots, HoldsNothing, active_count, gap_from, inactive, is_active, loaded, loaded_count, oldest_saved, saved, slot_step}
-use Rattle.device_laws.proofs.AnswerForms.{takes_more}
-use Rattle.device_laws.proofs.Replies.{startup_starts, step_keeps}
+use Rattle.device_spec.specs.Answers.{IsRight}
+use Rattle.device_spec.specs.Slots.{SessionPlace, SlotState, IsSlots, HoldsNothing, active_count, gap_from, inactive, is_active, loaded, loaded_count, oldest_saved, saved}
 use Rattle.object_swap.specs.Items.{IsOwned}
 use Rattle.session_swap.specs.Items as sessions
 use Rattle.session_swap.specs.Items.{no_items, place_at}
 use Rattle.client_machine.specs.declared.held.Held.{Held}
-use Rattle.device_port.specs.Device.{Answered, Seen, asked_of, last_of}
+use Rattle.device_port.specs.Device.{Seen, asked_of, last_of}
+use Rattle.device_start.specs.Start.{ClearedIf, IsCleared}
 use Rattle.broker_core.specs.Broker.{Holds, IsAtBase, StandsFor}
 use Rattle.client_machine.specs.Settled.{IsSettled, sessions_in}
 use Rattle.client_machine.specs.Tables.{AreOpenOwners}
@@ -28,10 +24,6 @@ use Rattle.session_swap.proofs.Counts.{count_cons, flag_false, flag_most, flag_t
 use Rattle.world_spec.specs.World.{Owned}
 use Rattle.history_spec.specs.declared.TheConstants.{SILENT_LIMIT}
 use Rattle.history_spec.specs.Entry.{IsLimit}
-
-startup_bytes : AreBytes startup_command
-startup_bytes =
-    (omega arith, (omega arith, (omega arith, (omega arith, (omega arith, (omega arith, (omega arith, (omega arith, (omega arith, (omega arith, (omega arith, (omega arith, tt))))))))))))
 
 -- ---- a device that holds nothing
 
@@ -116,23 +108,23 @@ settled_empty slots count next started sound empty =
 
 -- ---- the start
 
-stands_begun : (base : Option Persist) (old new : Option SlotState) (reply : List ℕ) (count next : ℕ) → is_some old ≡ is_some base → IsAtBase base old → Answered old startup_command new reply
+stands_begun : (base : Option Persist) (old new : Option SlotState) (count next : ℕ) → is_some old ≡ is_some new → IsAtBase base old → ClearedIf old new
     → StandsFor base new [] [] (held_nothing count next)
-stands_begun base None new reply count next same at_base answered b slots is_base is_state = absurd cc
-stands_begun base (Some s) new reply count next same at_base answered b slots is_base is_state =
-    let after_is : (slot_step s startup_command).0 ≡ slots = some_same (sym answered.0 ∙ is_state) in
-    let begun : slots ≡ record s { started = true } = sym after_is ∙ (startup_starts s).state in
-    let sound : IsSlots slots = subst IsSlots after_is (step_keeps s startup_command at_base.sound startup_bytes) in
+stands_begun base None new count next same at_base clears b slots is_base is_state = absurd (let some : is_some new ≡ true = ap is_some is_state in cc)
+stands_begun base (Some s) new count next same at_base clears b slots is_base is_state =
+    let (after, after_is, begun) = clears s refl in
+    let is : after ≡ slots = some_same (sym after_is ∙ is_state) in
+    let cleared : IsCleared s slots = subst (IsCleared s) is begun in
     record {
       legal = tt;
       stands = record {
-        persist = ap (λ (t : SlotState). t.persist) begun ∙ at_base.kept b s is_base refl;
-        settled = settled_empty slots count next (ap (λ (t : SlotState). t.started) begun) sound (subst HoldsNothing (sym begun) at_base.empty);
+        persist = ap (λ (t : SlotState). t.persist) cleared.kept ∙ at_base.kept b s is_base refl;
+        settled = settled_empty slots count next cleared.started cleared.sound cleared.empty;
         clients = λ client. refl;
         sessions = sym (none_owned slots 64);
         handed = record { of_objects = omega arith; of_sessions = omega arith };
-        object_counter = omega (arith, ap (λ (t : SlotState). t.object_counter) begun, at_base.object_counter);
-        counter = omega (arith, ap (λ (t : SlotState). t.counter) begun, at_base.counter);
+        object_counter = omega (arith, ap (λ (t : SlotState). t.object_counter) cleared.kept, at_base.object_counter);
+        counter = omega (arith, ap (λ (t : SlotState). t.counter) cleared.kept, at_base.counter);
       };
     }
 
@@ -143,12 +135,12 @@ nothing_held held slots next objects sessions = λ i. record { objects = sym obj
 not_own : {client : ℕ} → ◌≡◌ {A = Option ℕ} None (Some client) → ⊥
 not_own own = absurd cc
 
-holds_nothing : (began : ℕ) (base : Option Persist) (old : Option SlotState) (reply : List ℕ) (new : Seen) (limit count next : ℕ)
-    → is_some old ≡ is_some base → IsAtBase base old → Answered old startup_command new.state reply → new.base ≡ base → began ≤ new.faults → IsRight (asked_of new) (last_of new)
+holds_nothing : (began : ℕ) (base : Option Persist) (old : Option SlotState) (new : Seen) (limit count next : ℕ)
+    → is_some old ≡ is_some new.state → IsAtBase base old → ClearedIf old new.state → new.base ≡ base → began ≤ new.faults → IsRight (asked_of new) (last_of new)
     → limit ≤ SILENT_LIMIT → count ≡ OBJECT_SLOTS
     → Holds began new [] limit [] [] (held_nothing count next) 0 None
-holds_nothing began base old reply new limit count next same at_base answered base_same risen right most slots_are = record {
-  stands = subst (λ (b : Option Persist). StandsFor b new.state [] [] (held_nothing count next)) (sym base_same) (stands_begun base old new.state reply count next same at_base answered);
+holds_nothing began base old new limit count next same at_base clears base_same risen right most slots_are = record {
+  stands = subst (λ (b : Option Persist). StandsFor b new.state [] [] (held_nothing count next)) (sym base_same) (stands_begun base old new.state count next same at_base clears);
   journal = record {
     counts = tt;
     whole = tt;
@@ -176,37 +168,13 @@ holds_nothing began base old reply new limit count next same at_base answered ba
   placed = omega arith;
 }
 
-pub holds_begun : (began : ℕ) (base : Option Persist) (old : Option SlotState) (reply : List ℕ) (new : Seen) (limit : ℕ) (held : Held)
-    → is_some old ≡ is_some base → IsAtBase base old → Answered old startup_command new.state reply → new.base ≡ base → began ≤ new.faults → IsRight (asked_of new) (last_of new)
+pub holds_begun : (began : ℕ) (base : Option Persist) (old : Option SlotState) (new : Seen) (limit : ℕ) (held : Held)
+    → is_some old ≡ is_some new.state → IsAtBase base old → ClearedIf old new.state → new.base ≡ base → began ≤ new.faults → IsRight (asked_of new) (last_of new)
     → limit ≤ SILENT_LIMIT → held.objects ≡ record { items = []; slots = OBJECT_SLOTS; order = []; owners = []; left = [] }
     → held.sessions ≡ record { items = no_items; next = 0; order = []; saved = [] } → Holds began new [] limit [] [] held 0 None
-holds_begun began base old reply new limit held same at_base answered base_same risen right most objects sessions =
+holds_begun began base old new limit held same at_base clears base_same risen right most objects sessions =
     subst (λ (h : Held). Holds began new [] limit [] [] h 0 None) (nothing_held held OBJECT_SLOTS 0 objects sessions)
-    (holds_nothing began base old reply new limit OBJECT_SLOTS 0 same at_base answered base_same risen right most refl)
-
--- ---- a wrong answer to Startup
-
-judged : (asked reply : List ℕ) (last : Option (List ℕ)) (is : Bool) → asked ≡ startup_command → last ≡ Some reply → takes true true startup_command reply ≡ is → wrong asked last ≡ not is
-judged asked reply last is is_asked is_last taken = ap (λ (x : List ℕ). wrong x last) is_asked ∙ ap (wrong startup_command) is_last ∙ ap not taken
-
-pub is_right_start : (asked reply : List ℕ) (last : Option (List ℕ)) → asked ≡ startup_command → last ≡ Some reply → takes true true startup_command reply ≡ true → IsRight asked last
-is_right_start asked reply last is_asked is_last taken =
-    subst (IsRight asked) (sym is_last) (ap (λ (x : List ℕ). takes false false x reply) is_asked ∙ takes_more true true startup_command reply taken)
-
-pub is_wrong_start : (asked reply : List ℕ) (last : Option (List ℕ)) (code : ℕ) → asked ≡ startup_command → last ≡ Some reply → takes true true startup_command reply ≡ false → code ≡ reported_code reply → IsWrongAnswer asked last code
-is_wrong_start asked reply last code is_asked is_last untaken is_code =
-    record { is_wrong = judged asked reply last false is_asked is_last untaken; response = reply; last_is = is_last; code_is = is_code }
-
--- a device that tells its state takes Startup
-pub starts_nothing : (old new : Option SlotState) (reply : List ℕ) → Answered old startup_command new reply → takes true true startup_command reply ≡ false → new ≡ None
-starts_nothing None new reply answered untaken = answered
-starts_nothing (Some s) new reply answered untaken =
-    absurd (true≢false (sym (ap (takes true true startup_command) answered.1 ∙ (startup_starts s).taken) ∙ untaken))
-
-pub stays_untold : (old new : Option SlotState) (reply : List ℕ) → Answered old startup_command new reply → takes true true startup_command reply ≡ false → new ≡ old
-stays_untold None new reply answered untaken = answered
-stays_untold (Some s) new reply answered untaken =
-    absurd (let none : is_some new ≡ false = ap is_some (starts_nothing (Some s) new reply answered untaken) in let some : is_some new ≡ true = ap is_some answered.0 in cc)
+    (holds_nothing began base old new limit OBJECT_SLOTS 0 same at_base clears base_same risen right most refl)
 
 pub limit_most : (limit : ℕ) → IsLimit limit → limit ≤ SILENT_LIMIT
 limit_most limit (inl is) = omega (arith, is.1)

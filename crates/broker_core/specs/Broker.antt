@@ -5,13 +5,13 @@ use Rattle.tab_spec.specs.declared.TheConstants.{MOST_BYTES, RC_DEVICE_ANSWER, R
 use Rattle.tab_spec.specs.declared.Admitted.{Admitted}
 use Rattle.tab_spec.specs.Count.{Rose, largest_count}
 use Rattle.tab_spec.specs.Admission.{Tables, client_admitted}
-use Rattle.tab_spec.specs.Commands.{startup_command}
 use Rattle.tab_spec.specs.Frame.{is_frame}
 use Rattle.tab_spec.specs.Persist.{Persist}
 use Rattle.tab_spec.specs.Reply.{error_reply}
 use Rattle.device_spec.specs.Answers.{IsRight, IsWrongAnswer}
-use Rattle.device_spec.specs.Slots.{SlotState, IsSlots, HoldsNothing, held}
+use Rattle.device_spec.specs.Slots.{SlotState, IsSlots, held}
 use Rattle.device_port.specs.Device.{Seen, asked_of, last_of}
+use Rattle.device_start.specs.Start.{SendsStart}
 use Rattle.session_swap.specs.Items.{gap_kept}
 use Rattle.session_swap.specs.declared.TheConstants.{RENEWAL_GAP}
 use Rattle.history_spec.specs.declared.EntryKind.{EntryKind}
@@ -27,7 +27,7 @@ use Rattle.world_spec.specs.Legal.{Legal}
 use Rattle.world_spec.specs.World.{world_of}
 use Rattle.client_machine.specs.declared.held.Held.{Held}
 use Rattle.client_machine.specs.Costs.{SendsUpTo, StaysIn, new_bound}
-use Rattle.client_machine.specs.Moves.{Executes, IsAtHand, IsCalm, IsSent, KeepsOwners, any_client, moves_for, pick_of, saved_number}
+use Rattle.client_machine.specs.Moves.{Executes, IsAtHand, IsCalm, KeepsOwners, any_client, moves_for, pick_of, saved_number}
 use Rattle.client_machine.specs.Settled.{orphan_count}
 use Rattle.broker_core.specs.Stands.{Stands}
 use Rattle.client_machine.specs.Tables.{AreOpenOwners, owned_handles, tables_seen}
@@ -56,11 +56,10 @@ pub record BrokerView (D : Type 0) : Type 0 where
 abbrev pub IsSound : Option SlotState → Type 0
 IsSound state = IfSome state (λ slots. IsSlots slots)
 
--- a device that a broker may begin on: it keeps what its history begins from, holds nothing, and has numbers for many contexts
+-- a device that a broker may begin on: it keeps what its history begins from, and has numbers for many contexts
 pub record IsAtBase (base : Option Persist) (state : Option SlotState) : Type 0 where
   pub kept : (b : Persist) (slots : SlotState) → base ≡ Some b → state ≡ Some slots → slots.persist ≡ b
   pub sound : IsSound state
-  pub empty : IfSome state HoldsNothing
   pub object_counter : IfSome state (λ slots. slots.object_counter ≤ 2 ^ 61)
   pub counter : IfSome state (λ slots. slots.counter ≤ 2 ^ 61)
 
@@ -240,11 +239,11 @@ TellsLeft closes.Clean orphans new_orphans = new_orphans ≡ orphans
 TellsLeft (closes.Orphans count) orphans new_orphans = (count ≡ new_orphans) × (orphans < new_orphans)
 TellsLeft closes.Answer orphans new_orphans = Unit {0}
 
--- why a broker didn't begin: the transmission of Startup failed, the response to it is a wrong answer, or memory lacked
--- before anything was sent
+-- why a broker didn't begin: a transmission failed, or the response to it is a wrong answer, and that was the last one; or memory
+-- lacked before anything was sent
 abbrev pub HasCause : {D : Type 0} (seen : D → Seen) → BeginError → (old new : D) → Type 0
 HasCause seen (begin_errors.Device count) old new =
-    IsSent seen old new startup_command × (last_of (seen new) ≡ None) × (count ≡ (seen new).faults)
+    SendsStart (seen old).trace (seen new).trace × (last_of (seen new) ≡ None) × Rose (seen old).faults (seen new).faults × (count ≡ (seen new).faults)
 HasCause seen (begin_errors.Answer code) old new =
-    IsSent seen old new startup_command × IsWrongAnswer (asked_of (seen new)) (last_of (seen new)) code × ((seen new).state ≡ None)
+    SendsStart (seen old).trace (seen new).trace × IsWrongAnswer (asked_of (seen new)) (last_of (seen new)) code × ((seen new).state ≡ None)
 HasCause seen begin_errors.Memory old new = new ≡ old

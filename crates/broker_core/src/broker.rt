@@ -1,12 +1,12 @@
 ghost use Rattle.std.specs.Prelude.{IsTrue};
 ghost use Rattle.std.specs.Prelude.{◌≡◌, true, false, ◌≤◌, ◌<◌, ◌+◌, ◌*◌, ◌↔◌, ℕ, [], ◌∷◌, ◌++◌};
 ghost use Rattle.std.specs.Prelude.{Some, None, Ok, Err, length, set};
-ghost use Rattle.std.specs.Prelude.{IsSome, IsSomeAnd, IfOk, IfErr, OnOk, OnErr, IfSome};
+ghost use Rattle.std.specs.Prelude.{IsSome, IfOk, IfErr, OnOk, OnErr, IfSome};
 ghost use Rattle.tab_spec.specs.declared.TheConstants.{RC_CANCELED, RC_DEVICE_FAULT};
-ghost use Rattle.tab_spec.specs.Commands.{startup_command};
 ghost use Rattle.tab_spec.specs.Reply.{error_reply};
-ghost use Rattle.device_spec.specs.Answers.{IsWrongAnswer, takes};
-ghost use Rattle.device_port.specs.Device.{asked_of, last_of};
+ghost use Rattle.device_spec.specs.Answers.{IsWrongAnswer};
+ghost use Rattle.device_port.specs.Device.{asked_of, last_of, sent_of};
+ghost use Rattle.device_start.specs.Start.{ClearedIf, HoldsNoMoreIf, IsStarted};
 ghost use Rattle.session_swap.specs.Items.{no_items};
 ghost use Rattle.client_machine.specs.Dropping.{AreLeftByFaults, KeepsOthers};
 ghost use Rattle.client_machine.specs.Settled.{orphan_count};
@@ -26,14 +26,15 @@ ghost use Rattle.broker_core.specs.Broker.{TellsCanceled, TellsLeft, TellsNoRoom
 ghost use Rattle.broker_core.specs.Tables.{with_owners};
 ghost use Rattle.client_machine.specs.Costs.{SendsUpTo, close_bound, own_objects};
 ghost use Rattle.client_machine.specs.Moves as moves;
-ghost use Rattle.client_machine.specs.Moves.{Keeps, IsSent, tells_context};
+ghost use Rattle.client_machine.specs.Moves.{Keeps, tells_context};
 ghost use Rattle.client_laws.specs.Ready.{tells_session};
 
 use audit_journal::{Entry, Journal};
 use broker_lock::{Closed, OpenClientError, Told};
 use client_machine::{Held, Machine, Seen, pick_of};
 use client_tables::ClientTables;
-use device_port::{Device, SwapError, takes};
+use device_port::{Device, SwapError};
+use device_start::{Lists, start};
 use history_spec::{EntryKind, MOST_CLIENTS, Pick};
 use linked_records::Steps;
 use object_swap::{Objects, Uncounted, Visits};
@@ -47,16 +48,14 @@ use tab_spec::{
     RC_MEMORY,
 };
 
-// TPM2_Startup with TPM_SU_CLEAR (Part 3, "TPM2_Startup").
-const STARTUP: [u8; 12] = [0x80, 0x01, 0, 0, 0, 12, 0, 0, 0x01, 0x44, 0, 0];
-
 /// Why a broker didn't begin.
 #[derive(Clone, Copy)]
 pub enum BeginError {
-    /// The transmission of Startup failed; the device's fault count afterwards.
+    /// A transmission failed; the device's fault count afterwards.
     Device(u64),
-    /// The device gave a wrong answer to Startup; its code.
+    /// The device gave a wrong answer; its code.
     Answer(u32),
+    /// Memory lacked, before anything was sent.
     Memory,
 }
 
@@ -100,13 +99,6 @@ impl<D: Device> Model for Broker<D> {
         Holds b.began (D.seen b.machine.device) b.journal.entries b.journal.limit
         b.tables.items b.tables.lists b.machine.held b.present b.wrong_code
         × (b.tables.present ≡ (clients_of b.journal.entries).present) };
-}
-
-// Whether the device started now, or had started before.
-fn is_started(response: &[u8]) -> bool
-    ensures { result ≡ takes true true startup_command response.now }
-{
-    takes(&STARTUP, response, false, false)
 }
 
 // Whether the journal has room for the entry of a command with the largest reply, and for the close
@@ -270,10 +262,10 @@ fn enter_close(journal: &mut Journal, client: u32)
 }
 
 impl<D: Device> Broker<D> {
-    /// Starts the device, and keeps an empty journal of at most so many bytes, 8,192 to
-    /// 1,073,741,824, or one that only counts its entries, with the limit 2^58. The memory of the
-    /// journal and of the sessions is taken here, before anything is sent. An error hands the
-    /// device back.
+    /// Starts the device, flushes what an earlier broker left in it, and keeps an empty journal of at
+    /// most so many bytes, 8,192 to 1,073,741,824, or one that only counts its entries, with the limit
+    /// 2^58. The memory of the journal and of the sessions is taken here, before anything is sent. An
+    /// error hands the device back.
     pub fn begin(alloc: Global, device: D, limit: u64) -> Result<Broker<D>, (BeginError, D)>
         requires at_base { IsAtBase (D.seen device).base (D.seen device).state }
         requires limit { IsLimit limit }
@@ -281,15 +273,16 @@ impl<D: Device> Broker<D> {
             (λ b. (b.journal ≡ []) × (b.tables ≡ []) × (b.held.objects.items ≡ [])
             × (b.held.sessions.items ≡ no_items) × (b.wrong_code ≡ None)) }
         ensures fixed { IfOk result (λ b. (b.began ≡ (D.seen device).faults) × (b.limit ≡ limit)) }
-        // Startup was sent, and the device took it.
-        ensures started { IfOk result (λ b. IsSent D.seen device b.device startup_command
-            × IsSomeAnd (last_of (D.seen b.device))
-            (λ response. takes true true startup_command response ≡ true)) }
+        // The device was started, and flushed of all that it listed.
+        ensures started { IfOk result
+            (λ b. IsStarted (D.seen device).trace (D.seen b.device).trace) }
+        ensures cleared { IfOk result
+            (λ b. ClearedIf (D.seen device).state (D.seen b.device).state) }
         ensures keeps { IfOk result (λ b. Keeps D.seen device b.device) }
-        // Startup was sent and not taken, or memory lacked. The device is in its state.
         ensures cause { IfErr result (λ e. HasCause D.seen e.0 device e.1) }
-        ensures keeps_err { IfErr result
-            (λ e. Keeps D.seen device e.1 × ((D.seen e.1).state ≡ (D.seen device).state)) }
+        // It holds no more than it did, and keeps what it kept.
+        ensures keeps_err { IfErr result (λ e. Keeps D.seen device e.1
+            × HoldsNoMoreIf (D.seen device).state (D.seen e.1).state) }
     {
         let mut device = device;
         let began = device.fault_count();
@@ -308,13 +301,16 @@ impl<D: Device> Broker<D> {
         let Ok(translated) = Buffer::new(alloc) else {
             return Err((BeginError::Memory, device));
         };
-        if device.transmit(&STARTUP, &mut scratch).is_err() {
-            let count = device.fault_count();
-            return Err((BeginError::Device(count), device));
-        }
-        if !is_started(scratch.as_slice()) {
-            let code = tab_wire::reported_code(scratch.as_slice());
-            return Err((BeginError::Answer(code), device));
+        let Ok(mut lists) = Lists::new(alloc) else {
+            return Err((BeginError::Memory, device));
+        };
+        match start(&mut device, &mut lists, &mut scratch) {
+            Ok(()) => {}
+            Err(SwapError::Failed(_)) => {
+                let count = device.fault_count();
+                return Err((BeginError::Device(count), device));
+            }
+            Err(SwapError::Answer(code)) => return Err((BeginError::Answer(code), device)),
         }
         Ok(Broker {
             machine: Machine {
@@ -541,6 +537,13 @@ impl<D: Device> Broker<D> {
         ensures { result ≡ orphan_count self.now.held }
     {
         self.machine.held.orphans()
+    }
+
+    /// How many commands its device was sent, answered or not: for clients, and of its own.
+    pub fn sent_count(&self) -> u64
+        ensures { result ≡ sent_of (D.seen self.now.device) }
+    {
+        self.machine.device.sent_count()
     }
 
     /// The code of the device's wrong answer, where one came: bytes 6 to 9 of it, or 0 where it has

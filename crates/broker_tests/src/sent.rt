@@ -31,118 +31,118 @@ enum Act {
 }
 
 // What a client does one after the other, and how many commands the device was sent by then,
-// Startup among them.
+// The four of the start are among them.
 type Acts = &'static [(Act, u64)];
 
 // What is in a slot or in a place stays there.
 const RESIDENT: Acts = &[
-    (Act::Make(0), 2),
-    (Act::Make(1), 3),
-    (Act::Read(1), 4),
-    (Act::Read(0), 5),
-    (Act::Read(0), 6),
-    (Act::Start, 7),
-    (Act::Start, 8),
-    (Act::Ask(1), 9),
-    (Act::Ask(0), 10),
-    (Act::Save(1), 11),
+    (Act::Make(0), 5),
+    (Act::Make(1), 6),
+    (Act::Read(1), 7),
+    (Act::Read(0), 8),
+    (Act::Read(0), 9),
+    (Act::Start, 10),
+    (Act::Start, 11),
+    (Act::Ask(1), 12),
+    (Act::Ask(0), 13),
+    (Act::Save(1), 14),
     // What isn't there, and what is neither an object nor a session.
-    (Act::Flush(0x8000_0005), 11),
-    (Act::Flush(0x0200_0007), 11),
-    (Act::Flush(0x4000_0001), 11),
-    (Act::Cancel, 11),
+    (Act::Flush(0x8000_0005), 14),
+    (Act::Flush(0x0200_0007), 14),
+    (Act::Flush(0x4000_0001), 14),
+    (Act::Cancel, 14),
     // An object that is in a slot, and a session that is saved.
-    (Act::Flush(0x8000_0001), 12),
-    (Act::Flush(0x0300_0001), 13),
+    (Act::Flush(0x8000_0001), 15),
+    (Act::Flush(0x0300_0001), 16),
     // The other object and the other session.
-    (Act::Close, 15),
+    (Act::Close, 18),
 ];
 
 // Four objects on three slots. The one that was used least recently leaves: it is saved the first
 // time, and flushed. The one that is read is loaded.
 const FOUR_OBJECTS: Acts = &[
-    (Act::Make(0), 2),
-    (Act::Make(1), 3),
-    (Act::Make(2), 4),
-    (Act::Make(3), 7),
-    (Act::Read(0), 11),
-    (Act::Read(1), 15),
-    (Act::Read(2), 19),
-    (Act::Read(3), 22),
-    (Act::Read(0), 25),
-    (Act::Read(1), 28),
-    (Act::Read(2), 31),
-    (Act::Read(3), 34),
-    (Act::Read(3), 35),
+    (Act::Make(0), 5),
+    (Act::Make(1), 6),
+    (Act::Make(2), 7),
+    (Act::Make(3), 10),
+    (Act::Read(0), 14),
+    (Act::Read(1), 18),
+    (Act::Read(2), 22),
+    (Act::Read(3), 25),
+    (Act::Read(0), 28),
+    (Act::Read(1), 31),
+    (Act::Read(2), 34),
+    (Act::Read(3), 37),
+    (Act::Read(3), 38),
     // In no slot: it is forgotten, and nothing is sent.
-    (Act::Flush(0x8000_0000), 35),
-    (Act::Close, 38),
+    (Act::Flush(0x8000_0000), 38),
+    (Act::Close, 41),
 ];
 
 // Five of them.
 const FIVE_OBJECTS: Acts = &[
-    (Act::Make(0), 2),
-    (Act::Make(1), 3),
-    (Act::Make(2), 4),
-    (Act::Make(3), 7),
-    (Act::Make(4), 10),
-    (Act::Read(4), 11),
-    (Act::Read(2), 12),
-    (Act::Read(3), 13),
+    (Act::Make(0), 5),
+    (Act::Make(1), 6),
+    (Act::Make(2), 7),
+    (Act::Make(3), 10),
+    (Act::Make(4), 13),
+    (Act::Read(4), 14),
+    (Act::Read(2), 15),
+    (Act::Read(3), 16),
 ];
 
 // The first one was read again before the fourth is made, so the second leaves. The two others that
 // are in slots stay there.
 const READ_AGAIN: Acts = &[
-    (Act::Make(0), 2),
-    (Act::Make(1), 3),
-    (Act::Make(2), 4),
-    (Act::Read(0), 5),
-    (Act::Make(3), 8),
-    (Act::Read(0), 9),
-    (Act::Read(1), 13),
-    (Act::Read(3), 14),
-    (Act::Read(0), 15),
+    (Act::Make(0), 5),
+    (Act::Make(1), 6),
+    (Act::Make(2), 7),
+    (Act::Read(0), 8),
+    (Act::Make(3), 11),
+    (Act::Read(0), 12),
     (Act::Read(1), 16),
+    (Act::Read(3), 17),
+    (Act::Read(0), 18),
+    (Act::Read(1), 19),
 ];
 
 // Four sessions on three places. The one that was used least recently is saved, each time.
 const FOUR_SESSIONS: Acts = &[
-    (Act::Start, 2),
-    (Act::Start, 3),
-    (Act::Start, 4),
+    (Act::Start, 5),
     (Act::Start, 6),
-    (Act::Ask(0), 9),
-    (Act::Ask(0), 10),
-    (Act::Ask(1), 13),
-    (Act::Ask(0), 14),
-    (Act::Ask(1), 15),
+    (Act::Start, 7),
+    (Act::Start, 9),
+    (Act::Ask(0), 12),
+    (Act::Ask(0), 13),
+    (Act::Ask(1), 16),
+    (Act::Ask(0), 17),
+    (Act::Ask(1), 18),
 ];
 
 // The first one was asked again before the fourth is started, so the second leaves.
 const ASKED_AGAIN: Acts = &[
-    (Act::Start, 2),
-    (Act::Start, 3),
-    (Act::Start, 4),
-    (Act::Ask(0), 5),
+    (Act::Start, 5),
+    (Act::Start, 6),
     (Act::Start, 7),
     (Act::Ask(0), 8),
-    (Act::Ask(1), 11),
-    (Act::Ask(3), 12),
+    (Act::Start, 10),
+    (Act::Ask(0), 11),
+    (Act::Ask(1), 14),
+    (Act::Ask(3), 15),
     // Nothing leaves for a session that its client saves.
-    (Act::Save(3), 13),
-    (Act::Ask(0), 14),
-    (Act::Ask(2), 16),
+    (Act::Save(3), 16),
+    (Act::Ask(0), 17),
+    (Act::Ask(2), 19),
 ];
 
 // The same where the journal may keep 8,192 bytes. Behind the third one there is no room for a
 // command, so the object isn't read. The close has room, and flushes the session and the object.
 const FULL: Acts = &[
-    (Act::Make(0), 2),
-    (Act::Start, 3),
-    (Act::Fill, 3),
-    (Act::Read(0), 3),
-    (Act::Close, 5),
+    (Act::Make(0), 5),
+    (Act::Start, 6),
+    (Act::Fill, 6),
+    (Act::Read(0), 6),
+    (Act::Close, 8),
 ];
 
 // Lets the first client do it.

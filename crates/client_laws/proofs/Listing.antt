@@ -24,7 +24,7 @@ use Rattle.device_spec.specs.Slots.{SlotState, Step, active_count, capability_ro
 use Rattle.tab_laws.specs.OtherHandles.{AreHandlesOf, AreThere, absent_are_zero}
 use Rattle.tab_laws.proofs.Handled.{client_is, handled_is}
 use Rattle.tab_laws.proofs.ReadBack.{Gives, gives_next}
-use Rattle.device_laws.proofs.AnswerForms.{refusal_taken, success_taken, takes_same}
+use Rattle.device_laws.proofs.AnswerForms.{no_tables_asked, refusal_taken, success_taken, takes_same}
 use Rattle.device_laws.proofs.Capabilities.{short_capability}
 use Rattle.device_laws.proofs.Faults.{Fails, IsPlain, fails_parameter_32, fails_read, fails_then}
 use Rattle.device_laws.proofs.Frames.{code_of_response, response_is_frame}
@@ -326,7 +326,7 @@ told_taken sent (Ok params) asks plain short =
       authorized = or_left (not (tag_of sent == ST_SESSIONS)) _
           (not_from_false (tag_of sent == ST_SESSIONS) (ap (λ (t : ℕ). t == ST_SESSIONS) asks.tag));
     })
-    (ap (λ (c : ℕ). c == CC_CONTEXT_SAVE) asks.code)
+    (ap (λ (c : ℕ). c == CC_CONTEXT_SAVE) asks.code) (no_tables_asked sent asks.none)
 
 -- whatever the broker holds
 any_taken : (is_kept is_taken : Bool) (sent last : List ℕ) → code_of sent ≡ CC_GET_CAPABILITY → takes false false sent last ≡ true

@@ -639,7 +639,7 @@ impl<D: Device> Machine<D> {
         {
             Ok(()) => Ok(0),
             Err(SwapError::Failed(_)) => {
-                self.held.sessions.disown(handle);
+                self.held.sessions.orphan_session(handle);
                 Ok(1)
             }
             Err(SwapError::Answer(code)) => Err(code),

@@ -47,7 +47,8 @@ pub(crate) fn flush_orphans<D: Device>(
     Ok(())
 }
 
-// Flushes what closed clients left, and renews old contexts.
+// Flushes what closed clients left, and renews old contexts. It makes 65 contexts at most: one for
+// each of 64 sessions, and one that frees a place.
 fn renew<D: Device>(held: &mut Held, device: &mut D, scratch: &mut Buffer) -> Result<(), SwapError>
     requires may { MayMove call_contexts D.seen device.old held.old }
     ensures prepared { Prepares 65 D.seen device.old device.new held.old held.new }

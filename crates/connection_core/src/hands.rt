@@ -2,15 +2,11 @@
 //! it waiting, and a helper in a thread of its own, which does it where something may. Over a
 //! socket and with an open gate the reader does all, and no helper is made.
 //!
-//! No message is left lying. Each is counted before it is sent, and taken off the count once it was
-//! taken up and its reply written. The reader has the duty at first, and gives it out only after it
-//! has counted a message, so the helper has something to take up. At worst the helper finds the
-//! line empty, since the reader has counted a message and not sent it yet: then it looks again, and
-//! the reader can always finish that send, since the line is empty. The helper brings the duty home
-//! once it took the last message off. So where the reader counts a message behind others and hasn't
-//! the duty, the helper is still at it and will take up this one, too. Where it counts one behind
-//! none, the duty is with it or on its way home, and it may wait for it. While it has the duty it
-//! takes up each message as soon as it is sent, so none waits then.
+//! No message is left lying. The reader counts a message before it sends it, and it is taken off the
+//! count once its reply is written. If the reader counted others before it and hasn't the duty, the
+//! helper is still at work and takes this one too. If it counted none, the duty is home or on its
+//! way, and the reader waits for it. A helper that finds the line empty looks again: the reader has
+//! counted and not sent yet. The helper brings the duty home when it takes off the last one.
 ghost use Rattle.std.specs.Prelude.{◌≡◌, ◌<◌, length, IfOk};
 ghost use Rattle.tab_spec.specs.Count.{largest_count};
 ghost use Rattle.crossbeam_channel.specs.Claims.{view};

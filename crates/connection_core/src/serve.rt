@@ -150,11 +150,10 @@ fn read_alone<B: Serves, S: Source, K: Sink + Drop, J: Begins, G: Gate, R: Wait>
     (reader, worker, ending)
 }
 
-// Runs both hands until both have ended. A reader that nothing keeps waiting needs no helper beside
-// it, and no thread is made for that one; else both run at once. Where the helper gets no thread it
-// begins once the reader has ended. The reader then does all that it may do alone, and takes back
-// what it gave out once no more bytes come. It waits for ever only where more comes than the line
-// holds.
+// Runs both hands until both have ended. With a prompt source and an open gate, as in the daemon,
+// there is one thread, and the helper is only told to stop. Else the helper gets a thread. If the
+// system gives none, it runs after the reader, and the reader blocks for ever once more commands
+// come than the line holds, which it may not run itself.
 fn run_both<
     B: Serves + Send,
     S: Source + Send + Drop,

@@ -15,7 +15,8 @@ use std::sync::Wait;
 // The most that is on a way: the duty, and that there is nothing more to be done.
 const WAY_ITEMS: usize = 2;
 
-/// With what a connection begins. Each connection picks it.
+/// With what a connection begins, for proofs alone. `serve_link` picks it where it calls
+/// `serve_fitted` at `Brand`; what stands for `Brand` below is never used there.
 pub(crate) trait Begins {
     ghost use Rattle.std.specs.Prelude.{Option};
     ghost use Rattle.connection_core.specs.Keeps.{Start};

@@ -2,7 +2,7 @@
 use Rattle.std.proofs.Common.{◌≡◌, ◌+◌, ◌^◌, ◌<◌, ◌≤◌, ℕ, Bool, true, false, true≢false, List, [], ◌∷◌, ◌++◌, length, drop, refl, ◌∙◌, sym, ap, subst, append_assoc, arith}
 use Rattle.std.specs.Prelude.{Option, Some, None, Ok, Err, not, nat_lt, ◌==◌, ◌||◌, ◌&&◌, if◌then◌else◌}
 use Rattle.std.specs.Int.{w32, to_be_bytes}
-use Rattle.std.proofs.lemmas.Bool.{eq-eqb, eqb-true, le-ltb, ltb-true}
+use Rattle.std.proofs.lemmas.Bool.{and_from, eq-eqb, eqb-true, le-ltb, ltb-true}
 use Rattle.std.proofs.lemmas.List.{append-nil}
 use Rattle.std.proofs.lemmas.Nat.{from_be_bytes-to_be_bytes_2, from_be_bytes-to_be_bytes_4}
 use Rattle.tab_spec.specs.declared.TheConstants.{ACTIVE_SESSIONS, ST_NO_SESSIONS, ST_RSP_COMMAND, ST_SESSIONS, CC_STARTUP, CC_CONTEXT_LOAD, CC_CONTEXT_SAVE, CC_FLUSH_CONTEXT, CC_GET_CAPABILITY, CC_START_AUTH_SESSION, HT_TRANSIENT, TRANSIENT_FIRST, RC_SUCCESS, RC_BAD_TAG, RC_INITIALIZE, RC_INSUFFICIENT}
@@ -13,7 +13,7 @@ use Rattle.tab_spec.specs.Session.{is_kind_number, kind_octet, kind_of}
 use Rattle.tab_spec.specs.Shape.{is_command_tag, number_of_session, octet_of}
 use Rattle.tab_spec.specs.Values.{Reading, number8, sized, sized_bytes, then_read}
 use Rattle.effect_spec.specs.Effect.{response_body}
-use Rattle.device_spec.specs.Answers.{answer_area, asks_of_tables, fits_handle, has_response_handle, is_context, is_error_form, is_hidden, is_own, is_started_handle, is_success_form, is_whole, is_word, loads_object, loads_session, may_refuse, session_type_of, takes, word_at}
+use Rattle.device_spec.specs.Answers.{answer_area, asks_of_handles, asks_of_tables, fits_handle, has_response_handle, is_context, is_error_form, is_hidden, is_of_tables, is_own, is_started_handle, is_success_form, is_whole, is_word, lists_handles, loads_object, loads_session, may_refuse, session_type_of, takes, word_at}
 use Rattle.tab_laws.proofs.ReadBack.{fixed_bytes_again, number8_again, number32_again, sized_again}
 use Rattle.device_laws.specs.Effects.{is_of_effects}
 use Rattle.device_laws.proofs.Faults.{IsPlain}
@@ -99,34 +99,60 @@ error_taken asked code own plain = refusal_taken false asked code own plain
 success_by : (frame success ok other : Bool) → frame ≡ true → success ≡ true → ok ≡ true → (frame && (if success then ok else other)) ≡ true
 success_by frame success ok other framed so formed = rw (framed, so, formed) refl
 
-form_of : (tag handled authorized saves context : Bool) → tag ≡ true → handled ≡ true → authorized ≡ true → saves ≡ false
-    → (tag && handled && authorized && (not saves || context)) ≡ true
-form_of tag handled authorized saves context a b c d = rw (a, b, c, d) refl
+form_of : (headed handled authorized saves context : Bool) → headed ≡ true → handled ≡ true → authorized ≡ true → saves ≡ false
+    → (headed && handled && authorized && (not saves || context)) ≡ true
+form_of headed handled authorized saves context a b c d = rw (a, b, c, d) refl
+
+none_by : (capability handles tables : Bool) → capability ≡ false → (capability && handles && tables) ≡ false
+none_by capability handles tables is = rw is refl
+
+fewer_by : (capability properties handles tables : Bool) → (capability && (properties || (handles && tables))) ≡ false → (capability && handles && tables) ≡ false
+fewer_by true true handles tables is = absurd cc
+fewer_by true false handles tables is = is
+fewer_by false properties handles tables is = refl
+
+-- what isn't GetCapability asks for no handles, nor does what asks nothing of the tables of a client
+pub no_handles_asked : (asked : List ℕ) → (code_of asked == CC_GET_CAPABILITY) ≡ false → asks_of_handles asked ≡ false
+no_handles_asked asked other = none_by (code_of asked == CC_GET_CAPABILITY) _ _ other
+
+pub no_tables_asked : (asked : List ℕ) → asks_of_tables asked ≡ false → asks_of_handles asked ≡ false
+no_tables_asked asked none =
+    fewer_by (code_of asked == CC_GET_CAPABILITY) (is_word (λ capability. capability == 6) (word_at 10 asked))
+    (is_word (λ capability. capability == 1) (word_at 10 asked)) (is_word is_of_tables (word_at 14 asked)) none
+
+lists_none : (asks whole : Bool) → asks ≡ false → (not asks || whole) ≡ true
+lists_none asks whole is = rw is refl
+
+-- no list was asked for, and the response has the command's tag
+headed_by : (asked last : List ℕ) → asks_of_handles asked ≡ false → tag_of last ≡ tag_of asked → (lists_handles asked last && tag_of last == tag_of asked) ≡ true
+headed_by asked last none tag =
+    and_from (lists_handles asked last) (tag_of last == tag_of asked) (lists_none (asks_of_handles asked) _ none) (eq-eqb (tag_of last) (tag_of asked) tag)
 
 -- what a success needs besides its header
 pub record Formed (is_taken : Bool) (asked last : List ℕ) (named : Bool) : Type 0 where
   pub handled : (not named || is_word (fits_handle is_taken asked) (word_at 10 last)) ≡ true
   pub authorized : (not (tag_of asked == ST_SESSIONS) || is_whole (answer_area (drop (if named then 14 else 10) last))) ≡ true
 
-formed_as : (is_taken : Bool) (asked last : List ℕ) (named has : Bool) → has ≡ named → tag_of last ≡ tag_of asked → Formed is_taken asked last named
+formed_as : (is_taken : Bool) (asked last : List ℕ) (named has headed : Bool) → has ≡ named → headed ≡ true → Formed is_taken asked last named
     → (code_of asked == CC_CONTEXT_SAVE) ≡ false
-    → (tag_of last == tag_of asked
+    → (headed
     && (not has || is_word (fits_handle is_taken asked) (word_at 10 last))
     && (not (tag_of asked == ST_SESSIONS) || is_whole (answer_area (drop (if has then 14 else 10) last)))
     && (not (code_of asked == CC_CONTEXT_SAVE) || is_context asked (drop 10 last))) ≡ true
-formed_as is_taken asked last named has is tag formed save =
-    subst (λ (h : Bool). (tag_of last == tag_of asked
+formed_as is_taken asked last named has headed is begins formed save =
+    subst (λ (h : Bool). (headed
     && (not h || is_word (fits_handle is_taken asked) (word_at 10 last))
     && (not (tag_of asked == ST_SESSIONS) || is_whole (answer_area (drop (if h then 14 else 10) last)))
     && (not (code_of asked == CC_CONTEXT_SAVE) || is_context asked (drop 10 last))) ≡ true) (sym is)
-    (form_of (tag_of last == tag_of asked) _ _ (code_of asked == CC_CONTEXT_SAVE) _ (eq-eqb (tag_of last) (tag_of asked) tag) formed.handled formed.authorized save)
+    (form_of headed _ _ (code_of asked == CC_CONTEXT_SAVE) _ begins formed.handled formed.authorized save)
 
 pub success_taken : (is_kept is_taken : Bool) (asked last : List ℕ) (named : Bool) → is_frame last ≡ true → code_of last ≡ RC_SUCCESS
     → has_response_handle (row_of (code_of asked)) ≡ named → tag_of last ≡ tag_of asked → Formed is_taken asked last named
-    → (code_of asked == CC_CONTEXT_SAVE) ≡ false → takes is_kept is_taken asked last ≡ true
-success_taken is_kept is_taken asked last named frame success has tag formed save =
+    → (code_of asked == CC_CONTEXT_SAVE) ≡ false → asks_of_handles asked ≡ false → takes is_kept is_taken asked last ≡ true
+success_taken is_kept is_taken asked last named frame success has tag formed save none =
     success_by (is_frame last) (code_of last == RC_SUCCESS) (is_success_form is_taken asked last) _ frame (eq-eqb (code_of last) RC_SUCCESS success)
-    (formed_as is_taken asked last named (has_response_handle (row_of (code_of asked))) has tag formed save)
+    (formed_as is_taken asked last named (has_response_handle (row_of (code_of asked))) (lists_handles asked last && tag_of last == tag_of asked) has
+    (headed_by asked last none tag) formed save)
 
 -- ---- authorizations of responses
 
@@ -211,15 +237,15 @@ refuse_same is_kept asked code load =
     (own_same is_kept (code_of asked == CC_STARTUP) (code_of asked == CC_CONTEXT_SAVE) (code_of asked == CC_FLUSH_CONTEXT) (code_of asked == CC_CONTEXT_LOAD) _ _
     (asks_of_tables asked) load)
 
-takes_by : (frame success tag named handled first authorized saved form refuse second : Bool) → handled ≡ first → refuse ≡ second
-    → (frame && (if success then tag && (not named || handled) && authorized && saved else form && refuse))
-    ≡ (frame && (if success then tag && (not named || first) && authorized && saved else form && second))
-takes_by frame success tag named handled first authorized saved form refuse second a b = rw (a, b) refl
+takes_by : (frame success headed named handled first authorized saved form refuse second : Bool) → handled ≡ first → refuse ≡ second
+    → (frame && (if success then headed && (not named || handled) && authorized && saved else form && refuse))
+    ≡ (frame && (if success then headed && (not named || first) && authorized && saved else form && second))
+takes_by frame success headed named handled first authorized saved form refuse second a b = rw (a, b) refl
 
 pub takes_same : (is_kept is_taken : Bool) (asked last : List ℕ) → (code_of asked == CC_CONTEXT_LOAD) ≡ false → (code_of asked == CC_START_AUTH_SESSION) ≡ false
     → takes is_kept is_taken asked last ≡ takes true true asked last
 takes_same is_kept is_taken asked last load start =
-    takes_by (is_frame last) (code_of last == RC_SUCCESS) (tag_of last == tag_of asked) (has_response_handle (row_of (code_of asked)))
+    takes_by (is_frame last) (code_of last == RC_SUCCESS) (lists_handles asked last && tag_of last == tag_of asked) (has_response_handle (row_of (code_of asked)))
     (is_word (fits_handle is_taken asked) (word_at 10 last)) (is_word (fits_handle true asked) (word_at 10 last)) _ _ (is_error_form last)
     (may_refuse is_kept asked (code_of last)) (may_refuse true asked (code_of last)) (fits_same is_taken asked (word_at 10 last) start)
     (refuse_same is_kept asked (code_of last) load)
@@ -269,20 +295,20 @@ fits_more is_taken asked (Some handle) e =
     where_more (code_of asked == CC_START_AUTH_SESSION) (is_started_handle is_taken type handle) (is_started_handle false type handle) _
     (started_more is_taken type handle) e
 
-takes_both : (frame success tag named handled first authorized saved form refuse second : Bool) → (handled ≡ true → first ≡ true) → (refuse ≡ true → second ≡ true)
-    → (frame && (if success then tag && (not named || handled) && authorized && saved else form && refuse)) ≡ true
-    → (frame && (if success then tag && (not named || first) && authorized && saved else form && second)) ≡ true
-takes_both false success tag named handled first authorized saved form refuse second a b e = absurd cc
+takes_both : (frame success headed named handled first authorized saved form refuse second : Bool) → (handled ≡ true → first ≡ true) → (refuse ≡ true → second ≡ true)
+    → (frame && (if success then headed && (not named || handled) && authorized && saved else form && refuse)) ≡ true
+    → (frame && (if success then headed && (not named || first) && authorized && saved else form && second)) ≡ true
+takes_both false success headed named handled first authorized saved form refuse second a b e = absurd cc
 takes_both true true false named handled first authorized saved form refuse second a b e = absurd cc
 takes_both true true true false handled first authorized saved form refuse second a b e = e
 takes_both true true true true false first authorized saved form refuse second a b e = absurd cc
 takes_both true true true true true first authorized saved form refuse second a b e = rw (a refl) e
-takes_both true false tag named handled first authorized saved true refuse second a b e = b e
-takes_both true false tag named handled first authorized saved false refuse second a b e = absurd cc
+takes_both true false headed named handled first authorized saved true refuse second a b e = b e
+takes_both true false headed named handled first authorized saved false refuse second a b e = absurd cc
 
 pub takes_more : (is_kept is_taken : Bool) (asked last : List ℕ) → takes is_kept is_taken asked last ≡ true → takes false false asked last ≡ true
 takes_more is_kept is_taken asked last e =
-    takes_both (is_frame last) (code_of last == RC_SUCCESS) (tag_of last == tag_of asked) (has_response_handle (row_of (code_of asked)))
+    takes_both (is_frame last) (code_of last == RC_SUCCESS) (lists_handles asked last && tag_of last == tag_of asked) (has_response_handle (row_of (code_of asked)))
     (is_word (fits_handle is_taken asked) (word_at 10 last)) (is_word (fits_handle false asked) (word_at 10 last)) _ _ (is_error_form last)
     (may_refuse is_kept asked (code_of last)) (may_refuse false asked (code_of last)) (fits_more is_taken asked (word_at 10 last))
     (may_refuse_more is_kept asked (code_of last)) e

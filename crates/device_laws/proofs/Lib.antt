@@ -24,3 +24,7 @@ pub mod EffectBytes
 pub mod OverHandles
 pub mod InSlots
 pub mod Counters
+pub mod HandleLists
+pub mod Held
+pub mod Listing
+pub mod Flushing

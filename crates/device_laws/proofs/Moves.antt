@@ -193,4 +193,4 @@ load_taken slots context o sound started small free is =
           ∙ load_fits context (free_slot slots.slots) (saved_word context has.0 has.1) few;
       authorized = refl;
     })
-    refl
+    refl refl

@@ -150,4 +150,4 @@ session_load_taken slots context handle number s sound started small fits sessio
       handled = ap (is_word (fits_handle true command)) word ∙ load_fits context handle (saved_word context handle has.0 has.1) session;
       authorized = refl;
     })
-    refl
+    refl refl

@@ -6,6 +6,7 @@
 
 mod handles;
 mod laws;
+mod remains;
 
 pub use handles::{
     commands_run_over_other_handles, effects_ignore_handles, handles_stand_for_what_is_there,
@@ -19,3 +20,4 @@ pub use laws::{
     session_contexts_are_opened, sessions_are_moved, slot_replies_are_frames, startup_starts,
     two_commands_are_answered_by_what_is_held,
 };
+pub use remains::{remains_are_flushed, remains_are_listed};

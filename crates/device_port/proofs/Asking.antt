@@ -1,13 +1,13 @@
 -- What a transmission of a command of the broker's own leaves, and what its response tells.
-use Rattle.std.proofs.Common.{◌≡◌, ◌+◌, ℕ, Bool, true, false, List, drop, refl, ap, subst, sym, ◌∙◌}
+use Rattle.std.proofs.Common.{◌≡◌, ◌+◌, ℕ, Bool, true, false, List, ◌∷◌, drop, refl, ap, subst, sym, ◌∙◌}
 use Rattle.std.specs.Prelude.{◌==◌, ◌||◌, ◌&&◌, not, Option, Some, None, IfSome, Result, Ok, Err, is_ok, is_err, if◌then◌else◌}
 use Rattle.std.proofs.lemmas.Bool.{eqb-true}
 use Rattle.tab_spec.specs.declared.TheConstants.{CC_STARTUP, CC_START_AUTH_SESSION, CC_CONTEXT_SAVE, RC_INITIALIZE, RC_SUCCESS, ST_SESSIONS, HEADER_BYTES}
 use Rattle.tab_spec.specs.Frame.{code_of, is_frame, reported_code, tag_of}
 use Rattle.tab_spec.specs.Commands.{row_of}
-use Rattle.device_spec.specs.Answers.{IsWrongAnswer, answer_area, fits_handle, has_response_handle, is_context, is_whole, is_word, word_at, is_error_form, is_own, is_success_form, may_refuse, takes, wrong}
+use Rattle.device_spec.specs.Answers.{IsWrongAnswer, answer_area, fits_handle, has_response_handle, is_context, is_whole, is_word, word_at, is_error_form, is_own, is_success_form, lists_handles, may_refuse, takes, wrong}
 use Rattle.device_spec.specs.Slots.{SlotState, slot_step}
-use Rattle.device_port.specs.Device.{Answered}
+use Rattle.device_port.specs.Device.{Answered, Transmission, newest_response}
 use Rattle.device_port.specs.Own.{IsAnswered, IsOwn, Succeeds}
 
 -- ---- whether a response is taken
@@ -27,7 +27,8 @@ takes_either asked last none =
     ap (λ (fits : ℕ → Bool).
     is_frame last
     && (if code_of last == RC_SUCCESS then
-    tag_of last == tag_of asked
+    lists_handles asked last
+    && tag_of last == tag_of asked
     && (not has_handle || is_word fits (word_at HEADER_BYTES last))
     && (not (tag_of asked == ST_SESSIONS) || is_whole (answer_area (drop (if has_handle then HEADER_BYTES + 4 else HEADER_BYTES) last)))
     && (not (code_of asked == CC_CONTEXT_SAVE) || is_context asked (drop HEADER_BYTES last))
@@ -64,6 +65,12 @@ pub none_of : {E : Type 0} (sent : Result (Unit {0}) E) (last : Option (List ℕ
     → is_err sent ≡ true → last ≡ None
 none_of (Ok x) last reply is failed = absurd cc
 none_of (Err e) last reply is failed = is
+
+-- the newest transmission, by the last response
+pub sent_as : (command : List ℕ) (response : Option (List ℕ)) (trace old : List Transmission) → trace ≡ record { command = command; response = response } ∷ old
+    → trace ≡ record { command = command; response = newest_response trace } ∷ old
+sent_as command response trace old is =
+    is ∙ ap (λ (last : Option (List ℕ)). record { command = command; response = last } ∷ old) (sym (ap newest_response is))
 
 pub wrong_answer : (command asked : List ℕ) (last : Option (List ℕ)) (reply : List ℕ) (code : ℕ) → asked ≡ command → last ≡ Some reply
     → takes true true command reply ≡ false → code ≡ reported_code reply → IsWrongAnswer asked last code

@@ -1,3 +1,4 @@
-mod Asking
+pub mod Asking
 mod Counting
 pub mod Sending
+pub mod Listing

@@ -12,7 +12,7 @@ use Rattle.device_port.specs.declared.own.SwapError.TheVariants as errors
 pub none_sent : {D : Type 0} (seen : D → Seen) (device : D) → SendsOwn seen device device
 none_sent seen device = record { sent = []; trace_is = refl; own = tt }
 
-are_own : (later earlier : List Transmission) → AllByRecursion (λ one. IsOwn one.command) later → AllByRecursion (λ one. IsOwn one.command) earlier
+pub are_own : (later earlier : List Transmission) → AllByRecursion (λ one. IsOwn one.command) later → AllByRecursion (λ one. IsOwn one.command) earlier
     → AllByRecursion (λ one. IsOwn one.command) (later ++ earlier)
 are_own [] earlier none own = own
 are_own (one ∷ later) earlier both own = (both.0, are_own later earlier both.1 own)
@@ -85,6 +85,7 @@ pub asks_ok : {D A B : Type 0} (seen : D → Seen) (old new : D) (command : List
 asks_ok seen old new command x y asks = record {
   asked = asks.asked;
   once = asks.once;
+  one = asks.one;
   own = asks.own;
   answered = asks.answered;
   err = tt;
@@ -100,6 +101,7 @@ asks_failed {A = A} seen old new command e result (f, is, same) asks =
     subst (λ (r : Result _ SwapError). Asks seen old new command r) (sym is) (record {
       asked = failed.asked;
       once = failed.once;
+      one = failed.one;
       own = failed.own;
       answered = tt;
       err = failed.err;

@@ -1,5 +1,5 @@
 -- Commands of the broker's own: what they are, what answers them, and why a call over the device failed.
-use Rattle.std.specs.Prelude.{◌≡◌, ◌≤◌, ◌⊎◌, ◌==◌, ◌++◌, ℕ, true, false, List, Option, None, IsSomeAnd, Result, OnOk, OnErr, IfErr}
+use Rattle.std.specs.Prelude.{◌≡◌, ◌≤◌, ◌⊎◌, ◌==◌, ◌∷◌, ◌++◌, ℕ, true, false, List, Option, None, IsSomeAnd, Result, OnOk, OnErr, IfErr}
 use Rattle.std.specs.List.{AllByRecursion}
 use Rattle.tab_spec.specs.declared.TheConstants.{CC_STARTUP, CC_START_AUTH_SESSION, RC_SUCCESS}
 use Rattle.tab_spec.specs.Count.{Rose, one_more}
@@ -41,6 +41,7 @@ pub record SendsOwn {D : Type 0} (seen : D → Seen) (old new : D) : Type 0 wher
 pub record Asks {D A : Type 0} (seen : D → Seen) (old new : D) (command : List ℕ) (result : Result A SwapError) : Type 0 where
   pub asked : asked_of (seen new) ≡ command
   pub once : sent_of (seen new) ≡ one_more (sent_of (seen old))
+  pub one : (seen new).trace ≡ record { command = command; response = last_of (seen new) } ∷ (seen old).trace
   pub own : SendsOwn seen old new
   pub answered : OnOk result (IsAnswered (asked_of (seen new)) (last_of (seen new)))
   pub err : OnErr result ((seen new).state ≡ (seen old).state)

@@ -1,7 +1,9 @@
 //! Which responses a broker takes as the answer to a command that it sent.
 
-ghost use Rattle.std.specs.Prelude.{◌==◌, ◌||◌, not, if◌then◌else◌, ◌≡◌, ◌≤◌, drop, IsTrue, true};
+ghost use Rattle.std.specs.Prelude.{◌==◌, ◌||◌, ◌+◌, ◌*◌, not, if◌then◌else◌, ◌≡◌, ◌≤◌, drop, IsTrue};
+ghost use Rattle.std.specs.Prelude.{true, length};
 ghost use Rattle.std.specs.Prelude.{false, Ok, Err, MatchResult, MatchOption};
+ghost use Rattle.std.specs.List.{list_all};
 ghost use Rattle.tab_spec.specs.declared.TheConstants.{CC_CONTEXT_SAVE, ST_SESSIONS};
 ghost use Rattle.tab_spec.specs.Frame.{code_of, is_frame, tag_of};
 ghost use Rattle.tab_spec.specs.Commands.{row_of};
@@ -45,8 +47,8 @@ pub fn takes(asked: &[u8], last: &[u8], is_kept: bool, is_taken: bool) -> bool
 
 // ---- what was asked
 
-// The UINT32 at a place, where it is whole.
-fn word_at(bytes: &[u8], at: usize) -> Option<u32>
+/// The UINT32 at a place, where it is whole.
+pub fn word_at(bytes: &[u8], at: usize) -> Option<u32>
     requires { at ≤ 4096 }
     ensures { result ≡ answers.word_at at bytes.now }
 {
@@ -58,6 +60,12 @@ fn word_at(bytes: &[u8], at: usize) -> Option<u32>
 
 // Where savedHandle stands in ContextLoad (Part 2, "TPMS_CONTEXT").
 const SAVED_HANDLE_PLACE: usize = HEADER_BYTES as usize + 8;
+
+// Where the count of a list of handles stands in a response, behind moreData and the capability, and
+// where the first handle does.
+const COUNT_PLACE: usize = HEADER_BYTES as usize + 5;
+
+const LIST_PLACE: usize = HEADER_BYTES as usize + 9;
 
 // Whether it is a ContextLoad of a session.
 fn loads_session(asked: &[u8]) -> bool
@@ -355,6 +363,84 @@ fn is_saved(asked: &[u8], last: &[u8]) -> bool
     is_context(asked, after(last, HEADER_BYTES as usize))
 }
 
+// Whether GetCapability asks for handles of objects or of sessions.
+fn asks_of_handles_alone(asked: &[u8]) -> bool
+    requires { IsTrue (is_frame asked.now) }
+    ensures { result ≡ answers.asks_of_handles asked.now }
+{
+    if code_of(asked) != CC_GET_CAPABILITY {
+        return false;
+    }
+    if word_at(asked, HEADER_BYTES as usize) != Some(1) {
+        return false;
+    }
+    asks_of_handles(asked)
+}
+
+// Whether a handle may stand in the list of those from this one on.
+fn may_be_listed(property: u32, handle: u32) -> bool
+    ensures { result ≡ answers.may_be_listed property handle }
+{
+    if octet_of(property) == HT_TRANSIENT {
+        return octet_of(handle) == HT_TRANSIENT;
+    }
+    is_session_handle(handle)
+}
+
+// Whether each handle of a response that counts so many may.
+fn may_all_be_listed(property: u32, last: &[u8], count: usize) -> bool
+    requires whole { length last.now ≡ 19 + 4 * count }
+    requires few { length last.now ≤ 4096 }
+    ensures { result ≡ list_all (answers.may_be_listed property)
+        (answers.handles_from count (drop 19 last.now)) }
+{
+    for place in 0..count {
+        let Some(handle) = word_at(last, LIST_PLACE + 4 * place) else {
+            return false;
+        };
+        if !may_be_listed(property, handle) {
+            return false;
+        }
+    }
+    true
+}
+
+// Whether a response is the whole list of handles from this one on (Part 2,
+// "TPMS_CAPABILITY_DATA").
+fn is_list_from(last: &[u8], property: u32) -> bool
+    requires { IsTrue (is_frame last.now) }
+    ensures { result ≡ answers.is_list_from last.now property }
+{
+    let Some(count) = word_at(last, COUNT_PLACE) else {
+        return false;
+    };
+    if last[HEADER_BYTES as usize] != 0 {
+        return false;
+    }
+    if word_at(last, HEADER_BYTES as usize + 1) != Some(1) {
+        return false;
+    }
+    if last.len() != LIST_PLACE + 4 * count as usize {
+        return false;
+    }
+    may_all_be_listed(property, last, count as usize)
+}
+
+// Whether the response is the list of handles that was asked for, where one was.
+fn lists_handles(asked: &[u8], last: &[u8]) -> bool
+    requires asked { IsTrue (is_frame asked.now) }
+    requires last { IsTrue (is_frame last.now) }
+    ensures { result ≡ answers.lists_handles asked.now last.now }
+{
+    if !asks_of_handles_alone(asked) {
+        return true;
+    }
+    match word_at(asked, HEADER_BYTES as usize + 4) {
+        None => false,
+        Some(property) => is_list_from(last, property),
+    }
+}
+
 // Whether a response has the form of a success.
 fn is_success_form(asked: &[u8], last: &[u8], is_taken: bool) -> bool
     requires asked { IsTrue (is_frame asked.now) }
@@ -362,7 +448,8 @@ fn is_success_form(asked: &[u8], last: &[u8], is_taken: bool) -> bool
     ensures { result ≡ answers.is_success_form is_taken asked.now last.now }
 {
     let named = has_response_handle(code_of(asked));
-    tag_of(last) == tag_of(asked)
+    lists_handles(asked, last)
+        && tag_of(last) == tag_of(asked)
         && is_handled(named, asked, last, is_taken)
         && is_authorized(named, asked, last)
         && is_saved(asked, last)

@@ -8,7 +8,7 @@ mod numbers;
 mod own;
 mod trace;
 
-pub use answers::takes;
+pub use answers::{takes, word_at};
 pub use device::{Device, DeviceFailed};
 pub use numbers::{Numbers, profile_numbers};
 pub use own::{SwapError, ask, command_of, handle_of};

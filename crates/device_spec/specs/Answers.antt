@@ -1,7 +1,7 @@
 -- Which responses a broker takes as the answer to a command that it sent, and which are wrong answers. What a response
 -- looks like is the standard's (Part 1, "Command/Response Structure"); which ones are taken is this project's own.
-use Rattle.std.specs.Prelude.{◌≡◌, ℕ, ◌+◌, ◌==◌, ◌||◌, ◌&&◌, not, nat_lt, nat_le, Bool, true, false, List, [], ◌∷◌, length, take, drop, Option, Some, None, Ok, Err, if◌then◌else◌}
-use Rattle.std.specs.List.{list_any}
+use Rattle.std.specs.Prelude.{◌≡◌, ℕ, zero, suc, ◌+◌, ◌*◌, ◌==◌, ◌||◌, ◌&&◌, not, nat_lt, nat_le, Bool, true, false, List, [], ◌∷◌, length, get_or, take, drop, Option, Some, None, Ok, Err, if◌then◌else◌}
+use Rattle.std.specs.List.{list_all, list_any}
 use Rattle.std.specs.Int.{w32, from_be_bytes}
 use Rattle.tab_spec.specs.declared.CommandRow.{CommandRow}
 use Rattle.tab_spec.specs.declared.TheConstants.{HEADER_BYTES, ST_NO_SESSIONS, ST_SESSIONS, CC_STARTUP, CC_CONTEXT_LOAD, CC_CONTEXT_SAVE, CC_FLUSH_CONTEXT, CC_GET_CAPABILITY, CC_START_AUTH_SESSION, HT_TRANSIENT, TRANSIENT_FIRST, ACTIVE_SESSIONS, RC_SUCCESS, RC_INITIALIZE, RC_INSUFFICIENT, RC_CANCELED, RC_CONTEXT_GAP, RC_OBJECT_MEMORY, RC_SESSION_MEMORY, RC_REFERENCE_H0, RC_REFERENCE_S0, RC_MEMORY, RC_DEVICE_FAULT, RC_JOURNAL_FULL, RC_DEVICE_ANSWER}
@@ -128,12 +128,54 @@ is_context_of handle context (Ok read) =
 abbrev pub is_context : List ℕ → List ℕ → Bool
 is_context asked context = is_word (λ handle. is_context_of handle context (context_of context)) (word_at HEADER_BYTES asked)
 
--- the command's tag, a handle where there has to be one, an authorization where the command has one, and the context that was
--- asked for
+-- ---- lists of handles (Part 2, "TPMS_CAPABILITY_DATA")
+
+-- whether GetCapability asks for handles of objects or of sessions
+abbrev pub asks_of_handles : List ℕ → Bool
+asks_of_handles asked =
+    code_of asked == CC_GET_CAPABILITY && is_word (λ capability. capability == 1) (word_at HEADER_BYTES asked)
+    && is_word is_of_tables (word_at (HEADER_BYTES + 4) asked)
+
+-- so many handles, one behind the other
+abbrev pub handles_from : ℕ → List ℕ → List ℕ
+handles_from zero bytes = []
+handles_from (suc count) bytes = from_be_bytes w32 (take 4 bytes) ∷ handles_from count (drop 4 bytes)
+
+-- what moreData, the capability, the count of the handles and the first of them stand behind, in a response
+abbrev pub count_place : ℕ
+count_place = HEADER_BYTES + 5
+
+abbrev pub list_place : ℕ
+list_place = HEADER_BYTES + 9
+
+-- the handles of a list, as many as it counts
+abbrev pub listed_handles : List ℕ → List ℕ
+listed_handles last = handles_from (from_be_bytes w32 (take 4 (drop count_place last))) (drop list_place last)
+
+-- whether a handle may stand in the list of those from this one on: with objects no session, and the other way round
+abbrev pub may_be_listed : ℕ → ℕ → Bool
+may_be_listed property handle = if octet_of property == HT_TRANSIENT then octet_of handle == HT_TRANSIENT else is_session_handle handle
+
+-- whether a response is the whole list of the handles from this one on: none is left over, and those that it counts fill it
+abbrev pub is_list_from : List ℕ → ℕ → Bool
+is_list_from last property =
+    get_or last HEADER_BYTES 1 == 0 && is_word (λ capability. capability == 1) (word_at (HEADER_BYTES + 1) last)
+    && is_word (λ count. length last == list_place + 4 * count) (word_at count_place last)
+    && list_all (may_be_listed property) (listed_handles last)
+
+-- whether the response is the list of handles that was asked for, where one was
+abbrev pub lists_handles : List ℕ → List ℕ → Bool
+lists_handles asked last = not (asks_of_handles asked) || is_word (is_list_from last) (word_at (HEADER_BYTES + 4) asked)
+
+-- ---- the whole success
+
+-- the list of handles that was asked for, the command's tag, a handle where there has to be one, an authorization where the
+-- command has one, and the context that was asked for
 abbrev pub is_success_form : Bool → List ℕ → List ℕ → Bool
 is_success_form is_taken asked last =
     let has_handle = has_response_handle (row_of (code_of asked)) in
-    tag_of last == tag_of asked
+    lists_handles asked last
+    && tag_of last == tag_of asked
     && (not has_handle || is_word (fits_handle is_taken asked) (word_at HEADER_BYTES last))
     && (not (tag_of asked == ST_SESSIONS) || is_whole (answer_area (drop (if has_handle then HEADER_BYTES + 4 else HEADER_BYTES) last)))
     && (not (code_of asked == CC_CONTEXT_SAVE) || is_context asked (drop HEADER_BYTES last))

@@ -9,6 +9,7 @@ use Rattle.tab_spec.specs.declared.Shape.{Shape}
 use Rattle.tab_spec.specs.declared.TheConstants.{CC_CONTEXT_LOAD, CC_GET_CAPABILITY, CC_POLICY_SECRET, CC_START_AUTH_SESSION, RH_NULL, RH_OWNER}
 use Rattle.tab_spec.specs.Commands.{command_row}
 use Rattle.tab_spec.specs.Session.{Session}
+use Rattle.effect_spec.specs.Capabilities.{joined_items}
 use Rattle.effect_spec.specs.Contexts.{Context}
 use Rattle.effect_spec.specs.Operands.{Operand, operand_by, plain, operand_at, object_in, session_named}
 use Rattle.tab_spec.specs.NvIndex.{NvIndex}
@@ -16,7 +17,7 @@ use Rattle.tab_spec.specs.Object.{Object}
 use Rattle.tab_spec.specs.Persist.{Persist, fresh_persist}
 use Rattle.device_spec.specs.Slots.{SessionPlace, inactive, loaded, saved, SlotState, Step, in_slot, loaded_session, new_slots, room_for, session_at, session_loaded, sessions_left}
 use Rattle.device_spec.specs.Answers.{takes}
-use Rattle.tab_spec.specs.Examples.{bytes_of, extended_persist, frame, policy_session, save, u32, with_indexes}
+use Rattle.tab_spec.specs.Examples.{bytes_of, extended_persist, frame, policy_session, save, sealed, u32, with_indexes}
 use Rattle.tab_spec.specs.SessionExamples.{hmac_session, next_32, session_auth}
 use Rattle.effect_spec.specs.SessionExamples.{read_by_session, start_parameter_bytes, unsealed_by_policy, usual_start_parameters}
 
@@ -247,6 +248,15 @@ handles_taken asked handles = filter (λ handle. takes false false asked (frame 
 -- and of these handles those that it takes of a session that started
 abbrev pub starts_taken : ℕ → List ℕ → List ℕ
 starts_taken kind handles = filter (λ handle. takes false false (start_session kind) (start_reply handle next_32)) handles
+
+-- whether it takes a list of these handles, where those from this one on were asked for
+abbrev pub lists_taken : ℕ → List ℕ → Bool
+lists_taken property handles =
+    takes true true (ask 1 property 254) (answer 0 1 (u32 (length handles) ++ joined_items (map (λ handle. u32 handle) handles)))
+
+-- objects in the first and the last slot, and a loaded session of each type and a saved one
+abbrev pub left_behind : SlotState
+left_behind = record three_sessions { slots = Some sealed ∷ None ∷ Some sealed ∷ [] }
 
 -- whether it takes a context as that of a handle
 abbrev pub saves : ℕ → List ℕ → Bool

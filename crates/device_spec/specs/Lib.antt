@@ -1,4 +1,5 @@
 pub mod Slots
 pub mod Answers
 pub mod ContextCommands
+pub mod Remains
 pub mod Examples

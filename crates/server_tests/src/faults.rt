@@ -193,25 +193,28 @@ fn an_output_has_too_little_room(rt: HostRuntime) -> Result<(), Fail> {
 #[test]
 fn a_device_fails_once(rt: HostRuntime) -> Result<(), Fail> {
     let first = Ends {
-        transmission: 1,
+        transmission: 4,
         ..WELL
     };
     let outcome = over(&rt, rt.alloc(), AUDITED, SCRIPT, first)?;
     assert!(rt; outcome.ended((0, 0), WITH_FAULT, 1000) && outcome.has_kinds(FAULT));
-    assert_eq!(rt; outcome.sent, 3);
+    assert_eq!(rt; outcome.sent, 6);
     Ok(())
 }
 
 #[test]
 fn a_device_fails_at_its_start(rt: HostRuntime) -> Result<(), Fail> {
-    let start = Ends {
-        transmission: 0,
-        ..WELL
-    };
-    for words in [RUN, AUDITED, WORKLOAD] {
-        let outcome = over(&rt, rt.alloc(), words, SCRIPT, start)?;
-        assert!(rt; outcome.ended((6, 1), b"", 1000) && outcome.journal.is_none());
-        assert_eq!(rt; outcome.sent, 1);
+    // Startup, and each of the three lists
+    for transmission in 0..4u64 {
+        let start = Ends {
+            transmission,
+            ..WELL
+        };
+        for words in [RUN, AUDITED, WORKLOAD] {
+            let outcome = over(&rt, rt.alloc(), words, SCRIPT, start)?;
+            assert!(rt; outcome.ended((6, 1), b"", 1000) && outcome.journal.is_none());
+            assert_eq!(rt; outcome.sent, transmission + 1);
+        }
     }
     Ok(())
 }

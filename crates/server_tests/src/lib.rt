@@ -11,6 +11,8 @@ mod faults;
 #[cfg(test)]
 mod mute;
 #[cfg(test)]
+mod remains;
+#[cfg(test)]
 mod runs;
 #[cfg(test)]
 mod sent;

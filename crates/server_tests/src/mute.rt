@@ -34,7 +34,13 @@ const ANSWERED_TEXT: &[u8] = b"0 80010000000a00000101\n\
     0 2 command - 0 80010000000c0000017b0008 80010000000a00000101\n\
     0 0 close - 0 - -\n";
 
-// A device that tells nothing. It answers Startup, and then each command with the same response.
+// The list of no handles.
+const NO_HANDLES: [u8; 19] = [
+    0x80, 0x01, 0, 0, 0, 19, 0, 0, 0, 0, 0, 0, 0, 0, 1, 0, 0, 0, 0,
+];
+
+// A device that tells nothing. It answers Startup, holds nothing, and then answers each command with
+// the same response.
 #[derive(Drop)]
 pub(crate) struct Mute {
     startup: Buffer,
@@ -63,10 +69,10 @@ impl Device for Mute {
     ghost told_together = { λ _. refl };
 
     fn transmit(&mut self, command: &[u8], reply: &mut Buffer) -> Result<(), DeviceFailed> {
-        if self.trace.sent() == 0 {
-            respond(self.startup.as_slice(), reply);
-        } else {
-            respond(self.later.as_slice(), reply);
+        match self.trace.sent() {
+            0 => respond(self.startup.as_slice(), reply),
+            1..=3 => respond(&NO_HANDLES, reply),
+            _ => respond(self.later.as_slice(), reply),
         }
         self.trace.answered(command, reply.as_slice());
         Ok(())
@@ -85,7 +91,7 @@ impl Device for Mute {
     }
 }
 
-// A device that tells nothing, with these responses to Startup and to each later command.
+// A device that tells nothing, with these responses to Startup and to each command behind the lists.
 pub(crate) fn mute_device(alloc: Global, startup: &[u8], later: &[u8]) -> Result<Mute, Fail> {
     let mut device = Mute {
         startup: Buffer::new(alloc)?,
@@ -119,14 +125,14 @@ fn a_device_that_tells_nothing(rt: HostRuntime) -> Result<(), Fail> {
     // the words, the script, each later response, the status and the detail, what is written, and
     // how many commands are sent
     let cases: [(&[&str], &[u8], &[u8], (u8, u64), &[u8], u64); 10] = [
-        (AUDITED, SCRIPT, &[], (7, 0), REFUSED_TEXT, 2),
+        (AUDITED, SCRIPT, &[], (7, 0), REFUSED_TEXT, 5),
         (
             AUDITED,
             SCRIPT,
             &[0x80, 0x01, 0, 0, 0, 9, 0, 0, 1],
             (7, 0),
             REFUSED_TEXT,
-            2,
+            5,
         ),
         (
             AUDITED,
@@ -134,7 +140,7 @@ fn a_device_that_tells_nothing(rt: HostRuntime) -> Result<(), Fail> {
             &[0x80, 0x01, 0, 0, 0, 11, 0, 0, 0x01, 0x23],
             (7, 0x123),
             REFUSED_TEXT,
-            2,
+            5,
         ),
         (
             AUDITED,
@@ -142,7 +148,7 @@ fn a_device_that_tells_nothing(rt: HostRuntime) -> Result<(), Fail> {
             &[0x80, 0x01, 0, 0, 0, 10, 0xFE, 0xDC, 0xBA, 0x98, 0],
             (7, 0xFEDC_BA98),
             REFUSED_TEXT,
-            2,
+            5,
         ),
         (
             AUDITED,
@@ -150,16 +156,16 @@ fn a_device_that_tells_nothing(rt: HostRuntime) -> Result<(), Fail> {
             &[0x80, 0x01, 0, 0, 0, 10, 0, 0, 0x01, 0x01],
             (0, 0),
             ANSWERED_TEXT,
-            3,
+            6,
         ),
         // what tells of an early start is a wrong answer to a later command
-        (AUDITED, SCRIPT, STARTED_BEFORE, (7, 0x100), REFUSED_TEXT, 2),
+        (AUDITED, SCRIPT, STARTED_BEFORE, (7, 0x100), REFUSED_TEXT, 5),
         // no command of a piece is run behind one that was answered wrongly
-        (AUDITED, PIECE, &[], (7, 0), REFUSED_TEXT, 2),
-        (RUN, SCRIPT, &[], (7, 0), REFUSED, 2),
-        (RUN, PIECE, &[], (7, 0), REFUSED, 2),
+        (AUDITED, PIECE, &[], (7, 0), REFUSED_TEXT, 5),
+        (RUN, SCRIPT, &[], (7, 0), REFUSED, 5),
+        (RUN, PIECE, &[], (7, 0), REFUSED, 5),
         // a workload that stops tells nothing
-        (WORKLOAD, b"bad\n", &[], (7, 0), b"", 2),
+        (WORKLOAD, b"bad\n", &[], (7, 0), b"", 5),
     ];
     for (words, script, later, told, written, sent) in cases {
         let outcome = over(&rt, rt.alloc(), words, script, STARTED_BEFORE, later)?;

@@ -1,5 +1,5 @@
-//! How many commands the device is sent for those of clients: Startup and the closes at the end are
-//! among them.
+//! How many commands the device is sent for those of clients: the four of the start and the closes at
+//! the end are among them.
 use crate::faults::{WELL, over};
 use crate::runs::RUN;
 use std::test::Fail;
@@ -61,12 +61,12 @@ const CLOSED_SESSION: &[u8] = b"\
 #[test]
 fn commands_are_sent_once(rt: HostRuntime) -> Result<(), Fail> {
     let cases: [(&[u8], u64); 6] = [
-        (STARTUPS, 1),
-        (OWN_SESSION, 4),
-        (POLICY, 9),
-        (FOUR_SESSIONS, 23),
-        (ENDED_SESSION, 5),
-        (CLOSED_SESSION, 5),
+        (STARTUPS, 4),
+        (OWN_SESSION, 7),
+        (POLICY, 12),
+        (FOUR_SESSIONS, 26),
+        (ENDED_SESSION, 8),
+        (CLOSED_SESSION, 8),
     ];
     for (script, sent) in cases {
         let outcome = over(&rt, rt.alloc(), RUN, script, WELL)?;

@@ -197,9 +197,9 @@ fn connections_are_served(rt: HostRuntime) -> Result<(), Fail> {
         (2, "2", (NEVER, NEVER), 9, (4, 1), BOTH_SERVED, &[1, 2]),
         (2, "2", (NEVER, 0), 9, (3, 1), NONE_SERVED, &[]),
         // the device fails at the only command
-        (1, "1", (1, NEVER), 1000, (0, 0), ONE_FAILED, &[1]),
+        (1, "1", (4, NEVER), 1000, (0, 0), ONE_FAILED, &[1]),
         // the device fails at its start: nobody is accepted, and nothing is written
-        (2, "2", (0, NEVER), 1000, (6, 1), b"", &[]),
+        (2, "2", (3, NEVER), 1000, (6, 1), b"", &[]),
         // where more are asked for nothing is kept of them
         (
             2,

@@ -294,7 +294,7 @@ impl Sessions {
     }
 
     /// Leaves a session to nobody: its client is closed, and its flush failed.
-    pub fn disown(&mut self, handle: u32)
+    pub fn orphan_session(&mut self, handle: u32)
         requires { Names self.old.items handle }
         ensures { self.new ≡ record self.old {
           items = set self.old.items (number_of_session handle)

@@ -1,8 +1,8 @@
 -- What a run leaves: how its status, its journal and its output stand to what there was before it.
-use Rattle.std.specs.Prelude.{◌≡◌, ◌≤◌, ◌⊎◌, ℕ, Bool, false, true, IsTrue, List, [], Option, None, Some, IfSome, IsSome, IsSomeAnd, MatchOption}
+use Rattle.std.specs.Prelude.{◌≡◌, ◌≤◌, ◌⊎◌, ℕ, Bool, false, true, IsTrue, List, [], Option, None, Some, IfSome, IsSome, IsSomeAnd}
 use Rattle.tab_spec.specs.Persist.{Persist}
 use Rattle.tab_spec.specs.Count.{Rose}
-use Rattle.device_spec.specs.Slots.{SlotState, IsSlots, HoldsNothing, held}
+use Rattle.device_spec.specs.Slots.{SlotState, IsSlots, held}
 use Rattle.device_spec.specs.Answers.{IsRight, IsWrongAnswer, wrong}
 use Rattle.history_spec.specs.Entry.{Entry}
 use Rattle.history_spec.specs.AuditText.{audit_text}
@@ -144,7 +144,7 @@ pub record IsSound (before : Before) (after : After) (status : ℕ) (journal : O
   -- The device keeps its base.
   pub base : after.seen.base ≡ before.base
   -- The device holds no more in the end than its failures left: nothing, where it never failed.
-  pub held : MatchOption journal (IfSome after.seen.state HoldsNothing) (λ history. IfSome after.seen.state (λ slots. FaultsCounted before.faults.device after.seen.faults history (held slots)))
+  pub held : IfSome journal (λ history. IfSome after.seen.state (λ slots. FaultsCounted before.faults.device after.seen.faults history (held slots)))
 
 -- what a run of words that aren't refused leaves, with a journal where the broker began
 pub record Leaves (limit : ℕ) (audit : Bool) (before : Before) (after : After) (status detail : ℕ) (journal : Option (List Entry)) : Type 0 where

@@ -17,6 +17,7 @@ pub use accept_loop::LinkDone;
 pub use connection_core::Ending;
 pub use link_pool::{Service, Services};
 pub use path_text::{PATH_MOST, PathText};
+pub use played_broker::PlayedBroker;
 pub use script::{Played, play};
 pub use server::{Ran, tabrmd};
 pub use words::{

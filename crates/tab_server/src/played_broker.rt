@@ -8,8 +8,9 @@ use device_port::Device;
 use script_player::Runs;
 use tab_bytes::Buffer;
 
-// A broker whose device's fault count didn't fall since the start.
-pub(crate) struct PlayedBroker<D: Device> {
+/// A broker as a script is played over it: its device's fault count didn't fall since the start.
+pub struct PlayedBroker<D: Device> {
+    /// The broker.
     pub broker: Broker<D>,
     ghost counted: { broker.began ≤ (D.seen broker.device).faults },
 }

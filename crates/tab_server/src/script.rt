@@ -6,6 +6,7 @@ ghost use Rattle.history_spec.specs.AuditText.{audit_text};
 ghost use Rattle.history_spec.specs.Entry.{IsLimit};
 ghost use Rattle.script_spec.specs.Summary.{HaveBytes, Reply, reply_lines, summary_line};
 ghost use Rattle.broker_core.specs.Broker.{IsAtBase};
+ghost use Rattle.device_start.specs.Start.{HoldsNoMoreIf};
 ghost use Rattle.tab_server.specs.Status.{IsOfStart, status_of, detail_of};
 ghost use Rattle.tab_server.specs.Run.{Begins, Leaves, after, after_of, before, before_of};
 ghost use Rattle.tab_server.specs.Endings.{StandsToEnd, WroteBehind, is_end};
@@ -74,7 +75,7 @@ pub(crate) fn begin_broker<D: Device>(
         played.status played.detail None) }
     ensures none { IfErr result (λ played. (played.journal ≡ None) × IsOfStart played.status
         × (played.status ≡ NO_MEMORY → played.device ≡ device)
-        × ((D.seen played.device).state ≡ (D.seen device).state)) }
+        × HoldsNoMoreIf (D.seen device).state (D.seen played.device).state) }
 {
     match Broker::begin(alloc, device, limit) {
         Ok(broker) => Ok(broker),
@@ -100,7 +101,7 @@ fn begin<D: Device>(alloc: Global, limit: u64, device: D) -> Result<(Room, Broke
         played.status played.detail None) }
     ensures none { IfErr result (λ played. (played.journal ≡ None) × IsOfStart played.status
         × (played.status ≡ NO_MEMORY → played.device ≡ device)
-        × ((D.seen played.device).state ≡ (D.seen device).state)) }
+        × HoldsNoMoreIf (D.seen device).state (D.seen played.device).state) }
 {
     let Ok(room) = Room::new(alloc) else {
         return Err(unplayed(NO_MEMORY, 0, device));
@@ -208,7 +209,7 @@ fn play_input<D: Device, I: Source, O: Sink>(
         result.status result.detail (option_map (λ journal. journal.entries) result.journal) }
     ensures none { IfNone result.journal
         (IsOfStart result.status × (result.status ≡ NO_MEMORY → result.device ≡ device)
-        × ((D.seen result.device).state ≡ (D.seen device).state) × (input.new ≡ input.old)
+        × HoldsNoMoreIf (D.seen device).state (D.seen result.device).state × (input.new ≡ input.old)
         × (output.new ≡ output.old)) }
 {
     match begin(alloc, plan.limit, device) {
@@ -245,7 +246,7 @@ fn play_workload<D: Device, O: Sink>(
         result.status result.detail (option_map (λ journal. journal.entries) result.journal) }
     ensures none { IfNone result.journal
         (IsOfStart result.status × (result.status ≡ NO_MEMORY → result.device ≡ device)
-        × ((D.seen result.device).state ≡ (D.seen device).state) × (output.new ≡ output.old)) }
+        × HoldsNoMoreIf (D.seen device).state (D.seen result.device).state × (output.new ≡ output.old)) }
 {
     match begin(alloc, plan.limit, device) {
         Ok((room, broker)) => {
@@ -281,7 +282,7 @@ pub fn play<D: Device, I: Source, O: Sink>(
     input: &mut I,
     output: &mut O,
 ) -> Played<D>
-    // Nothing was loaded into the device before, and its history begins from what it keeps.
+    // The device's history begins from what it keeps.
     requires at_base { IsAtBase (D.seen device).base (D.seen device).state }
     // The plan is one that words may give.
     requires limit { IsLimit plan.now.limit }
@@ -294,10 +295,11 @@ pub fn play<D: Device, I: Source, O: Sink>(
         (before D.seen I.left I.faults O.written O.faults device input.old output.old)
         (after D.seen I.left I.faults O.written O.faults result.device input.new output.new)
         result.status result.detail (option_map (λ journal. journal.entries) result.journal) }
-    // Where the broker didn't begin there is no journal, and nothing was read or written.
+    // Where the broker didn't begin there is no journal, the device holds no more than it did, and
+    // nothing was read or written.
     ensures none { IfNone result.journal
         (IsOfStart result.status × (result.status ≡ 5 → result.device ≡ device)
-        × ((D.seen result.device).state ≡ (D.seen device).state) × (input.new ≡ input.old)
+        × HoldsNoMoreIf (D.seen device).state (D.seen result.device).state × (input.new ≡ input.old)
         × (output.new ≡ output.old)) }
 {
     match plan.job {

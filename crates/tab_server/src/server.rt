@@ -2,6 +2,7 @@ ghost use Rattle.std.specs.Prelude.{◌≡◌, ◌↔◌, ◌≤◌, ◌<◌, []
 ghost use Rattle.std.specs.Option.{option_map};
 ghost use Rattle.std.specs.String.{string_bytes};
 ghost use Rattle.broker_core.specs.Broker.{IsAtBase};
+ghost use Rattle.device_start.specs.Start.{HoldsNoMoreIf};
 ghost use Rattle.link_pool.specs.Services.{IsServed, client_of, given_of};
 ghost use Rattle.tab_server.specs.Status.{IsOfStart};
 ghost use Rattle.tab_server.specs.Done.{IsServe, LeavesPlan};
@@ -65,7 +66,7 @@ pub fn tabrmd<
     input: &mut I,
     output: &mut O,
 ) -> Ran<D, A>
-    // Nothing was loaded into the device before, and its history begins from what it keeps.
+    // The device's history begins from what it keeps.
     requires at_base { IsAtBase (D.seen device).base (D.seen device).state }
 
     // Words that aren't taken are refused, and nothing else happens.
@@ -132,11 +133,11 @@ pub fn tabrmd<
         (option_map (λ journal. journal.entries) result.journal) result.served.value) }
     ensures unread { IfSome (accepted (map string_bytes words.now))
         (λ plan. IsServe plan.job → input.new ≡ input.old) }
-    // Where the broker didn't begin there is no journal, nothing was read or written, and nobody
-    // was accepted.
+    // Where the broker didn't begin there is no journal, the device holds no more than it did, nothing
+    // was read or written, and nobody was accepted.
     ensures none { IfNone result.journal
         (IsOfStart result.status × (result.status ≡ 5 → result.device ≡ device)
-        × ((D.seen result.device).state ≡ (D.seen device).state) × (acceptor.new ≡ acceptor.old)
+        × HoldsNoMoreIf (D.seen device).state (D.seen result.device).state × (acceptor.new ≡ acceptor.old)
         × (input.new ≡ input.old) × (output.new ≡ output.old) × (result.links.items ≡ [])) }
 {
     let Ok(plan) = read_words(words) else {

@@ -9,6 +9,7 @@ ghost use Rattle.history_spec.specs.Entry.{IsLimit, clients_of};
 ghost use Rattle.link_port.specs.Port.{with_more};
 ghost use Rattle.audit_journal.specs.Text.{WroteFrontOf};
 ghost use Rattle.broker_core.specs.Broker.{IsAtBase};
+ghost use Rattle.device_start.specs.Start.{HoldsNoMoreIf};
 ghost use Rattle.link_pool.specs.Endings.{lacks_memory};
 ghost use Rattle.link_pool.specs.Services.{IsServed, client_of, given_of};
 ghost use Rattle.tab_server.specs.Status.{IsOfStart};
@@ -351,7 +352,7 @@ pub(crate) fn serve_plan<
     ensures taken { result.status ≡ REFUSED → ⊥ }
     ensures none { IfNone result.journal
         (IsOfStart result.status × (result.status ≡ NO_MEMORY → result.device ≡ device)
-        × ((D.seen result.device).state ≡ (D.seen device).state) × (acceptor.new ≡ acceptor.old)
+        × HoldsNoMoreIf (D.seen device).state (D.seen result.device).state × (acceptor.new ≡ acceptor.old)
         × (output.new ≡ output.old) × (result.links.items ≡ [])) }
 {
     match begin_broker(alloc, plan.limit, device) {

@@ -14,7 +14,7 @@ ghost use Rattle.device_spec.specs.Examples.{start_session, start_reply, first_c
 ghost use Rattle.device_spec.specs.Examples.{second_context, load_context, ask, answer};
 ghost use Rattle.device_spec.specs.Examples.{primary_asked, primary_params, primary_reply};
 ghost use Rattle.device_spec.specs.Examples.{password_response_auth, codes_taken, handles_taken};
-ghost use Rattle.device_spec.specs.Examples.{starts_taken, saves};
+ghost use Rattle.device_spec.specs.Examples.{lists_taken, starts_taken, saves};
 
 // A response is one frame of 10 to 4,096 bytes. A success has the tag of the command.
 fn frames_are_taken()
@@ -225,4 +225,31 @@ fn capabilities_have_errors()
     ensures cut { codes_taken false (take 17 (ask 1 0x80000000 1)) (0x2da ∷ 0x100 ∷ [])
         ≡ 0x2da ∷ [] }
     ensures told { takes true true (ask 1 0x80000000 1) (answer 0 1 (u32 0)) ≡ true }
+{}
+
+// A list of handles says that none is left over, counts them, and has no others behind them.
+// Objects stand in the list of objects, sessions of either type in the two others.
+fn handles_are_listed_whole()
+    ensures objects { lists_taken 0x80000000 (0x80000000 ∷ 0x80fffffe ∷ []) ≡ true }
+    ensures none { lists_taken 0x03000000 [] ≡ true }
+    ensures loaded { lists_taken 0x02000000 (0x02000000 ∷ 0x0300003f ∷ []) ≡ true }
+    ensures saved { lists_taken 0x03000000 (0x03000001 ∷ 0x02000040 ∷ []) ≡ true }
+    ensures session_as_object { lists_taken 0x80000000 (0x80000000 ∷ 0x02000000 ∷ []) ≡ false }
+    ensures object_as_session { lists_taken 0x02000000 (0x80000000 ∷ []) ≡ false }
+    ensures persistent { lists_taken 0x80000000 (0x81000000 ∷ []) ≡ false }
+    ensures more { takes true true (ask 1 0x80000000 254) (answer 1 1 (u32 0)) ≡ false }
+    ensures other_capability { takes true true (ask 1 0x80000000 254) (answer 0 6 (u32 0))
+        ≡ false }
+    ensures one_too_few { takes true true (ask 1 0x80000000 254) (answer 0 1 (u32 1)) ≡ false }
+    ensures one_too_many { takes true true
+        (ask 1 0x80000000 254) (answer 0 1 (u32 0 ++ u32 0x80000000))
+        ≡ false }
+    ensures a_byte_more { takes true true (ask 1 0x80000000 254) (answer 0 1 (u32 0 ++ 0 ∷ []))
+        ≡ false }
+    ensures no_count { takes true true (ask 1 0x80000000 254) (answer 0 1 (0 ∷ 0 ∷ 0 ∷ []))
+        ≡ false }
+    ensures nothing { takes true true (ask 1 0x80000000 254) (refusal 0 0) ≡ false }
+    ensures any_count { takes true true (ask 1 0x03000000 1) (answer 1 1 (u32 1 ++ u32 0x03000000))
+        ≡ false }
+    ensures of_others { takes true true (ask 1 0x01000000 1) (answer 1 1 (u32 9)) ≡ true }
 {}

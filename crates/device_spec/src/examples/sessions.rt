@@ -11,6 +11,8 @@ ghost use Rattle.device_spec.specs.Slots.{inactive, loaded, saved, slot_step, ro
 ghost use Rattle.device_spec.specs.Slots.{loaded_count, active_count, held, no_sessions};
 ghost use Rattle.device_spec.specs.Slots.{slot_operands, oldest_saved, gap_of, context_save};
 ghost use Rattle.device_spec.specs.Slots.{session_loaded, session_at};
+ghost use Rattle.device_spec.specs.Answers.{listed_handles};
+ghost use Rattle.device_spec.specs.Remains.{emptied, handles_command, remains};
 ghost use Rattle.tab_spec.specs.Examples.{u32, bytes_of, frame, refusal, flush, save, sealed};
 ghost use Rattle.tab_spec.specs.SessionExamples.{hmac_session, next_32};
 ghost use Rattle.effect_spec.specs.SessionExamples.{usual_start_parameters, start_parameter_bytes};
@@ -23,7 +25,7 @@ ghost use Rattle.device_spec.specs.Examples.{saved_from_5, start_session, start_
 ghost use Rattle.device_spec.specs.Examples.{first_context, second_context, load_context};
 ghost use Rattle.device_spec.specs.Examples.{context_under, load_under, found, ask, answer};
 ghost use Rattle.device_spec.specs.Examples.{secret_shape, secret_auths, later_session, later_in};
-ghost use Rattle.device_spec.specs.Examples.{left_by, reading_device, unsealing_device};
+ghost use Rattle.device_spec.specs.Examples.{left_behind, left_by, reading_device, unsealing_device};
 
 // A session gets the least unused number, and a nonceTPM from the random stream.
 #[tactic(auto, unfolding(tab_spec::specs::Auths::auths_of, tab_spec::specs::Auths::auths_from, effect_spec::specs::Effect::effect_of, crate::specs::Slots::slot_step, tab_spec::specs::Persist::stream_bytes, rand_core::specs::Steps::u32_at, rand_chacha::specs::Block::quarter_round, rand_chacha::specs::Block::column_round, rand_chacha::specs::Block::diagonal_round, rand_chacha::specs::Block::double_rounds, rand_chacha::specs::Block::block_word))]
@@ -263,4 +265,23 @@ fn sessions_authorize()
               ++ bytes_of 27 0x23177f3433adc43f04a356759ed95a9dcc89f5010020c91a22f972
               ++ bytes_of 27 0x258d250ab7878e670c68398d2948dfd1e9136ff738f8031edf2aa9,
         ) }
+{}
+
+// What a device holds is found by three lists: objects, loaded sessions and saved ones. Each handle
+// is the one under which it is flushed, and then the next is the first.
+#[tactic(auto, unfolding(tab_spec::specs::Auths::auths_of, tab_spec::specs::Auths::auths_from, crate::specs::Slots::slot_step, effect_spec::specs::Capabilities::from_number))]
+fn remains_are_listed_and_flushed()
+    ensures command { handles_command 0x80000000
+        ≡ bytes_of 22 0x8001000000160000017a0000000180000000000000fe }
+    ensures none { remains (device_at 0) ≡ [] }
+    ensures all { remains left_behind
+        ≡ 0x80000000 ∷ 0x80000002 ∷ 0x02000000 ∷ 0x03000001 ∷ 0x03000002 ∷ [] }
+    ensures loaded { listed_handles (slot_step left_behind (handles_command 0x02000000)).1
+        ≡ 0x02000000 ∷ 0x03000001 ∷ [] }
+    ensures saved { listed_handles (slot_step left_behind (handles_command 0x03000000)).1
+        ≡ 0x03000002 ∷ [] }
+    ensures flushed { remains (slot_step left_behind (flush 0x80000000)).0
+        ≡ 0x80000002 ∷ 0x02000000 ∷ 0x03000001 ∷ 0x03000002 ∷ [] }
+    ensures last { (slot_step (one_saved 0x03 5) (flush 0x03000000)).0
+        ≡ emptied (one_saved 0x03 5) }
 {}

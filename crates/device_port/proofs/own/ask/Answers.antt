@@ -3,7 +3,7 @@ use Rattle.tab_spec.specs.Frame.{reported_code}
 use Rattle.tab_laws.proofs.Outcomes.{from_err, from_ok}
 use Rattle.device_spec.specs.Answers.{takes}
 use Rattle.device_port.specs.Device.{transmitted, count_of, newest_command, newest_response}
-use Rattle.device_port.proofs.Asking.{answered, last_of, none_of, succeeds, takes_either, untold, wrong_answer}
+use Rattle.device_port.proofs.Asking.{answered, last_of, none_of, sent_as, succeeds, takes_either, untold, wrong_answer}
 use Rattle.device_port.proofs.own.ask.Goals as goal
 
 pub returns-then-is_err-clause-asks : goal.returns-then-is_err-clause-asks
@@ -13,6 +13,7 @@ returns-then-is_err-clause-asks g c =
     record {
       asked = ap newest_command sent.trace;
       once = ap count_of sent.trace;
+      one = sent_as _ _ _ _ sent.trace;
       own = record { sent = transmitted c.args.command.now c.transmit.result c.transmit.new.reply ∷ []; trace_is = sent.trace; own = (c.requires.own, tt) };
       answered = tt;
       err = from_err c.transmit.result _ sent.unchanged failed;
@@ -33,6 +34,7 @@ returns-then-not-takes-clause-asks g c =
     record {
       asked = ap newest_command sent.trace;
       once = ap count_of sent.trace;
+      one = sent_as _ _ _ _ sent.trace;
       own = record { sent = transmitted c.args.command.now c.transmit.result c.transmit.new.reply ∷ []; trace_is = sent.trace; own = (c.requires.own, tt) };
       answered = tt;
       err = told.same;
@@ -61,6 +63,7 @@ returns-clause-asks g c =
     record {
       asked = ap newest_command sent.trace;
       once = ap count_of sent.trace;
+      one = sent_as _ _ _ _ sent.trace;
       own = record { sent = transmitted c.args.command.now c.transmit.result c.transmit.new.reply ∷ []; trace_is = sent.trace; own = (c.requires.own, tt) };
       answered = answered command _ _ reply c.requires.own (ap newest_command sent.trace) (last_of c.transmit.result _ _ (ap newest_response sent.trace) succeeded)
           (sym (takes_either command reply c.requires.own.starts_none) ∙ ap (takes true false command) (sym c.as_slice.ensures.value) ∙ sym c.takes.ensures ∙ c.if-not-takes.false);

@@ -41,8 +41,8 @@ returns-in-Err-Failed-clause-ok g c =
     let failed = c.in-Err-Failed.ensures in
     let cause = failed_cause g.D.Device.seen _ c.in-Err-Failed.field-0-0 _ _ c.in-Err-Failed.field-0-is failed.asks.cause in
     let n = number_of_session c.args.handle in
-    left _ client _ _ c.args.self.now.held c.disown.new.self c.args.handle
-    (c.disown.ensures ∙ ap (λ (v : SessionsView). record v { items = set v.items n (disowned (item_at v.items n)) }) failed.err)
+    left _ client _ _ c.args.self.now.held c.orphan_session.new.self c.args.handle
+    (c.orphan_session.ensures ∙ ap (λ (v : SessionsView). record v { items = set v.items n (disowned (item_at v.items n)) }) failed.err)
     failed.asks.err failed.stands.rest cause.0 cause.1 c.requires.named (own_at _ client c.args.handle c.requires.named own)
     c.requires.settled
 

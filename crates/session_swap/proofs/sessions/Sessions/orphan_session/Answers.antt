@@ -8,7 +8,7 @@ use Rattle.session_swap.proofs.Making.{named_record, read_there}
 use Rattle.session_swap.proofs.Orphans.{disowned_items, disowned_records, disowned_there, without_client}
 use Rattle.session_swap.proofs.Listing.{listed_set}
 use Rattle.session_swap.proofs.Owners.{disowned_loaded, disowned_saved, owned_less, owned_most, owner_disowned}
-use Rattle.session_swap.proofs.sessions.Sessions.disown.Goals as goal
+use Rattle.session_swap.proofs.sessions.Sessions.orphan_session.Goals as goal
 
 pub less_one-self-inside-requires : goal.less_one-self-inside-requires
 less_one-self-inside-requires c =

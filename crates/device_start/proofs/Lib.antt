@@ -1,0 +1,4 @@
+mod Sent
+mod Found
+mod Left
+mod Reading

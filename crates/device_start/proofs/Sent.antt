@@ -1,0 +1,134 @@
+-- What is sent at a start, step by step.
+use Rattle.std.proofs.Common.{◌≡◌, ◌≤◌, ◌+◌, ◌⊎◌, inl, inr, ℕ, true, false, List, [], ◌∷◌, ◌++◌, refl, ap, sym, ◌∙◌, subst, arith}
+use Rattle.std.specs.Prelude.{Option, Some, None, Result, Ok, Err, IfErr, IsSomeAnd}
+use Rattle.std.proofs.lemmas.List.{append_assoc}
+use Rattle.tab_spec.specs.Commands.{startup_command}
+use Rattle.device_spec.specs.Answers.{IsRight, takes}
+use Rattle.device_spec.specs.ContextCommands.{flush_context_command}
+use Rattle.device_spec.specs.Remains.{handles_command}
+use Rattle.device_laws.proofs.AnswerForms.{takes_more}
+use Rattle.device_port.specs.Device.{Seen, Transmission, asked_of, last_of, newest_command, newest_response}
+use Rattle.device_port.specs.Own.{Asks, HasCause, IsAnswered, SendsOwn}
+use Rattle.device_port.specs.declared.own.SwapError.{SwapError}
+use Rattle.device_port.proofs.Sending.{are_own, cause_then}
+use Rattle.device_start.specs.Start.{Attempts, Finds, Flushes, HoldsNoMoreIf, Sends, SendsStart, answered}
+
+-- what an answer tells of the command and the response
+pub taken_as : (asked : List ℕ) (last : Option (List ℕ)) (command response : List ℕ) → asked ≡ command → last ≡ Some response → IsAnswered asked last
+    → takes true true command response ≡ true
+taken_as asked last command response asked_is last_is answered =
+    ap (λ (bytes : List ℕ). takes true true bytes response) (sym asked_is)
+    ∙ subst (λ (o : Option (List ℕ)). IsSomeAnd o (λ reply. takes true true asked reply ≡ true)) last_is answered.1
+
+-- a response that is there
+pub some_of : {X : Type 0} (o : Option X) {P : X → Type 0} → IsSomeAnd o P → (x : X) × (o ≡ Some x) × P x
+some_of None is = absurd is
+some_of (Some x) is = (x, refl, is)
+
+-- the one transmission, by the response that came
+pub answered_one : (command response : List ℕ) (last : Option (List ℕ)) (new old : List Transmission) → new ≡ record { command = command; response = last } ∷ old
+    → last ≡ Some response → new ≡ answered command response ∷ old
+answered_one command response last new old one is = one ∙ ap (λ (o : Option (List ℕ)). record { command = command; response = o } ∷ old) is
+
+-- ---- flushes
+
+pub flushes_then : (first second : List ℕ) (old mid new : List Transmission) → Flushes first old mid → Flushes second mid new
+    → Flushes (first ++ second) old new
+flushes_then [] second old mid new is more = subst (λ (t : List Transmission). Flushes second t new) is more
+flushes_then (handle ∷ first) second old mid new (response, taken, one) more =
+    (response, taken, flushes_then first second _ mid new one more)
+
+-- a flush that succeeded, and those behind it
+pub flush_more : {D : Type 0} (seen : D → Seen) (old new : D) (response : List ℕ) (handle : ℕ) (rest : List ℕ) (last : List Transmission) {command : List ℕ}
+    → command ≡ flush_context_command handle → Asks {A = Unit {0}} seen old new command (Ok tt) → last_of (seen new) ≡ Some response
+    → Flushes rest (seen new).trace last → Flushes (handle ∷ rest) (seen old).trace last
+flush_more seen old new response handle rest last {command = command} is asks last_is more =
+    let sent : (seen new).trace ≡ answered (flush_context_command handle) response ∷ (seen old).trace =
+    asks.one ∙ ap (λ (o : Option (List ℕ)). record { command = command; response = o } ∷ (seen old).trace) last_is
+    ∙ ap (λ (bytes : List ℕ). answered bytes response ∷ (seen old).trace) is in (
+      response,
+      taken_as (asked_of (seen new)) (last_of (seen new)) (flush_context_command handle) response (asks.asked ∙ is) last_is asks.answered,
+      subst (λ (trace : List Transmission). Flushes rest trace last) sent more,
+    )
+
+-- ---- commands behind Startup
+
+pub sends_more : {D : Type 0} (seen : D → Seen) (old : List Transmission) (mid new : D) → SendsStart old (seen mid).trace → SendsOwn seen mid new
+    → SendsStart old (seen new).trace
+sends_more seen old mid new start own = record {
+  startup = start.startup;
+  later = own.sent ++ start.later;
+  trace_is = own.trace_is ∙ ap (λ (trace : List Transmission). own.sent ++ trace) start.trace_is
+      ∙ sym (append_assoc own.sent start.later (record { command = startup_command; response = start.startup } ∷ old));
+  own = are_own own.sent start.later own.own start.own;
+}
+
+-- ---- what calls leave
+
+-- Startup alone was sent
+pub startup_attempts : {D A : Type 0} (seen : D → Seen) (old new : D) (result : Result A SwapError) → Sends seen old new startup_command result
+    → HoldsNoMoreIf (seen old).state (seen new).state → Attempts seen old new result
+startup_attempts seen old new result sends few = record {
+  few = few;
+  sent = record { startup = last_of (seen new); later = []; trace_is = sends.one; own = tt };
+  cause = sends.cause;
+  base = sends.base;
+  count = sends.count;
+}
+
+-- and then commands of the broker's own
+pub attempts_then : {D A B : Type 0} (seen : D → Seen) (old mid new : D) (x : A) (result : Result B SwapError) → Attempts seen old mid (Ok x)
+    → SendsOwn seen mid new → IfErr result (λ e. HasCause seen e mid new) → (seen new).base ≡ (seen mid).base → (seen mid).faults ≤ (seen new).faults
+    → HoldsNoMoreIf (seen old).state (seen new).state → Attempts seen old new result
+attempts_then seen old mid new x (Ok y) first own cause base count few = record {
+  few = few;
+  sent = sends_more seen (seen old).trace mid new first.sent own;
+  cause = tt;
+  base = base ∙ first.base;
+  count = omega (arith, first.count, count);
+}
+attempts_then seen old mid new x (Err e) first own cause base count few = record {
+  few = few;
+  sent = sends_more seen (seen old).trace mid new first.sent own;
+  cause = cause_then seen old mid new e first.count cause;
+  base = base ∙ first.base;
+  count = omega (arith, first.count, count);
+}
+
+pub attempts_more : {D : Type 0} (seen : D → Seen) (old mid new : D) → Attempts {A = Unit {0}} seen old mid (Ok tt) → SendsOwn seen mid new
+    → (seen new).base ≡ (seen mid).base → (seen mid).faults ≤ (seen new).faults → HoldsNoMoreIf (seen old).state (seen new).state
+    → Attempts {A = Unit {0}} seen old new (Ok tt)
+attempts_more seen old mid new first own base count few = record {
+  few = few;
+  sent = sends_more seen (seen old).trace mid new first.sent own;
+  cause = tt;
+  base = base ∙ first.base;
+  count = omega (arith, first.count, count);
+}
+
+-- a call that returned where the last one failed
+pub attempts_failed : {D A B : Type 0} (seen : D → Seen) (old new : D) (e : SwapError) (result : Result B SwapError)
+    → (f : SwapError) × (result ≡ Err f) × (f ≡ e) → Attempts {A = A} seen old new (Err e) → Attempts seen old new result
+attempts_failed {A = A} seen old new e result (f, is, same) attempts =
+    let failed : Attempts {A = A} seen old new (Err f) = subst (λ (e : SwapError). Attempts {A = A} seen old new (Err e)) (sym same) attempts in
+    subst (λ (r : Result _ SwapError). Attempts seen old new r) (sym is)
+    (record { few = failed.few; sent = failed.sent; cause = failed.cause; base = failed.base; count = failed.count })
+
+-- ---- the last response
+
+right_answered : (asked : List ℕ) (last : Option (List ℕ)) → IsAnswered asked last → IsRight asked last
+right_answered asked None answered = tt
+right_answered asked (Some last) answered = takes_more true true asked last answered.1
+
+right_found : (asked : List ℕ) (last : Option (List ℕ)) (saved : List ℕ) → asked ≡ handles_command 0x03000000 → last ≡ Some saved
+    → takes true true (handles_command 0x03000000) saved ≡ true → IsRight asked last
+right_found asked last saved asked_is last_is taken =
+    subst (IsRight asked) (sym last_is) (ap (λ (bytes : List ℕ). takes false false bytes saved) asked_is ∙ takes_more true true (handles_command 0x03000000) saved taken)
+
+-- it is that of the last flush, or of the last list where nothing was flushed
+pub right_end : {D : Type 0} (seen : D → Seen) (old : List Transmission) (mid new : D) (objects loaded saved : List ℕ) → Finds old (seen mid).trace objects loaded saved
+    → (new ≡ mid) ⊎ IsAnswered (asked_of (seen new)) (last_of (seen new)) → IsRight (asked_of (seen new)) (last_of (seen new))
+right_end {D = D} seen old mid new objects loaded saved finds (inl same) =
+    subst (λ (device : D). IsRight (asked_of (seen device)) (last_of (seen device))) (sym same)
+    (right_found (asked_of (seen mid)) (last_of (seen mid)) saved (ap newest_command finds.trace_is) (ap newest_response finds.trace_is) finds.saved_taken)
+right_end seen old mid new objects loaded saved finds (inr answered) = right_answered (asked_of (seen new)) (last_of (seen new)) answered

@@ -1,0 +1,76 @@
+//! Plays scripts over a broker whose device is in memory and fails at listed transmissions, and
+//! tells where the transmissions of each call were.
+//!
+//! Standard input has runs, one behind another. The first line of each is the seed, 64 hexadecimal
+//! digits, and behind it the numbers of the transmissions that fail, from 0. The others are lines
+//! of a script, as the program `tabrmd` plays them. A script that isn't played to its end, as one
+//! with a bad line, ends the program with status 1.
+//!
+//! Of each run these lines are written, where a count is that of the commands that the device was
+//! sent:
+//!
+//! - the replies, as `tabrmd` writes them.
+//! - `begun COUNT`: when the broker had begun. Or `failed FAULTS COUNT`: it didn't, since a
+//!   transmission failed, and this is the only line of the run.
+//! - for each command and each close, those at the end among them, in their order:
+//!   `command FIRST LAST ORPHANS` or `close FIRST LAST ORPHANS`: the count before it and after it,
+//!   and how many objects and sessions of nobody are in the device then.
+//! - the audit text of the journal.
+//! - `end COUNT FAULTS HELD`: the count and the device's fault count after all of this, and how
+//!   many objects and sessions the device lists then.
+#![tactic(auto)]
+
+mod held;
+mod play;
+mod script;
+mod watched;
+
+use anyhow::Context;
+use play::play;
+use script::{Script, read_seed};
+use std::alloc::Global;
+use std::io::{BufRead, BufReader, BufWriter, Write};
+
+fn main(rt: HostRuntime) -> anyhow::Result<()> {
+    let mut output = BufWriter::new(rt.alloc(), rt.stdout())?;
+    play_input(&rt, &mut output)?;
+    output.flush()?;
+    Ok(())
+}
+
+// Plays the runs of standard input.
+fn play_input<W: Write>(rt: &HostRuntime, output: &mut W) -> anyhow::Result<()> {
+    let mut read = None;
+    for line in BufReader::new(rt.alloc(), rt.reader())?.lines(rt.alloc()) {
+        take_line(rt.alloc(), &mut read, line?.as_str(), output)?;
+    }
+    play_whole(rt.alloc(), read, output)
+}
+
+// Takes a line. One that begins a run ends the script before it, which is played.
+fn take_line<W: Write>(
+    alloc: Global,
+    read: &mut Option<Script>,
+    text: &str,
+    output: &mut W,
+) -> anyhow::Result<()> {
+    if let Some(next) = read_seed(alloc, text)? {
+        return play_whole(alloc, read.replace(next), output);
+    }
+    let script = read.as_mut().context("a run begins with a seed")?;
+    script.text.extend_from_slice(text.as_bytes())?;
+    script.text.push(b'\n')?;
+    Ok(())
+}
+
+// Plays a script that is whole, where there is one.
+fn play_whole<W: Write>(
+    alloc: Global,
+    script: Option<Script>,
+    output: &mut W,
+) -> anyhow::Result<()> {
+    match script {
+        Some(script) => play(alloc, &script, output),
+        None => Ok(()),
+    }
+}
