@@ -1,5 +1,5 @@
 -- Commands of the broker's own: what they are, what answers them, and why a call over the device failed.
-use Rattle.std.specs.Prelude.{◌≡◌, ◌≤◌, ◌⊎◌, ◌==◌, ◌∷◌, ◌++◌, ℕ, true, false, List, Option, None, IsSomeAnd, Result, OnOk, OnErr, IfErr}
+use Rattle.std.specs.Prelude.{◌≡◌, ◌≤◌, ◌⊎◌, ◌==◌, [], ◌∷◌, ◌++◌, ℕ, true, false, List, Option, None, IsSomeAnd, Result, OnOk, OnErr, IfErr}
 use Rattle.std.specs.List.{AllByRecursion}
 use Rattle.tab_spec.specs.declared.TheConstants.{CC_STARTUP, CC_START_AUTH_SESSION, RC_SUCCESS}
 use Rattle.tab_spec.specs.Count.{Rose, one_more}
@@ -36,13 +36,22 @@ pub record SendsOwn {D : Type 0} (seen : D → Seen) (old new : D) : Type 0 wher
   pub trace_is : (seen new).trace ≡ sent ++ (seen old).trace
   pub own : AllByRecursion (λ one. IsOwn one.command) sent
 
+-- a command of the broker's own that was answered, and the response was taken
+abbrev pub WasTaken : Transmission → Type 0
+WasTaken one = IsAnswered one.command one.response
+
+-- each of these was but the newest, at which the call ended
+abbrev pub EndAtNewest : List Transmission → Type 0
+EndAtNewest [] = ⊥
+EndAtNewest (newest ∷ earlier) = AllByRecursion WasTaken earlier
+
 -- what holds after a call that sends one command of the broker's own: it was sent once. After a success it was answered; after an
 -- error the device is in its state
 pub record Asks {D A : Type 0} (seen : D → Seen) (old new : D) (command : List ℕ) (result : Result A SwapError) : Type 0 where
   pub asked : asked_of (seen new) ≡ command
   pub once : sent_of (seen new) ≡ one_more (sent_of (seen old))
   pub one : (seen new).trace ≡ record { command = command; response = last_of (seen new) } ∷ (seen old).trace
-  pub own : SendsOwn seen old new
+  pub own : IsOwn command
   pub answered : OnOk result (IsAnswered (asked_of (seen new)) (last_of (seen new)))
   pub err : OnErr result ((seen new).state ≡ (seen old).state)
   pub cause : IfErr result (λ e. HasCause seen e old new)
@@ -53,6 +62,9 @@ pub record Asks {D A : Type 0} (seen : D → Seen) (old new : D) (command : List
 pub record AsksSome {D A : Type 0} (seen : D → Seen) (old new : D) (result : Result A SwapError) : Type 0 where
   pub own : SendsOwn seen old new
   pub answered : OnOk result ((new ≡ old) ⊎ IsAnswered (asked_of (seen new)) (last_of (seen new)))
+  -- and each before it: the first that isn't ends the call, and isn't tried again
+  pub all : OnOk result (AllByRecursion WasTaken own.sent)
+  pub before : OnErr result (EndAtNewest own.sent)
   pub cause : IfErr result (λ e. HasCause seen e old new)
   pub base : (seen new).base ≡ (seen old).base
   pub count : (seen old).faults ≤ (seen new).faults

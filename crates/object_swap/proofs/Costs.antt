@@ -3,7 +3,7 @@ use Rattle.std.proofs.Common.{◌≡◌, ◌+◌, ◌<◌, ◌≤◌, ℕ, Bool,
 use Rattle.std.specs.Prelude.{Some, None, Result, Ok, Err, OnErr, OnOk, if◌then◌else◌}
 use Rattle.std.proofs.lemmas.List.{map-set}
 use Rattle.device_port.specs.Device.{Seen, sent_of}
-use Rattle.device_port.specs.Own.{Asks}
+use Rattle.device_port.specs.Own.{Asks, AsksSome}
 use Rattle.device_port.specs.declared.own.SwapError.{SwapError}
 use Rattle.object_swap.specs.declared.record.Record.{Record}
 use Rattle.object_swap.specs.Items.{Item, is_resident, is_unsaved, item_at, no_item, unsaved}
@@ -16,6 +16,18 @@ use Rattle.object_swap.proofs.Recorded.{inside_items, item_there, out_item, save
 pub sent_one : {D A : Type 0} (seen : D → Seen) (a b : D) (command : List ℕ) (result : Result A SwapError) → Asks seen a b command result
     → sent_of (seen b) ≤ sent_of (seen a) + 1
 sent_one seen a b command result asks = omega (arith, asks.once)
+
+-- a call that gives another value
+pub some_ok : {D A B : Type 0} (seen : D → Seen) (old new : D) (x : A) (y : B) → AsksSome seen old new (Ok x) → AsksSome seen old new (Ok y)
+some_ok seen old new x y asks = record {
+  own = asks.own;
+  answered = asks.answered;
+  all = asks.all;
+  before = tt;
+  cause = tt;
+  base = asks.base;
+  count = asks.count;
+}
 
 pub none_if_failed : {A E : Type 0} (P : Type 0) (result : Result A E) (e : E) → result ≡ Err e → OnOk result P
 none_if_failed P (Ok a) e failed = absurd cc

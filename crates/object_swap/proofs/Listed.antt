@@ -133,12 +133,17 @@ vacant_at (item ∷ items) (suc index) = vacant_at items index
 pub same_vacancy : (items new_items : List Item) → owners new_items ≡ owners items → map is_vacant new_items ≡ map is_vacant items
 same_vacancy items new_items same = sym (vacants new_items) ∙ ap (map (λ (p : Option ℕ × Bool). p.1)) same ∙ vacants items
 
+pub vacant_again : (items new_items : List Item) → owners new_items ≡ owners items
+    → (index : ℕ) → is_vacant (item_at new_items index) ≡ is_vacant (item_at items index)
+vacant_again items new_items same index =
+    sym (vacant_at new_items index) ∙ ap (λ (flags : List Bool). get_or flags index true) (same_vacancy items new_items same) ∙ vacant_at items index
+
 pub named_again : (items new_items : List Item) (index : ℕ) → owners new_items ≡ owners items → Names items index → Names new_items index
 named_again items new_items index same names =
     let flags = same_vacancy items new_items same in
     record {
       inside = omega (arith, ap (λ (flags : List Bool). length flags) flags, length-map items is_vacant, length-map new_items is_vacant, names.inside);
-      there = sym (vacant_at new_items index) ∙ ap (λ (flags : List Bool). get_or flags index true) flags ∙ vacant_at items index ∙ names.there;
+      there = vacant_again items new_items same index ∙ names.there;
     }
 
 pub needed_at : (needed : List ℕ) (items : List Item) (k d : ℕ) → AreThere needed items → k < length needed → Names items (get_or needed k d)

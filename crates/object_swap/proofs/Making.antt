@@ -8,13 +8,13 @@ use Rattle.device_port.specs.Device.{Seen, sent_of}
 use Rattle.device_port.specs.Use.{all_used, first_unneeded, is_among, without_first}
 use Rattle.device_port.specs.declared.own.SwapError.{SwapError}
 use Rattle.object_swap.specs.declared.record.Record.{Record}
-use Rattle.object_swap.specs.Items.{AreResident, Item, MakesRoom, counter_of, evictions, is_resident, is_unsaved, item_at, missing, no_item, pending_of, residents, rest_of, unsaved, unsaved_of}
+use Rattle.object_swap.specs.Items.{AreResident, Item, KeepsContexts, KeepsObjects, MakesRoom, counter_of, evictions, is_resident, is_unsaved, is_vacant, item_at, missing, no_item, pending_of, residents, rest_of, unsaved, unsaved_of}
 use Rattle.object_swap.specs.Moves.{Evicts, Fills, Keeps}
 use Rattle.object_swap.specs.Records.{ListsFlags, NoMore, items_of, number, residency, view_of}
 use Rattle.object_swap.proofs.Costs.{none_if_failed, on_err_all}
 use Rattle.object_swap.proofs.Counts.{count_cons, number_most}
 use Rattle.object_swap.proofs.Flags.{none_true}
-use Rattle.object_swap.proofs.Listed.{counted_flags, lists_items}
+use Rattle.object_swap.proofs.Listed.{counted_flags, lists_items, vacant_again}
 use Rattle.object_swap.proofs.Missing.{missing_none, missing_same}
 
 -- ---- contexts that weren't kept yet
@@ -41,6 +41,46 @@ unsaved_stay (x ∷ items) (y ∷ new_items) stay =
       count_cons is_unsaved y new_items,
       one_unsaved x y (is_resident x) refl (stay 0),
       unsaved_stay items new_items (λ index is. stay (suc index) is),
+    )
+
+one_still : (slot blob new_slot new_blob : Bool) → (not new_slot && not new_blob) ≡ (not slot && not blob) → (blob ≡ true → new_blob ≡ true)
+    → (slot ≡ true → number (new_slot && not new_blob) ≡ number (slot && not blob)) → number (new_slot && not new_blob) ≤ number (slot && not blob)
+one_still true blob new_slot new_blob vacant kept stay = omega (arith, stay refl)
+one_still false true false new_blob vacant kept stay = omega arith
+one_still false true true true vacant kept stay = omega arith
+one_still false true true false vacant kept stay = let no = kept refl in absurd cc
+one_still false false false new_blob vacant kept stay = omega arith
+one_still false false true new_blob vacant kept stay = absurd cc
+
+still_some : (blob new_blob : Option (List ℕ)) → ((context : List ℕ) → blob ≡ Some context → new_blob ≡ Some context) → is_some blob ≡ true → is_some new_blob ≡ true
+still_some None new_blob kept is = absurd cc
+still_some (Some context) new_blob kept is = ap (λ (o : Option (List ℕ)). is_some o) (kept context refl)
+
+still_unsaved : (x y : Item) → is_vacant y ≡ is_vacant x → ((context : List ℕ) → x.blob ≡ Some context → y.blob ≡ Some context) → (is_resident x ≡ true → y ≡ x)
+    → number (is_unsaved y) ≤ number (is_unsaved x)
+still_unsaved x y vacant kept stay =
+    one_still (is_some x.slot) (is_some x.blob) (is_some y.slot) (is_some y.blob) vacant (still_some x.blob y.blob kept)
+    (λ is. ap (λ (i : Item). number (is_unsaved i)) (stay is))
+
+-- where objects come into slots, none needs one that didn't
+unsaved_still : (items new_items : List Item) → ((index : ℕ) → is_vacant (item_at new_items index) ≡ is_vacant (item_at items index))
+    → KeepsContexts items new_items → ((index : ℕ) → is_resident (item_at items index) ≡ true → item_at new_items index ≡ item_at items index)
+    → unsaved new_items ≤ unsaved items
+unsaved_still items [] vacant kept stay = omega arith
+unsaved_still [] (y ∷ new_items) vacant kept stay =
+    omega (
+      arith,
+      count_cons is_unsaved y new_items,
+      still_unsaved no_item y (vacant 0) (kept 0) (stay 0),
+      unsaved_still [] new_items (λ index. vacant (suc index)) (λ index. kept (suc index)) (λ index is. stay (suc index) is),
+    )
+unsaved_still (x ∷ items) (y ∷ new_items) vacant kept stay =
+    omega (
+      arith,
+      count_cons is_unsaved x items,
+      count_cons is_unsaved y new_items,
+      still_unsaved x y (vacant 0) (kept 0) (stay 0),
+      unsaved_still items new_items (λ index. vacant (suc index)) (λ index. kept (suc index)) (λ index is. stay (suc index) is),
     )
 
 -- the number of the next context rises with each that is made
@@ -85,15 +125,17 @@ pub record Leaves (needed : List ℕ) (slots new_slots left : ℕ) (items : List
 -- residents that leave, and then those that come
 pub room_made : {D : Type 0} (seen : D → Seen) (a b c : D) (needed : List ℕ) (slots new_slots left : ℕ) (xs ys zs : List Record) (loaded mid new : List ℕ)
     (result : Result (Unit {0}) SwapError) → Leaves needed slots new_slots left (items_of xs) → Evicts seen a b xs ys loaded mid needed left (Ok tt)
-    → Fills seen b c ys zs mid new needed result → Keeps (seen a).state (seen c).state (items_of xs) (items_of zs) [] → ListsFlags (residency zs) new
+    → Fills seen b c ys zs mid new needed result → KeepsObjects (seen b).state (seen c).state (items_of ys) (items_of zs)
+    → Keeps (seen a).state (seen c).state (items_of xs) (items_of zs) [] → ListsFlags (residency zs) new
     → MakesRoom seen a c needed new_slots (view_of xs loaded slots) (view_of zs new slots) result
-room_made seen a b c needed slots new_slots left xs ys zs loaded mid new result leaves cleared filled keeps lists =
+room_made seen a b c needed slots new_slots left xs ys zs loaded mid new result leaves cleared filled objects keeps lists =
     let lost_is = missing_same needed (items_of xs) (items_of ys) cleared.stay in
     let none : AreResident needed (items_of xs) → missing needed (items_of xs) ≡ 0 = missing_none needed (items_of xs) in
     let out = evictions needed new_slots (view_of xs loaded slots) in
     let saves = unsaved_of (items_of xs) (first_unneeded out needed loaded) in
     let out_is : residents (items_of xs) - left ≡ out = omega (arith, leaves.left_is, leaves.fits) in
     let saves_are = ap (λ (n : ℕ). unsaved_of (items_of xs) (first_unneeded n needed loaded)) out_is in
+    let still = unsaved_still (items_of ys) (items_of zs) (vacant_again (items_of ys) (items_of zs) objects.owners) objects.kept filled.stay in
     record {
       sent = cost_by (sent_of (seen a)) (sent_of (seen b)) (sent_of (seen c)) out saves (missing needed (items_of xs))
           (omega (arith, cleared.sent, out_is, saves_are)) (omega (arith, filled.sent, lost_is));
@@ -120,6 +162,7 @@ room_made seen a b c needed slots new_slots left xs ys zs loaded mid new result 
             some.0,
             omega arith,
             used_then needed (take some.0 needed) loaded mid new (residents (items_of xs) - left) out cleared.order out_is some.1,
+            omega (arith, cleared.spends, still, some.2, out_is),
           )) filled.failed;
       listed = lists_items zs new lists;
       counter = omega (
@@ -151,7 +194,13 @@ room_failed seen a b needed slots new_slots left xs ys loaded mid result e leave
       same = none_if_failed _ result e failed;
       idle = λ all room. let no = (cleared.idle (omega (arith, room, out_is))).2 in absurd cc;
       order = none_if_failed _ result e failed;
-      failed = on_err_all _ result (cleared.failed.0, 0, omega (arith, cleared.failed.1, out_is), cleared.failed.2);
+      failed = on_err_all _ result (
+        cleared.failed.0,
+        0,
+        omega (arith, cleared.failed.1, out_is),
+        cleared.failed.2,
+        omega (arith, cleared.failed.3),
+      );
       listed = lists_items ys mid lists;
       counter = omega (
         arith,

@@ -77,6 +77,14 @@ keeps_same state new_state xs ys others stand same kept =
     let at_rest : Keeps state state xs xs others = record { rest = refl; objects = record { objects = refl; owners = refl; kept = λ index context is. is }; stand = stand; pending = refl; rises = omega arith } in
     subst (λ (st : Option SlotState). Keeps state st xs ys others) (sym same) (subst (λ (items : List Item). Keeps state state xs items others) (sym kept) at_rest)
 
+-- nothing was moved yet
+pub swaps_none : {D : Type 0} (seen : D → Seen) (device : D) (records : List Record) → Ready (seen device).state records
+    → Swaps seen device device records records
+swaps_none seen device records ready = record {
+  keeps = keeps_same (seen device).state (seen device).state (items_of records) (items_of records) [] ready.stand refl refl;
+  sound = ready.sound;
+}
+
 -- it is ready again
 pub ready_again : (state new_state : Option SlotState) (records new_records : List Record) → Ready state records
     → Keeps state new_state (items_of records) (items_of new_records) [] → AreRecords new_records → Ready new_state new_records

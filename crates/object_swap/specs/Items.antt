@@ -272,9 +272,12 @@ pub record MakesRoom {D : Type 0} (seen : D → Seen) (old new : D) (needed : Li
   pub idle : AreResident needed view.items → evictions needed new_slots view ≡ 0
       → (new ≡ old) × (new_view.items ≡ view.items) × (result ≡ Ok tt)
   pub order : OnOk result (new_view.order ≡ all_used (without_first (evictions needed new_slots view) needed view.order) needed)
-  -- after an error some of those that had to leave are gone, the first of them, and some of what is needed is used, the first of it
+  -- after an error some of those that had to leave are gone, the first of them, and some of what is needed is used, the first of it.
+  -- At most one command was sent for each of these, one for each context that is kept since, and one that failed: an object that was
+  -- saved and couldn't be flushed keeps its context
   pub failed : OnErr result ((gone used : ℕ) × (gone ≤ evictions needed new_slots view)
-      × (new_view.order ≡ all_used (without_first gone needed view.order) (take used needed)))
+      × (new_view.order ≡ all_used (without_first gone needed view.order) (take used needed))
+      × (sent_of (seen new) + unsaved new_view.items ≤ sent_of (seen old) + unsaved view.items + gone + used + 1))
   pub listed : Lists new_view.order new_view.items
   pub counter : counter_of (seen new).state ≤ counter_of (seen old).state + length needed + new_slots
 

@@ -119,12 +119,18 @@ pub record CostsOne {D : Type 0} (seen : D → Seen) (old new : D) (records new_
   pub sent : sent_of (seen new) ≤ sent_of (seen old) + most
   pub saved : unsaved (items_of records) ≤ unsaved (items_of new_records) + 1
 
+-- at most so many commands, and one for each context that is kept since
+abbrev pub Spends : {D : Type 0} → (D → Seen) → D → D → List Record → List Record → ℕ → Type 0
+Spends seen old new records new_records most =
+    sent_of (seen new) + unsaved (items_of new_records) ≤ sent_of (seen old) + unsaved (items_of records) + most
+
 -- the object of a listed resident leaves its slot: by one command, and by one more where no context of it is kept yet
 pub record PutsAway {D : Type 0} (seen : D → Seen) (old new : D) (records new_records : List Record) (loaded new_loaded : List ℕ) (at : ℕ)
     (result : Result (Unit {0}) SwapError) : Type 0 where
   pub fewer : NoMore (residency records) (residency new_records)
   pub others : OthersStay (get_or loaded at 0) records new_records
   pub costs : CostsOne seen old new records new_records (number (is_unsaved (item_at (items_of records) (get_or loaded at 0))) + 1)
+  pub spends : Spends seen old new records new_records 1
   pub out : OnOk result (is_resident (item_at (items_of new_records) (get_or loaded at 0)) ≡ false)
   pub order : OnOk result (new_loaded ≡ remove loaded at)
   pub failed : OnErr result (new_loaded ≡ loaded)
@@ -136,7 +142,9 @@ pub record Evicts {D : Type 0} (seen : D → Seen) (old new : D) (records new_re
   pub stay : (index : ℕ) → is_among needed index ≡ true → item_at (items_of new_records) index ≡ item_at (items_of records) index
   pub left : OnOk result (residents (items_of new_records) ≡ min (residents (items_of records)) most)
   pub order : OnOk result (new_loaded ≡ without_first (residents (items_of records) - most) needed loaded)
-  pub failed : OnErr result ((gone : ℕ) × (gone ≤ residents (items_of records) - most) × (new_loaded ≡ without_first gone needed loaded))
+  pub spends : OnOk result (Spends seen old new records new_records (residents (items_of records) - most))
+  pub failed : OnErr result ((gone : ℕ) × (gone ≤ residents (items_of records) - most) × (new_loaded ≡ without_first gone needed loaded)
+      × Spends seen old new records new_records (gone + 1))
   pub kept : OnOk result ((index : ℕ) → is_resident (item_at (items_of new_records) index) ≡ true
       → item_at (items_of new_records) index ≡ item_at (items_of records) index)
   pub sent : sent_of (seen new) ≤ sent_of (seen old) + (residents (items_of records) - most)
@@ -166,6 +174,7 @@ pub record Fills {D : Type 0} (seen : D → Seen) (old new : D) (records new_rec
   pub count : OnOk result (residents (items_of new_records) ≡ residents (items_of records) + missing needed (items_of records))
   pub few : residents (items_of new_records) ≤ residents (items_of records) + missing needed (items_of records)
   pub order : OnOk result (new_loaded ≡ all_used loaded needed)
-  pub failed : OnErr result ((used : ℕ) × (new_loaded ≡ all_used loaded (take used needed)))
+  pub failed : OnErr result ((used : ℕ) × (new_loaded ≡ all_used loaded (take used needed))
+      × (sent_of (seen new) ≤ sent_of (seen old) + used + 1))
   pub sent : sent_of (seen new) ≤ sent_of (seen old) + missing needed (items_of records)
   pub idle : AreResident needed (items_of records) → (new ≡ old) × (new_records ≡ records) × (result ≡ Ok tt)

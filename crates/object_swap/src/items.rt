@@ -8,7 +8,7 @@ ghost use Rattle.device_port.specs.Own.{Asks, AsksSome};
 ghost use Rattle.object_swap.specs.Items.{is_unsaved, item_at, unsaved};
 ghost use Rattle.object_swap.specs.Records.{items_of, number, residency};
 ghost use Rattle.object_swap.specs.Moves.{CostsOne, HasLastSlot, IsItem, IsSaved, OthersStay};
-ghost use Rattle.object_swap.specs.Moves.{Ready, Swaps};
+ghost use Rattle.object_swap.specs.Moves.{Ready, Spends, Swaps};
 
 use crate::moves::{flush, load, save};
 use crate::record::Record;
@@ -33,6 +33,9 @@ pub fn keep_context<D: Device>(
     // A context that is kept isn't made again.
     ensures costs { CostsOne D.seen device.old device.new records.old records.new
         (number (is_unsaved (item_at (items_of records.old) index))) }
+    // The only command that makes no context is one that failed.
+    ensures spends { OnOk result (Spends D.seen device.old device.new records.old records.new 0)
+        × OnErr result (Spends D.seen device.old device.new records.old records.new 1) }
     ensures asks { AsksSome D.seen device.old device.new result }
 {
     let record = &mut records[index];

@@ -280,7 +280,7 @@ impl Objects {
         self.drop_by(device, item, scratch, &mut Uncounted)
     }
 
-    /// `drop_object`, which visits two to five records, and at most two where it fails.
+    /// `drop_object`, which visits two to five records, and one or two where it fails.
     pub fn drop_object_counted<D: Device, L: Ledger>(
         &mut self,
         device: &mut D,
@@ -304,7 +304,8 @@ impl Objects {
         ensures asks { AsksSome D.seen device.old device.new result }
         ensures steps { OnOk result (steps.old + 2 ≤ steps.new)
             × (steps.new ≤ steps.old + 5) }
-        ensures few { OnErr result (steps.new ≤ steps.old + 2) }
+        ensures few { OnErr result ((steps.old + 1 ≤ steps.new)
+            × (steps.new ≤ steps.old + 2)) }
     {
         self.drop_by(device, item, scratch, steps)
     }
@@ -426,7 +427,8 @@ impl Objects {
         ensures asks { AsksSome D.seen device.old device.new result }
         ensures steps { OnOk result (C.count steps.old + 2 * C.weight ≤ C.count steps.new)
             × (C.count steps.new ≤ C.count steps.old + 5) }
-        ensures few { OnErr result (C.count steps.new ≤ C.count steps.old + 2) }
+        ensures few { OnErr result ((C.count steps.old + C.weight ≤ C.count steps.new)
+            × (C.count steps.new ≤ C.count steps.old + 2)) }
     {
         let Some(handle) = steps.look_up(&self.records, item).handle else {
             release(

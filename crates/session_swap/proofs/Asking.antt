@@ -14,6 +14,11 @@ pub asks_any : {D A : Type 0} (seen : D → Seen) (old new : D) (result : Result
 asks_any seen old new result None command asks = absurd asks
 asks_any seen old new result (Some item) command asks = asks_some seen old new (command item) result asks
 
+-- a call that returned where the last one succeeded
+pub some_ok : {D A B : Type 0} (seen : D → Seen) (old new : D) (x : A) (y : B) → AsksSome seen old new (Ok x) → AsksSome seen old new (Ok y)
+some_ok seen old new x y asks =
+    record { own = asks.own; answered = asks.answered; all = asks.all; before = tt; cause = tt; base = asks.base; count = asks.count }
+
 pub on_err_whole : {A E : Type 0} (r : Result A E) (P : Type 0) → P → OnErr r P
 on_err_whole (Ok x) P p = tt
 on_err_whole (Err e) P p = p

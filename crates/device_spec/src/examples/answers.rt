@@ -237,6 +237,11 @@ fn handles_are_listed_whole()
     ensures session_as_object { lists_taken 0x80000000 (0x80000000 ∷ 0x02000000 ∷ []) ≡ false }
     ensures object_as_session { lists_taken 0x02000000 (0x80000000 ∷ []) ≡ false }
     ensures persistent { lists_taken 0x80000000 (0x81000000 ∷ []) ≡ false }
+    ensures persistent_as_session { lists_taken 0x02000000 (0x81000000 ∷ []) ≡ false }
+    ensures object_as_saved { lists_taken 0x03000000 (0x80000000 ∷ []) ≡ false }
+    ensures permanent_as_saved { lists_taken 0x03000000 (0x40000007 ∷ []) ≡ false }
+    ensures neither_yes_nor_no { takes true true (ask 1 0x80000000 254) (answer 2 1 (u32 0))
+        ≡ false }
     ensures more { takes true true (ask 1 0x80000000 254) (answer 1 1 (u32 0)) ≡ false }
     ensures other_capability { takes true true (ask 1 0x80000000 254) (answer 0 6 (u32 0))
         ≡ false }

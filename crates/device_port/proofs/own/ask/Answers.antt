@@ -1,8 +1,8 @@
-use Rattle.std.proofs.Common.{[], ◌∷◌, ◌≡◌, true, false, ap, sym, ◌∙◌}
+use Rattle.std.proofs.Common.{◌≡◌, true, false, ap, sym, ◌∙◌}
 use Rattle.tab_spec.specs.Frame.{reported_code}
 use Rattle.tab_laws.proofs.Outcomes.{from_err, from_ok}
 use Rattle.device_spec.specs.Answers.{takes}
-use Rattle.device_port.specs.Device.{transmitted, count_of, newest_command, newest_response}
+use Rattle.device_port.specs.Device.{count_of, newest_command, newest_response}
 use Rattle.device_port.proofs.Asking.{answered, last_of, none_of, sent_as, succeeds, takes_either, untold, wrong_answer}
 use Rattle.device_port.proofs.own.ask.Goals as goal
 
@@ -14,7 +14,7 @@ returns-then-is_err-clause-asks g c =
       asked = ap newest_command sent.trace;
       once = ap count_of sent.trace;
       one = sent_as _ _ _ _ sent.trace;
-      own = record { sent = transmitted c.args.command.now c.transmit.result c.transmit.new.reply ∷ []; trace_is = sent.trace; own = (c.requires.own, tt) };
+      own = c.requires.own;
       answered = tt;
       err = from_err c.transmit.result _ sent.unchanged failed;
       cause = (from_err c.transmit.result _ sent.fault failed, none_of c.transmit.result _ _ (ap newest_response sent.trace) failed);
@@ -35,7 +35,7 @@ returns-then-not-takes-clause-asks g c =
       asked = ap newest_command sent.trace;
       once = ap count_of sent.trace;
       one = sent_as _ _ _ _ sent.trace;
-      own = record { sent = transmitted c.args.command.now c.transmit.result c.transmit.new.reply ∷ []; trace_is = sent.trace; own = (c.requires.own, tt) };
+      own = c.requires.own;
       answered = tt;
       err = told.same;
       cause = (
@@ -64,7 +64,7 @@ returns-clause-asks g c =
       asked = ap newest_command sent.trace;
       once = ap count_of sent.trace;
       one = sent_as _ _ _ _ sent.trace;
-      own = record { sent = transmitted c.args.command.now c.transmit.result c.transmit.new.reply ∷ []; trace_is = sent.trace; own = (c.requires.own, tt) };
+      own = c.requires.own;
       answered = answered command _ _ reply c.requires.own (ap newest_command sent.trace) (last_of c.transmit.result _ _ (ap newest_response sent.trace) succeeded)
           (sym (takes_either command reply c.requires.own.starts_none) ∙ ap (takes true false command) (sym c.as_slice.ensures.value) ∙ sym c.takes.ensures ∙ c.if-not-takes.false);
       err = tt;

@@ -3,6 +3,7 @@ use Rattle.std.specs.Prelude.{is_some}
 use Rattle.std.proofs.lemmas.Result.{err_from_is_err_and}
 use Rattle.device_spec.specs.Remains.{handles_command, object_handles, session_handles}
 use Rattle.device_port.specs.Device.{Transmission, asked_of, last_of}
+use Rattle.device_port.proofs.Sending.{sends_one}
 use Rattle.device_laws.proofs.Listing.{loaded_are_listed, objects_are_listed, saved_are_listed}
 use Rattle.device_start.specs.Start.{answered}
 use Rattle.device_start.proofs.Found.{finds, list_has, list_runs, list_told, runs_few, runs_now, stays_few}
@@ -38,7 +39,7 @@ returns-in_err-ask-clause-attempts g c =
     let e = c.in_err-ask.field-0.0 in
     let asks = c.in_err-ask.ensures.asks in
     attempts_failed {A = Unit {0}} seen _ _ e c.from_residual-in_err-ask.result (err_from_is_err_and c.from_residual-in_err-ask.result c.from_residual-in_err-ask.ensures.1)
-    (attempts_then seen _ c.start_up.new.device _ tt (Err e) tries0 asks.own asks.cause asks.base asks.count (few_then _ (seen c.start_up.new.device).state _ (runs_few _ _ runs0) (stays_few _ _ asks.err)))
+    (attempts_then seen _ c.start_up.new.device _ tt (Err e) tries0 (sends_one seen _ _ _ _ asks) asks.cause asks.base asks.count (few_then _ (seen c.start_up.new.device).state _ (runs_few _ _ runs0) (stays_few _ _ asks.err)))
 
 pub ask-requires-2-clause-told : goal.ask-requires-2-clause-told
 ask-requires-2-clause-told g c =
@@ -49,7 +50,7 @@ ask-requires-2-clause-told g c =
     let told0 = g.met.D.Device.told_together c.start_up.new.device ∙ ap is_some tries0.base ∙ sym (g.met.D.Device.told_together c.args.device.now) in
     let list1 = c.in_ok-ask.ensures in
     let runs1 = list_runs 0x80000000 object_handles _ _ _ _ objects_are_listed c.requires.sound runs0 list1.ok in
-    let tries1 = attempts_more seen c.args.device.now c.start_up.new.device c.ask.new.device tries0 list1.asks.own list1.asks.base list1.asks.count (runs_few _ _ runs1) in
+    let tries1 = attempts_more seen c.args.device.now c.start_up.new.device c.ask.new.device tries0 (sends_one seen _ _ _ _ list1.asks) list1.asks.base list1.asks.count (runs_few _ _ runs1) in
     let told1 = g.met.D.Device.told_together c.ask.new.device ∙ ap is_some tries1.base ∙ sym (g.met.D.Device.told_together c.args.device.now) in
     list_told 0x02000000 (session_handles true) _ _ loaded_are_listed told1 c.requires.sound runs1
 
@@ -62,12 +63,12 @@ returns-in_err-ask-2-clause-attempts g c =
     let told0 = g.met.D.Device.told_together c.start_up.new.device ∙ ap is_some tries0.base ∙ sym (g.met.D.Device.told_together c.args.device.now) in
     let list1 = c.in_ok-ask.ensures in
     let runs1 = list_runs 0x80000000 object_handles _ _ _ _ objects_are_listed c.requires.sound runs0 list1.ok in
-    let tries1 = attempts_more seen c.args.device.now c.start_up.new.device c.ask.new.device tries0 list1.asks.own list1.asks.base list1.asks.count (runs_few _ _ runs1) in
+    let tries1 = attempts_more seen c.args.device.now c.start_up.new.device c.ask.new.device tries0 (sends_one seen _ _ _ _ list1.asks) list1.asks.base list1.asks.count (runs_few _ _ runs1) in
     let told1 = g.met.D.Device.told_together c.ask.new.device ∙ ap is_some tries1.base ∙ sym (g.met.D.Device.told_together c.args.device.now) in
     let e = c.in_err-ask-2.field-0.0 in
     let asks = c.in_err-ask-2.ensures.asks in
     attempts_failed {A = Unit {0}} seen _ _ e c.from_residual-in_err-ask-2.result (err_from_is_err_and c.from_residual-in_err-ask-2.result c.from_residual-in_err-ask-2.ensures.1)
-    (attempts_then seen _ c.ask.new.device _ tt (Err e) tries1 asks.own asks.cause asks.base asks.count (few_then _ (seen c.ask.new.device).state _ (runs_few _ _ runs1) (stays_few _ _ asks.err)))
+    (attempts_then seen _ c.ask.new.device _ tt (Err e) tries1 (sends_one seen _ _ _ _ asks) asks.cause asks.base asks.count (few_then _ (seen c.ask.new.device).state _ (runs_few _ _ runs1) (stays_few _ _ asks.err)))
 
 pub ask-requires-3-clause-told : goal.ask-requires-3-clause-told
 ask-requires-3-clause-told g c =
@@ -78,11 +79,11 @@ ask-requires-3-clause-told g c =
     let told0 = g.met.D.Device.told_together c.start_up.new.device ∙ ap is_some tries0.base ∙ sym (g.met.D.Device.told_together c.args.device.now) in
     let list1 = c.in_ok-ask.ensures in
     let runs1 = list_runs 0x80000000 object_handles _ _ _ _ objects_are_listed c.requires.sound runs0 list1.ok in
-    let tries1 = attempts_more seen c.args.device.now c.start_up.new.device c.ask.new.device tries0 list1.asks.own list1.asks.base list1.asks.count (runs_few _ _ runs1) in
+    let tries1 = attempts_more seen c.args.device.now c.start_up.new.device c.ask.new.device tries0 (sends_one seen _ _ _ _ list1.asks) list1.asks.base list1.asks.count (runs_few _ _ runs1) in
     let told1 = g.met.D.Device.told_together c.ask.new.device ∙ ap is_some tries1.base ∙ sym (g.met.D.Device.told_together c.args.device.now) in
     let list2 = c.in_ok-ask-2.ensures in
     let runs2 = list_runs 0x02000000 (session_handles true) _ _ _ _ loaded_are_listed c.requires.sound runs1 list2.ok in
-    let tries2 = attempts_more seen c.args.device.now c.ask.new.device c.ask-2.new.device tries1 list2.asks.own list2.asks.base list2.asks.count (runs_few _ _ runs2) in
+    let tries2 = attempts_more seen c.args.device.now c.ask.new.device c.ask-2.new.device tries1 (sends_one seen _ _ _ _ list2.asks) list2.asks.base list2.asks.count (runs_few _ _ runs2) in
     let told2 = g.met.D.Device.told_together c.ask-2.new.device ∙ ap is_some tries2.base ∙ sym (g.met.D.Device.told_together c.args.device.now) in
     list_told 0x03000000 (session_handles false) _ _ saved_are_listed told2 c.requires.sound runs2
 
@@ -95,16 +96,16 @@ returns-in_err-ask-3-clause-attempts g c =
     let told0 = g.met.D.Device.told_together c.start_up.new.device ∙ ap is_some tries0.base ∙ sym (g.met.D.Device.told_together c.args.device.now) in
     let list1 = c.in_ok-ask.ensures in
     let runs1 = list_runs 0x80000000 object_handles _ _ _ _ objects_are_listed c.requires.sound runs0 list1.ok in
-    let tries1 = attempts_more seen c.args.device.now c.start_up.new.device c.ask.new.device tries0 list1.asks.own list1.asks.base list1.asks.count (runs_few _ _ runs1) in
+    let tries1 = attempts_more seen c.args.device.now c.start_up.new.device c.ask.new.device tries0 (sends_one seen _ _ _ _ list1.asks) list1.asks.base list1.asks.count (runs_few _ _ runs1) in
     let told1 = g.met.D.Device.told_together c.ask.new.device ∙ ap is_some tries1.base ∙ sym (g.met.D.Device.told_together c.args.device.now) in
     let list2 = c.in_ok-ask-2.ensures in
     let runs2 = list_runs 0x02000000 (session_handles true) _ _ _ _ loaded_are_listed c.requires.sound runs1 list2.ok in
-    let tries2 = attempts_more seen c.args.device.now c.ask.new.device c.ask-2.new.device tries1 list2.asks.own list2.asks.base list2.asks.count (runs_few _ _ runs2) in
+    let tries2 = attempts_more seen c.args.device.now c.ask.new.device c.ask-2.new.device tries1 (sends_one seen _ _ _ _ list2.asks) list2.asks.base list2.asks.count (runs_few _ _ runs2) in
     let told2 = g.met.D.Device.told_together c.ask-2.new.device ∙ ap is_some tries2.base ∙ sym (g.met.D.Device.told_together c.args.device.now) in
     let e = c.in_err-ask-3.field-0.0 in
     let asks = c.in_err-ask-3.ensures.asks in
     attempts_failed {A = Unit {0}} seen _ _ e c.from_residual-in_err-ask-3.result (err_from_is_err_and c.from_residual-in_err-ask-3.result c.from_residual-in_err-ask-3.ensures.1)
-    (attempts_then seen _ c.ask-2.new.device _ tt (Err e) tries2 asks.own asks.cause asks.base asks.count (few_then _ (seen c.ask-2.new.device).state _ (runs_few _ _ runs2) (stays_few _ _ asks.err)))
+    (attempts_then seen _ c.ask-2.new.device _ tt (Err e) tries2 (sends_one seen _ _ _ _ asks) asks.cause asks.base asks.count (few_then _ (seen c.ask-2.new.device).state _ (runs_few _ _ runs2) (stays_few _ _ asks.err)))
 
 pub returns-clause-finds : goal.returns-clause-finds
 returns-clause-finds g c =
@@ -142,15 +143,15 @@ returns-clause-held g c =
     let told0 = g.met.D.Device.told_together c.start_up.new.device ∙ ap is_some tries0.base ∙ sym (g.met.D.Device.told_together c.args.device.now) in
     let list1 = c.in_ok-ask.ensures in
     let runs1 = list_runs 0x80000000 object_handles _ _ _ _ objects_are_listed c.requires.sound runs0 list1.ok in
-    let tries1 = attempts_more seen c.args.device.now c.start_up.new.device c.ask.new.device tries0 list1.asks.own list1.asks.base list1.asks.count (runs_few _ _ runs1) in
+    let tries1 = attempts_more seen c.args.device.now c.start_up.new.device c.ask.new.device tries0 (sends_one seen _ _ _ _ list1.asks) list1.asks.base list1.asks.count (runs_few _ _ runs1) in
     let told1 = g.met.D.Device.told_together c.ask.new.device ∙ ap is_some tries1.base ∙ sym (g.met.D.Device.told_together c.args.device.now) in
     let list2 = c.in_ok-ask-2.ensures in
     let runs2 = list_runs 0x02000000 (session_handles true) _ _ _ _ loaded_are_listed c.requires.sound runs1 list2.ok in
-    let tries2 = attempts_more seen c.args.device.now c.ask.new.device c.ask-2.new.device tries1 list2.asks.own list2.asks.base list2.asks.count (runs_few _ _ runs2) in
+    let tries2 = attempts_more seen c.args.device.now c.ask.new.device c.ask-2.new.device tries1 (sends_one seen _ _ _ _ list2.asks) list2.asks.base list2.asks.count (runs_few _ _ runs2) in
     let told2 = g.met.D.Device.told_together c.ask-2.new.device ∙ ap is_some tries2.base ∙ sym (g.met.D.Device.told_together c.args.device.now) in
     let list3 = c.in_ok-ask-3.ensures in
     let runs3 = list_runs 0x03000000 (session_handles false) _ _ _ _ saved_are_listed c.requires.sound runs2 list3.ok in
-    let tries3 = attempts_more seen c.args.device.now c.ask-2.new.device c.ask-3.new.device tries2 list3.asks.own list3.asks.base list3.asks.count (runs_few _ _ runs3) in
+    let tries3 = attempts_more seen c.args.device.now c.ask-2.new.device c.ask-3.new.device tries2 (sends_one seen _ _ _ _ list3.asks) list3.asks.base list3.asks.count (runs_few _ _ runs3) in
     let told3 = g.met.D.Device.told_together c.ask-3.new.device ∙ ap is_some tries3.base ∙ sym (g.met.D.Device.told_together c.args.device.now) in
     finds _ _ c.ask.new.scratch c.ask-2.new.scratch c.ask-3.new.scratch c.requires.sound runs3 (list_has 0x80000000 object_handles _ _ _ _ objects_are_listed c.requires.sound runs0 list1.ok)
     (list_has 0x02000000 (session_handles true) _ _ _ _ loaded_are_listed c.requires.sound runs1 list2.ok)
@@ -178,14 +179,14 @@ returns-clause-attempts g c =
     let told0 = g.met.D.Device.told_together c.start_up.new.device ∙ ap is_some tries0.base ∙ sym (g.met.D.Device.told_together c.args.device.now) in
     let list1 = c.in_ok-ask.ensures in
     let runs1 = list_runs 0x80000000 object_handles _ _ _ _ objects_are_listed c.requires.sound runs0 list1.ok in
-    let tries1 = attempts_more seen c.args.device.now c.start_up.new.device c.ask.new.device tries0 list1.asks.own list1.asks.base list1.asks.count (runs_few _ _ runs1) in
+    let tries1 = attempts_more seen c.args.device.now c.start_up.new.device c.ask.new.device tries0 (sends_one seen _ _ _ _ list1.asks) list1.asks.base list1.asks.count (runs_few _ _ runs1) in
     let told1 = g.met.D.Device.told_together c.ask.new.device ∙ ap is_some tries1.base ∙ sym (g.met.D.Device.told_together c.args.device.now) in
     let list2 = c.in_ok-ask-2.ensures in
     let runs2 = list_runs 0x02000000 (session_handles true) _ _ _ _ loaded_are_listed c.requires.sound runs1 list2.ok in
-    let tries2 = attempts_more seen c.args.device.now c.ask.new.device c.ask-2.new.device tries1 list2.asks.own list2.asks.base list2.asks.count (runs_few _ _ runs2) in
+    let tries2 = attempts_more seen c.args.device.now c.ask.new.device c.ask-2.new.device tries1 (sends_one seen _ _ _ _ list2.asks) list2.asks.base list2.asks.count (runs_few _ _ runs2) in
     let told2 = g.met.D.Device.told_together c.ask-2.new.device ∙ ap is_some tries2.base ∙ sym (g.met.D.Device.told_together c.args.device.now) in
     let list3 = c.in_ok-ask-3.ensures in
     let runs3 = list_runs 0x03000000 (session_handles false) _ _ _ _ saved_are_listed c.requires.sound runs2 list3.ok in
-    let tries3 = attempts_more seen c.args.device.now c.ask-2.new.device c.ask-3.new.device tries2 list3.asks.own list3.asks.base list3.asks.count (runs_few _ _ runs3) in
+    let tries3 = attempts_more seen c.args.device.now c.ask-2.new.device c.ask-3.new.device tries2 (sends_one seen _ _ _ _ list3.asks) list3.asks.base list3.asks.count (runs_few _ _ runs3) in
     let told3 = g.met.D.Device.told_together c.ask-3.new.device ∙ ap is_some tries3.base ∙ sym (g.met.D.Device.told_together c.args.device.now) in
     tries3

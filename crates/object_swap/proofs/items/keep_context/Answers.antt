@@ -1,13 +1,15 @@
 use Rattle.std.proofs.Common.{◌≡◌, ◌==◌, ap, sym, ◌∙◌, subst, refl, arith, ℕ, true, false, get_or, set, []}
-use Rattle.std.specs.Prelude.{Option, IfSome, IsSomeAnd, is_some}
+use Rattle.std.specs.Prelude.{Option, Ok, Err, IfSome, IsSomeAnd, is_some}
+use Rattle.std.proofs.lemmas.Result.{err_from_is_err_and}
 use Rattle.tab_spec.specs.declared.TheConstants.{HT_TRANSIENT}
 use Rattle.tab_spec.specs.Shape.{octet_of}
 use Rattle.device_port.specs.Device.{last_of}
+use Rattle.device_port.proofs.Sending.{asks_none, asks_some, some_failed}
 use Rattle.object_swap.specs.Moves.{IsLastContext}
 use Rattle.object_swap.specs.declared.record.Record.{Record}
 use Rattle.object_swap.specs.Items.{Item, unsaved}
 use Rattle.object_swap.specs.Records.{items_of}
-use Rattle.object_swap.proofs.Costs.{sent_one, unsaved_fewer, unsaved_one}
+use Rattle.object_swap.proofs.Costs.{none_if_failed, on_err_all, sent_one, unsaved_fewer, unsaved_one}
 use Rattle.object_swap.proofs.Recorded.{can_save, item_new, keeps_same, other_item, record_at, records_set, residency_kept, room_changed, saved_item, saved_swap, was}
 use Rattle.object_swap.proofs.items.keep_context.Goals as goal
 
@@ -116,3 +118,42 @@ returns-clause-costs g c =
         unsaved_fewer records index c.in-Some.handle c.index-records-index.result n c.requires.item.inside c.in-Some.is c.if-record.false c.in-Some.is refl,
       );
     }
+
+pub returns-in_err-save-clause-spends : goal.returns-in_err-save-clause-spends
+returns-in_err-save-clause-spends g c =
+    let records = c.args.records.now in
+    let index = c.args.index in
+    let r = get_or records index c.index-records-index.result in
+    let n : Record = record { client = r.client; handle = r.handle; blob = c.save.new.context; kept = r.kept } in
+    let same = room_changed records index c.index-records-index.result n c.requires.item.inside refl refl c.if-record.false c.if-record.false in
+    let failed = err_from_is_err_and c.from_residual.result c.from_residual.ensures.1 in (
+      none_if_failed _ c.from_residual.result _ failed.1,
+      on_err_all _ c.from_residual.result
+          (omega (arith, sent_one g.D.Device.seen c.args.device.now c.save.new.device _ _ c.in_err-save.ensures.asks, ap unsaved same)),
+    )
+
+pub returns-clause-spends : goal.returns-clause-spends
+returns-clause-spends g c =
+    let records = c.args.records.now in
+    let index = c.args.index in
+    let r = get_or records index c.index-records-index.result in
+    let n : Record = record { client = r.client; handle = r.handle; blob = c.save.new.context; kept = true } in (
+      omega (
+        arith,
+        sent_one g.D.Device.seen c.args.device.now c.save.new.device _ _ c.in_ok-save.ensures.asks,
+        unsaved_fewer records index c.in-Some.handle c.index-records-index.result n c.requires.item.inside c.in-Some.is c.if-record.false c.in-Some.is refl,
+      ),
+      tt,
+    )
+
+pub returns-then-record-clause-asks : goal.returns-then-record-clause-asks
+returns-then-record-clause-asks g c = asks_none g.D.Device.seen c.args.device.now
+
+pub returns-in_err-save-clause-asks : goal.returns-in_err-save-clause-asks
+returns-in_err-save-clause-asks g c =
+    let seen = g.D.Device.seen in
+    some_failed seen _ _ _ c.from_residual.result (err_from_is_err_and c.from_residual.result c.from_residual.ensures.1)
+    (asks_some seen _ _ _ (Err _) c.in_err-save.ensures.asks)
+
+pub returns-clause-asks : goal.returns-clause-asks
+returns-clause-asks g c = asks_some g.D.Device.seen _ _ _ (Ok tt) c.in_ok-save.ensures.asks

@@ -1,12 +1,13 @@
 use Rattle.std.proofs.Common.{◌≡◌, ap, sym, ◌∙◌, subst, arith, List, ℕ, true, length, take, drop}
-use Rattle.std.specs.Prelude.{IfSome, ◌==◌}
+use Rattle.std.specs.Prelude.{IfSome, Ok, ◌==◌}
 use Rattle.std.specs.Int.{w32, from_be_bytes}
 use Rattle.tab_spec.specs.declared.TheConstants.{HT_TRANSIENT}
 use Rattle.tab_spec.specs.Shape.{octet_of}
 use Rattle.device_spec.specs.Answers.{takes}
 use Rattle.device_spec.specs.Slots.{slot_step}
 use Rattle.device_port.specs.Device.{Answered}
-use Rattle.device_port.specs.Own.{IsOwn, Succeeds}
+use Rattle.device_port.specs.Own.{Asks, IsOwn, Succeeds}
+use Rattle.device_port.proofs.Sending.{asks_ok}
 use Rattle.object_swap.specs.Moves.{IsLeast}
 use Rattle.object_swap.proofs.Commands.{last_handle, load_is_own, loaded_handle, saved}
 use Rattle.object_swap.proofs.Told.{load_answered, load_told}
@@ -62,3 +63,10 @@ returns-clause-transient g c =
     (subst (λ (bytes : List ℕ). Succeeds bytes c.ask.new.scratch) is c.in_ok-ask.ensures.success) in
     subst (λ (handle : ℕ). (octet_of handle == HT_TRANSIENT) ≡ true)
     (sym (c.handle_of.ensures ∙ ap (λ (reply : List ℕ). from_be_bytes w32 (take 4 (drop 10 reply))) c.as_slice-2.ensures.value)) handled.transient
+
+pub returns-clause-asks : goal.returns-clause-asks
+returns-clause-asks g c =
+    let seen = g.D.Device.seen in
+    let is = c.as_slice.ensures.same ∙ c.command_of-command.ensures in
+    subst (λ (bytes : List ℕ). Asks seen c.args.device.now c.ask.new.device bytes (Ok c.handle_of.result)) is
+    (asks_ok seen _ _ _ tt c.handle_of.result c.in_ok-ask.ensures.asks)

@@ -8,9 +8,29 @@ use Rattle.object_swap.proofs.Costs.{none_if_failed, number_listed, on_err_all}
 use Rattle.object_swap.proofs.Listed.{apart_needed, kept_still}
 use Rattle.object_swap.proofs.Missing.{chosen, fit_alone, listed_residents, missing_same, some_chosen}
 use Rattle.object_swap.proofs.Order.{leaves_least, leaves_more}
-use Rattle.device_port.proofs.Sending.{asks_then, some_failed}
-use Rattle.object_swap.proofs.Recorded.{ready_again, swaps_then}
+use Rattle.device_port.proofs.Sending.{asks_none, asks_then, some_failed}
+use Rattle.object_swap.proofs.Recorded.{ready_again, swaps_none, swaps_then}
 use Rattle.object_swap.proofs.residents.clear_slots.Goals as goal
+
+pub loop-loaded-init : goal.loop-loaded-init
+loop-loaded-init g c =
+    let items = items_of c.args.records.now in
+    let none : 0 ≡ residents items - residents items = omega arith in
+    record {
+      swaps = swaps_none g.D.Device.seen c.args.device.now c.args.records.now c.requires.ready;
+      listed = c.requires.listed;
+      fewer = λ index out. out;
+      stay = λ index is. refl;
+      kept = λ index is. refl;
+      order = ap (λ (n : ℕ). without_first n c.args.needed.now c.args.loaded.now.items) none;
+      least = omega arith;
+      less = omega arith;
+      sent = omega arith;
+      saved = omega arith;
+      spends = omega arith;
+      idle = λ few. (refl, refl);
+      asks = asks_none g.D.Device.seen c.args.device.now;
+    }
 
 pub unwrap-at-requires : goal.unwrap-at-requires
 unwrap-at-requires g c =
@@ -84,6 +104,7 @@ loop-loaded-preserved g c =
         ap (λ (n : ℕ). unsaved_of items (first_unneeded n needed first)) count,
       );
       saved = omega (arith, less, held.saved, costs.saved);
+      spends = omega (arith, count, held.spends, next.leaves.spends);
       idle = λ few. absurd (omega (arith, few, full, was, held.less));
       asks = asks_then g.D.Device.seen c.args.device.now c.loop-loaded.device c.put_away.new.device tt _ held.asks next.asks;
     }
@@ -100,6 +121,7 @@ returns-clause-evicts g c =
       stay = held.stay;
       left = omega (arith, few, is, held.least, held.less);
       order = held.order ∙ ap (λ (n : ℕ). without_first n c.args.needed.now c.args.loaded.now.items) count;
+      spends = omega (arith, count, held.spends);
       failed = tt;
       kept = held.kept;
       sent = omega (
@@ -135,7 +157,13 @@ returns-in_err-put_away-clause-evicts g c =
       stay = λ other is. next.leaves.others other (apart_needed needed index other chosen.1 is) ∙ held.stay other is;
       left = none_if_failed _ c.from_residual.result _ failed.1;
       order = none_if_failed _ c.from_residual.result _ failed.1;
-      failed = on_err_all _ c.from_residual.result (gone, omega (arith, within), next.leaves.failed ∙ held.order);
+      spends = none_if_failed _ c.from_residual.result _ failed.1;
+      failed = on_err_all _ c.from_residual.result (
+        gone,
+        omega (arith, within),
+        next.leaves.failed ∙ held.order,
+        omega (arith, held.spends, next.leaves.spends),
+      );
       kept = none_if_failed _ c.from_residual.result _ failed.1;
       sent = omega (
         arith,
@@ -155,3 +183,7 @@ returns-in_err-put_away-clause-asks g c =
     let returned = c.from_residual in
     asks_then g.D.Device.seen _ c.loop-loaded.device _ tt returned.result c.loop-loaded.invariant.asks
     (some_failed g.D.Device.seen c.loop-loaded.device _ _ returned.result (err_from_is_err_and returned.result returned.ensures.1) c.in_err-put_away.ensures.asks)
+
+pub returns-in_err-put_away-clause-swaps : goal.returns-in_err-put_away-clause-swaps
+returns-in_err-put_away-clause-swaps g c =
+    swaps_then g.D.Device.seen c.args.device.now c.loop-loaded.device _ c.args.records.now c.loop-loaded.records _ c.loop-loaded.invariant.swaps c.put_away.ensures.swaps

@@ -5,7 +5,7 @@ use Rattle.device_port.specs.Own.{AsksSome}
 use Rattle.device_port.specs.Use.{first_unneeded, is_among, without_first}
 use Rattle.object_swap.specs.Items.{is_resident, item_at, residents, unsaved, unsaved_of}
 use Rattle.object_swap.specs.Records.{ListsResidents, NoMore, items_of, residency}
-use Rattle.object_swap.specs.Moves.{Swaps}
+use Rattle.object_swap.specs.Moves.{Spends, Swaps}
 use Rattle.object_swap.proofs.residents.clear_slots.Given as goal
 
 abbrev pub invariant-loop-loaded : goal.invariant-loop-loaded
@@ -25,6 +25,7 @@ invariant-loop-loaded g l =
       sent : sent_of (D.seen l.device) ≤ sent_of (D.seen l.fn.device) + (residents items - residents new_items)
           + unsaved_of items (first_unneeded (residents items - residents new_items) l.needed l.fn.loaded.items);
       saved : unsaved items + residents new_items ≤ unsaved new_items + residents items;
+      spends : Spends D.seen l.fn.device l.device l.fn.records l.records (residents items - residents new_items);
       idle : residents items ≤ l.most → (l.device ≡ l.fn.device) × (l.records ≡ l.fn.records);
       asks : AsksSome {A = Unit {0}} D.seen l.fn.device l.device (Ok tt);
     }

@@ -9,10 +9,25 @@ use Rattle.object_swap.proofs.Costs.{none_if_failed, on_err_all}
 use Rattle.object_swap.proofs.Listed.{all_resident, among_itself, apart_among, filled_more, flags_length, named_again, named_inside, needed_at, stay_brought, stay_then}
 use Rattle.object_swap.proofs.Missing.{brought_next, none_missing_past, resident_needed, same_residents, some_missing}
 use Rattle.object_swap.proofs.Order.{used_all, used_next}
-use Rattle.device_port.proofs.Sending.{asks_then, some_failed}
-use Rattle.object_swap.proofs.Recorded.{swaps_then}
+use Rattle.device_port.proofs.Sending.{asks_none, asks_then, some_failed}
+use Rattle.object_swap.proofs.Recorded.{swaps_none, swaps_then}
 use Rattle.object_swap.proofs.Room.{room_again, room_left}
 use Rattle.object_swap.proofs.residents.fill_slots.Goals as goal
+
+pub loop-item-init : goal.loop-item-init
+loop-item-init g c = record {
+  swaps = swaps_none g.D.Device.seen c.args.device.now c.args.records.now c.requires.ready;
+  listed = c.requires.listed;
+  filled = λ k inside. absurd (omega arith);
+  stay = λ index is. refl;
+  others = λ index apart. refl;
+  order = refl;
+  left = refl;
+  sent = omega arith;
+  paid = omega arith;
+  idle = λ all. (refl, refl);
+  asks = asks_none g.D.Device.seen c.args.device.now;
+}
 
 pub make_resident-requires-clause-named : goal.make_resident-requires-clause-named
 make_resident-requires-clause-named g c =
@@ -58,6 +73,7 @@ loop-item-preserved g c =
       order = brings.order ∙ ap (λ (l : List ℕ). used_after l (get_or needed index 0)) held.order
           ∙ used_next needed c.args.loaded.now.items index inside;
       left = sym (brought_next needed index records new inside fits brings.resident) ∙ held.left;
+      sent = omega (arith, held.sent, brings.sent);
       paid = omega (arith, held.paid, brings.paid);
       idle = λ all.
           let so_far = held.idle all in
@@ -109,7 +125,7 @@ returns-in_err-make_resident-clause-fills g c =
       count = none_if_failed _ c.from_residual.result _ failed.1;
       few = omega (arith, held.left, same_residents records new brings.failed);
       order = none_if_failed _ c.from_residual.result _ failed.1;
-      failed = on_err_all _ c.from_residual.result (index, brings.unused ∙ held.order);
+      failed = on_err_all _ c.from_residual.result (index, brings.unused ∙ held.order, omega (arith, held.sent, brings.sent));
       sent = omega (arith, held.left, held.paid, brings.sent, some);
       idle = λ all.
           let so_far = held.idle all in

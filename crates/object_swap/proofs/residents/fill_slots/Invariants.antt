@@ -21,6 +21,7 @@ invariant-loop-item g l =
       others : (index : ℕ) → is_among l.needed index ≡ false → item_at new_items index ≡ item_at items index;
       order : l.loaded.items ≡ all_used l.fn.loaded.items (take l.item-index l.needed);
       left : missing (drop l.item-index l.needed) new_items + residents new_items ≡ missing l.needed items + residents items;
+      sent : sent_of (D.seen l.device) ≤ sent_of (D.seen l.fn.device) + l.item-index;
       paid : sent_of (D.seen l.device) + residents items ≤ sent_of (D.seen l.fn.device) + residents new_items;
       idle : AreResident l.needed items → (l.device ≡ l.fn.device) × (l.records ≡ l.fn.records);
       asks : AsksSome {A = Unit {0}} D.seen l.fn.device l.device (Ok tt);

@@ -1,6 +1,8 @@
 use Rattle.std.proofs.Common.{ap, sym, ◌∙◌, subst, arith, refl, List, ℕ, Bool, [], ◌∷◌, ◌++◌}
+use Rattle.std.specs.Prelude.{Ok, Err}
 use Rattle.std.proofs.lemmas.Bool.{false≢true}
 use Rattle.std.proofs.lemmas.Result.{err_from_is_err_and}
+use Rattle.device_port.proofs.Sending.{asks_none, asks_some, some_failed}
 use Rattle.object_swap.specs.Records.{ListsFlags, items_of, residency}
 use Rattle.object_swap.proofs.Costs.{none_if_failed, on_err_all, sent_one}
 use Rattle.object_swap.proofs.Flags.{flag_listed, lists_added}
@@ -89,3 +91,15 @@ returns-in_err-take_slot-clause-brings g c =
       paid = none_if_failed _ c.from_residual.result _ failed.1;
       idle = λ here. absurd (false≢true (sym item.slot ∙ here));
     }
+
+pub returns-then-is_in_slot-clause-asks : goal.returns-then-is_in_slot-clause-asks
+returns-then-is_in_slot-clause-asks g c = asks_none g.D.Device.seen c.args.device.now
+
+pub returns-in_err-take_slot-clause-asks : goal.returns-in_err-take_slot-clause-asks
+returns-in_err-take_slot-clause-asks g c =
+    let seen = g.D.Device.seen in
+    some_failed seen _ _ _ c.from_residual.result (err_from_is_err_and c.from_residual.result c.from_residual.ensures.1)
+    (asks_some seen _ _ _ (Err _) c.in_err-take_slot.ensures.asks.2)
+
+pub returns-clause-asks : goal.returns-clause-asks
+returns-clause-asks g c = asks_some g.D.Device.seen _ _ _ (Ok tt) c.in_ok-take_slot.ensures.asks.2

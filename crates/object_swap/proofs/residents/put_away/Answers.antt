@@ -50,6 +50,7 @@ returns-in_err-keep_context-clause-leaves g c =
         sent = omega (arith, left.costs.sent, ap (λ (n : ℕ). number (is_unsaved (item_at (items_of c.args.records.now) n))) here);
         saved = left.costs.saved;
       };
+      spends = left.spends.1;
       out = none_if_failed _ returned.result _ failed.1;
       order = none_if_failed _ returned.result _ failed.1;
       failed = on_err_all _ returned.result refl;
@@ -71,6 +72,7 @@ returns-in_err-leave_slot-clause-leaves g c =
       costs = costs_then g.D.Device.seen c.args.device.now c.keep_context.new.device c.leave_slot.new.device c.args.records.now c.keep_context.new.records
           c.leave_slot.new.records _ _ (ap (λ (n : ℕ). number (is_unsaved (item_at (items_of c.args.records.now) n)) + 1) here)
           saved.costs left.others.1 (sent_one g.D.Device.seen c.keep_context.new.device c.leave_slot.new.device _ _ left.asks.2);
+      spends = omega (arith, saved.spends.0, left.others.1, sent_one g.D.Device.seen c.keep_context.new.device c.leave_slot.new.device _ _ left.asks.2);
       out = none_if_failed _ returned.result _ failed.1;
       order = none_if_failed _ returned.result _ failed.1;
       failed = on_err_all _ returned.result refl;
@@ -92,6 +94,7 @@ returns-clause-leaves g c =
       costs = costs_then g.D.Device.seen c.args.device.now c.keep_context.new.device c.leave_slot.new.device c.args.records.now c.keep_context.new.records
           c.leave_slot.new.records _ _ (ap (λ (n : ℕ). number (is_unsaved (item_at (items_of c.args.records.now) n)) + 1) here)
           saved.costs left.others.1 (sent_one g.D.Device.seen c.keep_context.new.device c.leave_slot.new.device _ _ left.asks.2);
+      spends = omega (arith, saved.spends.0, left.others.1, sent_one g.D.Device.seen c.keep_context.new.device c.leave_slot.new.device _ _ left.asks.2);
       out = is_out c.leave_slot.new.records flags d _ flags_are here;
       order = c.remove.ensures.items;
       failed = tt;

@@ -97,7 +97,7 @@ returns-clause-room g c =
       fits = omega (arith, count.count, count.most, c.requires.needed.fits);
       some = omega (arith, count.count, count.most);
       few = c.requires.needed.few;
-    }) c.in_ok-clear_slots.ensures.evicts c.fill_slots.ensures.fills swaps.keeps c.fill_slots.ensures.listed.lists
+    }) c.in_ok-clear_slots.ensures.evicts c.fill_slots.ensures.fills c.fill_slots.ensures.swaps.keeps.objects swaps.keeps c.fill_slots.ensures.listed.lists
 
 pub returns-in_err-clear_slots-clause-room : goal.returns-in_err-clear_slots-clause-room
 returns-in_err-clear_slots-clause-room g c =

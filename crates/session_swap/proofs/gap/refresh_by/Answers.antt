@@ -3,6 +3,7 @@ use Rattle.std.specs.Prelude.{Ok, min}
 use Rattle.std.proofs.lemmas.Result.{err_from_is_err_and}
 use Rattle.device_port.specs.Device.{sent_of}
 use Rattle.device_port.proofs.Sending.{asks_none, asks_then, some_failed}
+use Rattle.session_swap.proofs.Asking.{some_ok}
 use Rattle.session_swap.specs.Items.{KeepsRecent, counter_of, full_kept, gap_kept, saved_items}
 use Rattle.session_swap.proofs.Refreshed.{begins, counted_first, counted_next, counter_next, counts_all, counts_next, few_all, few_saved, goes_on, kept_most, kept_none, narrow_all, narrow_kept, order_next, order_start, sent_next, stays_recent, steps_last, steps_next, visited_failed}
 use Rattle.session_swap.proofs.Renewed.{one_left, told_all}
@@ -210,6 +211,14 @@ returns-in_err-renew_by-clause-asks g c =
     asks_then seen c.args.device.now c.loop-renewed.device c.renew_by.new.device tt c.from_residual.result c.loop-renewed.invariant.asks
     (some_failed seen c.loop-renewed.device c.renew_by.new.device _ c.from_residual.result
     (err_from_is_err_and c.from_residual.result c.from_residual.ensures.1) c.in_err-renew_by.ensures.asks)
+
+pub returns-in_default-clause-asks : goal.returns-in_default-clause-asks
+returns-in_default-clause-asks g c =
+    some_ok g.D.Device.seen c.args.device.now c.loop-renewed.device tt c.loop-renewed.renewed c.loop-renewed.invariant.asks
+
+pub returns-clause-asks : goal.returns-clause-asks
+returns-clause-asks g c =
+    some_ok g.D.Device.seen c.args.device.now c.loop-renewed.device tt c.from-most.result c.loop-renewed.invariant.asks
 
 pub returns-in_default-clause-counted : goal.returns-in_default-clause-counted
 returns-in_default-clause-counted g c = omega (arith, c.loop-renewed.invariant.counted, c.due.ensures.rises)

@@ -5,7 +5,7 @@ use Rattle.tab_spec.specs.declared.TheConstants.{LOADED_SESSIONS}
 use Rattle.session_swap.specs.Items.{counter_of, is_loaded_item, is_saved_item, item_at, loaded_items}
 use Rattle.session_swap.specs.Records.{items_of}
 use Rattle.session_swap.proofs.Among.{named_is}
-use Rattle.device_port.proofs.Sending.{some_failed}
+use Rattle.device_port.proofs.Sending.{asks_none, some_failed}
 use Rattle.session_swap.proofs.Asking.{asks_loaded, sent_loaded}
 use Rattle.session_swap.proofs.Bringing.{brings_idle, brings_none, brings_one}
 use Rattle.session_swap.proofs.Listing.{listed_once, not_listed, unsaved_by}
@@ -97,6 +97,9 @@ returns-clause-brings g c =
     brings_one seen c.args.device.now c.bring_in.new.device records c.bring_in.new.records c.args.order.now c.move_in.new.self
     number c.args.handle c.number_of-number.ensures fits c.requires.named out loads.loaded_is loads.items_are c.move_in.ensures.order
     (sent_loaded seen c.args.device.now c.bring_in.new.device (Ok tt) (item_at (items_of records) number) c.in_ok-bring_in.ensures.asks)
+
+pub returns-then-is_loaded-clause-asks : goal.returns-then-is_loaded-clause-asks
+returns-then-is_loaded-clause-asks g c = asks_none g.D.Device.seen c.args.device.now
 
 pub returns-clause-asks : goal.returns-clause-asks
 returns-clause-asks g c =

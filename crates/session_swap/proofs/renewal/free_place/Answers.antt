@@ -6,6 +6,7 @@ use Rattle.device_spec.specs.Slots.{SlotState}
 use Rattle.device_spec.specs.ContextCommands.{context_save_command}
 use Rattle.session_swap.specs.Items.{HasGapRoom, Item, counter_of, full_kept, is_loaded_item, item_at, loaded_items, number_of_item, oldest_number, saved_items}
 use Rattle.session_swap.specs.Records.{items_of}
+use Rattle.device_port.proofs.Sending.{asks_none}
 use Rattle.session_swap.proofs.Asking.{asks_any, on_ok_both, sent_any}
 use Rattle.session_swap.proofs.Listing.{listed_once, listed_there, on_err_weaker}
 use Rattle.session_swap.proofs.Readying.{order_first, order_none, ready_saved, some_first}
@@ -137,6 +138,9 @@ returns-clause-counts g c =
         kept_full (items_of records) (omega (arith, full, c.requires.ready.listed.lists.count, c.requires.ready.listed.most)),
       ),
     )
+
+pub returns-then-loaded-clause-asks : goal.returns-then-loaded-clause-asks
+returns-then-loaded-clause-asks g c = asks_none g.D.Device.seen c.args.device.now
 
 pub returns-clause-asks : goal.returns-clause-asks
 returns-clause-asks g c =

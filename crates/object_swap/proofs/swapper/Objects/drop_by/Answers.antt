@@ -1,8 +1,9 @@
 use Rattle.std.proofs.Common.{◌≡◌, get_or, List, ℕ, ap, sym, ◌∙◌, subst, refl, set}
-use Rattle.std.specs.Prelude.{Option, Result, Err, is_some, vec_capacity}
+use Rattle.std.specs.Prelude.{Option, Result, Ok, Err, is_some, vec_capacity}
 use Rattle.std.proofs.lemmas.Result.{err_from_is_err_and}
 use Rattle.device_spec.specs.ContextCommands.{flush_context_command}
 use Rattle.device_port.specs.Own.{Asks}
+use Rattle.device_port.proofs.Sending.{asks_none, asks_some, some_failed}
 use Rattle.device_port.specs.declared.own.SwapError.{SwapError}
 use Rattle.device_port.specs.Use.{without_one}
 use Rattle.object_swap.specs.declared.record.Record.{Record}
@@ -134,3 +135,15 @@ returns-in_err-flush-clause-sent g c =
     let asks = subst (λ (r : Result (Unit {0}) SwapError). Asks g.D.Device.seen c.args.device.now c.flush.new.device (flush_context_command c.in-Some.handle) r) (sym (failed.1 ∙ ap (λ (e : SwapError). Err e) failed.2))
     c.in_err-flush.ensures.asks in
     of_handle _ _ (item_at c.args.self.now.items c.args.item).slot c.in-Some.handle met.slot met.transient asks
+
+pub returns-in_default-clause-asks : goal.returns-in_default-clause-asks
+returns-in_default-clause-asks g c = asks_none g.D.Device.seen c.args.device.now
+
+pub returns-in_err-flush-clause-asks : goal.returns-in_err-flush-clause-asks
+returns-in_err-flush-clause-asks g c =
+    let seen = g.D.Device.seen in
+    some_failed seen _ _ _ c.from_residual.result (err_from_is_err_and c.from_residual.result c.from_residual.ensures.1)
+    (asks_some seen _ _ _ (Err _) c.in_err-flush.ensures.asks)
+
+pub returns-clause-asks : goal.returns-clause-asks
+returns-clause-asks g c = asks_some g.D.Device.seen _ _ _ (Ok tt) c.in_ok-flush.ensures.asks

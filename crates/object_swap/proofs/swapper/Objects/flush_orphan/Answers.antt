@@ -1,12 +1,13 @@
 use Rattle.std.proofs.Common.{arith, List, [], ◌∷◌, ℕ, true, length, length-append, map, ap, sym, ◌∙◌, subst}
-use Rattle.std.specs.Prelude.{◌≤◌, Bool, Ok, OnErr, Option, Result}
+use Rattle.std.specs.Prelude.{◌≤◌, Bool, false, Ok, Err, OnErr, Option, Result}
 use Rattle.std.proofs.lemmas.Result.{err_from_is_err_and}
 use Rattle.device_spec.specs.ContextCommands.{flush_context_command}
 use Rattle.device_spec.specs.Slots.{SlotState, slot_of}
 use Rattle.device_port.specs.Own.{Asks}
 use Rattle.device_port.specs.declared.own.SwapError.{SwapError}
-use Rattle.device_port.proofs.Sending.{asks_failed, asks_ok}
+use Rattle.device_port.proofs.Sending.{asks_failed, asks_none, asks_ok, asks_some, some_failed}
 use Rattle.object_swap.specs.Items.{Item, ObjectsView, Stand, counter_of, objects_of}
+use Rattle.object_swap.proofs.Costs.{some_ok}
 use Rattle.object_swap.proofs.Moved.{emptied_counter}
 use Rattle.object_swap.proofs.Orphans.{can_flush_last, last_flushed}
 use Rattle.object_swap.proofs.Vacancies.{held_popped}
@@ -97,3 +98,15 @@ returns-clause-sent g c left slot is =
     c.deref.ensures.value c.in-Some.ensures.value c.self.invariant.held.transient in
     subst (λ (handle : ℕ). Asks seen c.args.device.now c.flush.new.device (flush_context_command handle) (Ok true)) (sym (last.handle left slot is))
     (asks_ok seen c.args.device.now c.flush.new.device (flush_context_command c.in-Some.handle.now) tt true c.in_ok-flush.ensures.asks)
+
+pub returns-in_default-clause-asks : goal.returns-in_default-clause-asks
+returns-in_default-clause-asks g c = some_ok g.D.Device.seen _ _ tt false (asks_none g.D.Device.seen c.args.device.now)
+
+pub returns-in_err-flush-clause-asks : goal.returns-in_err-flush-clause-asks
+returns-in_err-flush-clause-asks g c =
+    let seen = g.D.Device.seen in
+    some_failed seen _ _ _ c.from_residual.result (err_from_is_err_and c.from_residual.result c.from_residual.ensures.1)
+    (asks_some seen _ _ _ (Err _) c.in_err-flush.ensures.asks)
+
+pub returns-clause-asks : goal.returns-clause-asks
+returns-clause-asks g c = some_ok g.D.Device.seen _ _ tt true (asks_some g.D.Device.seen _ _ _ (Ok tt) c.in_ok-flush.ensures.asks)
