@@ -28,7 +28,7 @@ use Rattle.broker_lock.specs.declared.calls.Told.{Told}
 use Rattle.broker_lock.specs.declared.calls.Told.TheVariants as tolds
 use Rattle.client_machine.specs.declared.held.Held.{Held}
 use Rattle.broker_core.specs.Broker.{BrokerView, IsEntered, Tells, TellsNoRoom, checked, Costs}
-use Rattle.client_machine.specs.Moves.{Executes, IsAtHand, IsCalm, IsFlushSent, KeepsOwners, UsedLast, moves_for, named_objects, places_needed, slots_of, any_client, client_reply, first_handle, flush_of, pick_of, tells_context, saved_number}
+use Rattle.client_machine.specs.Moves.{Executes, FailsAtLast, IsAtHand, IsCalm, IsFlushSent, KeepsOwners, UsedLast, moves_for, named_objects, places_needed, slots_of, any_client, client_reply, first_handle, flush_of, pick_of, tells_context, saved_number}
 use Rattle.client_machine.specs.Settled.{orphan_count}
 use Rattle.client_machine.specs.Tables.{device_handle, flush_fault_of, flush_sent, flush_sent_unless, flushed_handle, owned_handles, slot_handle, tables_had}
 use Rattle.broker_core.specs.Tables.{table_of}
@@ -73,10 +73,11 @@ entered_refused seen old new client number bytes reply code refused is_reply roo
 
 pub entered_faulted : {D : Type 0} (seen : D → Seen) (old new : BrokerView D) (client number count : ℕ) (bytes reply : List ℕ) (a : Admitted)
     → checked old client bytes ≡ Ok a → reply ≡ error_reply RC_DEVICE_FAULT → count ≡ (seen new.device).faults → HasRoom old.limit old.journal bytes
-    → new.journal ≡ old.journal ++ fault_entry client number count bytes reply ∷ [] → Rose (seen old.device).faults (seen new.device).faults × (last_of (seen new.device) ≡ None) → new.tables ≡ old.tables
+    → new.journal ≡ old.journal ++ fault_entry client number count bytes reply ∷ [] → Rose (seen old.device).faults (seen new.device).faults × (last_of (seen new.device) ≡ None)
+    → FailsAtLast seen old.device new.device → new.tables ≡ old.tables
     → owned_handles new.held.sessions.items ≡ owned_handles old.held.sessions.items → KeepsOwners any_client old.held.objects.items new.held.objects.items
     → IsEntered seen old new client number bytes reply
-entered_faulted seen old new client number count bytes reply a admitted is_reply is_count room entered failed tables sessions objects = record {
+entered_faulted seen old new client number count bytes reply a admitted is_reply is_count room entered failed sent tables sessions objects = record {
   e = fault_entry client number count bytes reply;
   entered = entered;
   reply_is = refl;
@@ -87,6 +88,7 @@ entered_faulted seen old new client number count bytes reply a admitted is_reply
     entry = ap (λ (r : List ℕ). fault_entry client number count bytes r) is_reply ∙ ap (λ (n : ℕ). fault_entry client number n bytes (error_reply RC_DEVICE_FAULT)) is_count;
     rose = failed.0;
     failed = failed.1;
+    sent = sent;
     tables = tables;
     sessions = sessions;
     objects = objects;

@@ -100,7 +100,7 @@ tells {D} seen base (tolds.JournalFull count limit) old new client number bytes 
 }
 tells {D} seen base tolds.Answer old new client number bytes reply low counted none is = (is.0, is.1, none refl)
 
-pub may_leave : (fixed : Fixed) (old new : ℕ) (closed : Closed) → TellsLeft closed old new → (closed ≡ closes.Answer → fixed.base ≡ None)
+pub may_leave : (fixed : Fixed) (old new : Held) (closed : Closed) → TellsLeft closed old new → (closed ≡ closes.Answer → fixed.base ≡ None)
     → lock.MayLeave fixed closed
 may_leave fixed old new closes.Clean left none = tt
 may_leave fixed old new (closes.Orphans count) left none = omega (arith, left.0, left.1)

@@ -27,7 +27,7 @@ use Rattle.world_spec.specs.Legal.{Legal}
 use Rattle.world_spec.specs.World.{world_of}
 use Rattle.client_machine.specs.declared.held.Held.{Held}
 use Rattle.client_machine.specs.Costs.{SendsUpTo, StaysIn, new_bound}
-use Rattle.client_machine.specs.Moves.{Executes, IsAtHand, IsCalm, KeepsOwners, any_client, moves_for, pick_of, saved_number}
+use Rattle.client_machine.specs.Moves.{Executes, FailsAtLast, IsAtHand, IsCalm, KeepsOwners, any_client, moves_for, pick_of, saved_number}
 use Rattle.client_machine.specs.Settled.{orphan_count}
 use Rattle.broker_core.specs.Stands.{Stands}
 use Rattle.client_machine.specs.Tables.{AreOpenOwners, owned_handles, tables_seen}
@@ -146,6 +146,10 @@ seen_by b client = tables_seen client (table_of b.tables client) b.held.sessions
 abbrev pub checked : {D : Type 0} → BrokerView D → ℕ → List ℕ → Result Admitted ℕ
 checked b client bytes = client_admitted (seen_by b client) bytes
 
+-- no step of the order of refusals refuses the command
+abbrev pub IsAdmitted : {D : Type 0} → BrokerView D → ℕ → List ℕ → Type 0
+IsAdmitted b client bytes = (a : Admitted) × (checked b client bytes ≡ Ok a)
+
 -- the journal can take the entry of this command with the largest reply
 abbrev pub IsReadyFor : JournalView → List ℕ → Type 0
 IsReadyFor journal command = kept journal.entries + ENTRY_BYTES + length command + MOST_BYTES ≤ journal.limit
@@ -165,13 +169,14 @@ pub record IsRefused {D : Type 0} (old new : BrokerView D) (client number : ℕ)
   pub entry : e ≡ command_entry client number Nothing bytes (error_reply code)
   pub same : new ≡ record old { journal = old.journal ++ e ∷ [] }
 
--- A transmission failed, and the command wasn't run.
+-- A transmission failed, and the command wasn't run. Nothing was sent after it, and what was sent before it was answered.
 pub record IsFaulted {D : Type 0} (seen : D → Seen) (old new : BrokerView D) (client number : ℕ) (bytes : List ℕ) (e : Entry) : Type 0 where
   pub a : Admitted
   pub admitted : checked old client bytes ≡ Ok a
   pub entry : e ≡ fault_entry client number (seen new.device).faults bytes (error_reply RC_DEVICE_FAULT)
   pub rose : Rose (seen old.device).faults (seen new.device).faults
   pub failed : last_of (seen new.device) ≡ None
+  pub sent : FailsAtLast seen old.device new.device
   pub tables : new.tables ≡ old.tables
   -- each client has the sessions and the objects that it had
   pub sessions : owned_handles new.held.sessions.items ≡ owned_handles old.held.sessions.items
@@ -208,7 +213,8 @@ pub record IsFull {D : Type 0} (old new : BrokerView D) (bytes reply : List ℕ)
 -- what a client is told, and what becomes of the broker
 abbrev pub Tells : {D : Type 0} (seen : D → Seen) → Told → (old new : BrokerView D) (client number : ℕ) (bytes reply : List ℕ) → Type 0
 Tells seen tolds.Entered old new client number bytes reply = IsEntered seen old new client number bytes reply
-Tells seen tolds.Memory old new client number bytes reply = (new ≡ old) × IsToldMemory bytes reply × HasRoom old.limit old.journal bytes
+Tells seen tolds.Memory old new client number bytes reply =
+    (new ≡ old) × IsToldMemory bytes reply × HasRoom old.limit old.journal bytes × IsAdmitted old client bytes
 Tells seen (tolds.JournalFull count limit) old new client number bytes reply = IsFull old new bytes reply count limit
 Tells seen tolds.Answer old new client number bytes reply = (new.journal ≡ old.journal) × (reply ≡ error_reply RC_DEVICE_ANSWER) × (new.tables ≡ old.tables)
 
@@ -233,11 +239,17 @@ TellsCanceled tolds.Memory old new client number upto bytes reply = ⊥
 TellsCanceled (tolds.JournalFull count limit) old new client number upto bytes reply = IsFull old new bytes reply count limit
 TellsCanceled tolds.Answer old new client number upto bytes reply = (new ≡ old) × (reply ≡ error_reply RC_DEVICE_ANSWER)
 
+-- what was left in slots before stays there, with at most so many more as there are orphans more
+abbrev pub HasLeft : (held new_held : Held) → Type 0
+HasLeft held new_held =
+    (more : List ℕ) × (new_held.objects.left ≡ held.objects.left ++ more) × (orphan_count held + length more ≤ orphan_count new_held)
+
 -- what a close tells of what is nobody's: nothing more is, or more, and how much
-abbrev pub TellsLeft : Closed → (orphans new_orphans : ℕ) → Type 0
-TellsLeft closes.Clean orphans new_orphans = new_orphans ≡ orphans
-TellsLeft (closes.Orphans count) orphans new_orphans = (count ≡ new_orphans) × (orphans < new_orphans)
-TellsLeft closes.Answer orphans new_orphans = Unit {0}
+abbrev pub TellsLeft : Closed → (held new_held : Held) → Type 0
+TellsLeft closes.Clean held new_held = (orphan_count new_held ≡ orphan_count held) × (new_held.objects.left ≡ held.objects.left)
+TellsLeft (closes.Orphans count) held new_held =
+    (count ≡ orphan_count new_held) × (orphan_count held < orphan_count new_held) × HasLeft held new_held
+TellsLeft closes.Answer held new_held = Unit {0}
 
 -- why a broker didn't begin: a transmission failed, or the response to it is a wrong answer, and that was the last one; or memory
 -- lacked before anything was sent

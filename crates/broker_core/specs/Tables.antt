@@ -1,6 +1,6 @@
 -- The tables of a broker's clients, and their lists of objects.
-use Rattle.std.specs.Prelude.{◌≡◌, ℕ, true, false, List, [], get_or, Option, Some}
-use Rattle.object_swap.specs.Items.{Item, owner_at}
+use Rattle.std.specs.Prelude.{◌≡◌, ◌≤◌, ℕ, ◌+◌, true, false, List, [], length, get_or, Option, Some}
+use Rattle.object_swap.specs.Items.{Item, has_free_list, owner_at}
 use Rattle.client_machine.specs.declared.held.Held.{Held}
 use Rattle.client_machine.specs.Tables.{IsTable, is_open}
 
@@ -21,6 +21,11 @@ list_of lists client = get_or lists client 0
 pub record ListsStand (present lists : List ℕ) (owners : List (Option ℕ)) : Type 0 where
   pub own : (client : ℕ) → is_open client present ≡ true → owner_at owners (list_of lists client) ≡ Some client
   pub owned : (list client : ℕ) → owner_at owners list ≡ Some client → (is_open client present ≡ true) × (list ≡ list_of lists client)
+
+-- there is one list more at most, and none where one is nobody's
+pub record AddsList (owners new_owners : List (Option ℕ)) : Type 0 where
+  pub again : has_free_list owners ≡ true → length new_owners ≡ length owners
+  pub more : length new_owners ≤ length owners + 1
 
 -- what is held, where these are the owners of the lists of objects
 abbrev pub with_owners : Held → List (Option ℕ) → Held

@@ -23,7 +23,7 @@ ghost use Rattle.broker_lock.specs.declared.calls.Closed.TheVariants as closes;
 ghost use Rattle.broker_core.specs.Broker.{AnswersHold, AreWhole, Costs, FaultsCounted};
 ghost use Rattle.broker_core.specs.Broker.{HasCause, IsAtBase, IsReadyFor, StandsFor, Tells};
 ghost use Rattle.broker_core.specs.Broker.{TellsCanceled, TellsLeft, TellsNoRoom};
-ghost use Rattle.broker_core.specs.Tables.{with_owners};
+ghost use Rattle.broker_core.specs.Tables.{AddsList, with_owners};
 ghost use Rattle.client_machine.specs.Costs.{SendsUpTo, close_bound, own_objects};
 ghost use Rattle.client_machine.specs.Moves as moves;
 ghost use Rattle.client_machine.specs.Moves.{Keeps, tells_context};
@@ -336,6 +336,8 @@ impl<D: Device> Broker<D> {
               tables = self.old.tables ++ [] ∷ [];
               held = with_owners self.old.held self.new.held.objects.owners;
             })) }
+        ensures lists { IfOk result
+            (λ _. AddsList self.old.held.objects.owners self.new.held.objects.owners) }
         ensures err { OnErr result (self.new ≡ self.old) }
         ensures full { (count limit : ℕ) → result ≡ Err (open_errors.JournalFull count limit)
             → (HasRoomForClient self.old.limit self.old.journal → ⊥)
@@ -488,7 +490,7 @@ impl<D: Device> Broker<D> {
           journal = self.old.journal ++ close_entry client ∷ [];
           tables = set self.old.tables client [];
         } }
-        ensures left { TellsLeft result (orphan_count self.old.held) (orphan_count self.new.held) }
+        ensures left { TellsLeft result self.old.held self.new.held }
         // Each object and each session that is left has a failed transmission of its own.
         ensures more { AreLeftByFaults (orphan_count self.old.held) (D.seen self.old.device).faults
             (orphan_count self.new.held) (D.seen self.new.device).faults }
@@ -503,7 +505,8 @@ impl<D: Device> Broker<D> {
         self.close_by(client, &mut Uncounted)
     }
 
-    /// `close_client`, which visits six records at most for each object of the client.
+    /// `close_client`, which visits three to six records for each object of the client; no more than
+    /// six after a wrong answer.
     pub fn close_client_counted<L: Ledger>(&mut self, client: u32, steps: &mut Steps<L>) -> Closed
         requires { IsOpen self.old.journal client }
         ensures closed { (self.new.journal ≡ self.old.journal ++ close_entry client ∷ [])
@@ -514,7 +517,7 @@ impl<D: Device> Broker<D> {
           journal = self.old.journal ++ close_entry client ∷ [];
           tables = set self.old.tables client [];
         } }
-        ensures left { TellsLeft result (orphan_count self.old.held) (orphan_count self.new.held) }
+        ensures left { TellsLeft result self.old.held self.new.held }
         // Each object and each session that is left has a failed transmission of its own.
         ensures more { AreLeftByFaults (orphan_count self.old.held) (D.seen self.old.device).faults
             (orphan_count self.new.held) (D.seen self.new.device).faults }
@@ -525,8 +528,9 @@ impl<D: Device> Broker<D> {
             × (self.new.began ≡ self.old.began) × (self.new.limit ≡ self.old.limit) }
         ensures costs { SendsUpTo D.seen (close_bound client self.old.held)
             self.old.device self.new.device }
-        ensures steps { steps.new
-            ≤ steps.old + 6 * own_objects client self.old.held.objects.items }
+        ensures steps { (steps.new ≤ steps.old + 6 * own_objects client self.old.held.objects.items)
+            × ((result ≡ closes.Answer → ⊥)
+            → steps.old + 3 * own_objects client self.old.held.objects.items ≤ steps.new) }
     {
         self.close_by(client, steps)
     }
@@ -601,7 +605,7 @@ impl<D: Device> Broker<D> {
           journal = self.old.journal ++ close_entry client ∷ [];
           tables = set self.old.tables client [];
         } }
-        ensures left { TellsLeft result (orphan_count self.old.held) (orphan_count self.new.held) }
+        ensures left { TellsLeft result self.old.held self.new.held }
         // Each object and each session that is left has a failed transmission of its own.
         ensures more { AreLeftByFaults (orphan_count self.old.held) (D.seen self.old.device).faults
             (orphan_count self.new.held) (D.seen self.new.device).faults }
@@ -612,8 +616,11 @@ impl<D: Device> Broker<D> {
             × (self.new.began ≡ self.old.began) × (self.new.limit ≡ self.old.limit) }
         ensures costs { SendsUpTo D.seen (close_bound client self.old.held)
             self.old.device self.new.device }
-        ensures steps { C.count steps.new
-            ≤ C.count steps.old + 6 * own_objects client self.old.held.objects.items }
+        ensures steps { (C.count steps.new
+            ≤ C.count steps.old + 6 * own_objects client self.old.held.objects.items)
+            × ((result ≡ closes.Answer → ⊥) → C.count steps.old
+            + 3 * (C.weight * own_objects client self.old.held.objects.items)
+            ≤ C.count steps.new) }
     {
         let list = self.tables.close(client);
         enter_close(&mut self.journal, client);

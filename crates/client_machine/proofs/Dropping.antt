@@ -1,6 +1,6 @@
 -- A client's object is flushed, or left to nobody since its flush failed: every other item as it was, and the client's table without
 -- its handle. What is dropped one after another is dropped in one.
-use Rattle.std.proofs.Common.{◌≡◌, ◌≢◌, ◌⊎◌, ◌+◌, ◌≤◌, ◌<◌, ◌++◌, ◌∷◌, inl, inr, ℕ, Bool, true, false, List, [], length, get_or, set, map, refl, ap, sym, ◌∙◌, subst, arith}
+use Rattle.std.proofs.Common.{◌≡◌, ◌≢◌, ◌⊎◌, ◌+◌, ◌≤◌, ◌<◌, ◌++◌, ◌∷◌, inl, inr, ℕ, suc, Bool, true, false, List, [], length, get_or, set, map, refl, ap, sym, ◌∙◌, subst, append-nil, append_assoc, arith}
 use Rattle.std.specs.Prelude.{◌==◌, ◌&&◌, nat_lt, not, Option, Some, None, is_some, Result, Ok, Err, OnErr, if◌then◌else◌}
 use Rattle.std.specs.List.{AllByRecursion}
 use Rattle.std.proofs.lemmas.Bool.{cases_eq, eqb-false, false≢true, ne_eqb, eq-eqb}
@@ -14,7 +14,8 @@ use Rattle.device_port.specs.Device.{Seen, asked_of, last_of}
 use Rattle.device_port.specs.Own.{IsAnswered}
 use Rattle.device_port.specs.Use.{without_one}
 use Rattle.object_swap.specs.Items.{HasNone, Item, KeepsRest, Names, ObjectsView, Stand, counter_of, handle_in, is_client, is_owner, is_resident, is_vacant, item_at, item_object, no_item, objects_of, rest_of, without_object}
-use Rattle.object_swap.proofs.Counts.{all_but, count_one, count_set, number_true}
+use Rattle.object_swap.specs.Records.{number}
+use Rattle.object_swap.proofs.Counts.{count_cons, all_but, count_one, count_set, number_true}
 use Rattle.object_swap.proofs.Orphans.{orphaned_last, orphaned_stand}
 use Rattle.session_swap.specs.Items as sessions
 use Rattle.history_spec.specs.Table.{held_under, number_of_object, without_handle}
@@ -23,7 +24,7 @@ use Rattle.history_laws.proofs.Counts.{one_false, one_if}
 use Rattle.history_laws.proofs.Tables.{held_all, named, without_by, without_count}
 use Rattle.client_machine.specs.declared.held.Held.{Held}
 use Rattle.client_machine.specs.Costs.{own_objects, own_residents}
-use Rattle.client_machine.specs.Dropping.{AreLeftByFaults, Disowns, Drops}
+use Rattle.client_machine.specs.Dropping.{AreLeftByFaults, Disowns, Drops, LeavesMore}
 use Rattle.client_machine.specs.Moves.{GainsNone, KeepsObjectsOf, KeepsOwners, other_than}
 use Rattle.client_machine.specs.Settled.{Settled, sessions_in}
 use Rattle.client_machine.specs.Tables.{IsPlaceOf, IsTable, is_item, naming_in}
@@ -269,6 +270,25 @@ no_table items client none = record {
   short = omega arith;
 }
 
+-- a client that has no object has none to be counted
+pub none_owned : (items : List Item) (client : ℕ) → HasNone items client → own_objects client items ≡ 0
+none_owned [] client none = refl
+none_owned (item ∷ items) client none =
+    omega (arith, count_cons (is_client client) item items, ap number (none 0), none_owned items client (λ index. none (suc index)))
+
+-- ---- what closed clients left
+
+-- where the slots stay
+pub leaves_same : (most : ℕ) (left new_left : List ℕ) → new_left ≡ left → LeavesMore most left new_left
+leaves_same most left new_left same = ([], same ∙ sym (append-nil left), omega arith)
+
+leaves_then : (n m : ℕ) (left between new_left : List ℕ) → LeavesMore n left between → LeavesMore m between new_left → LeavesMore (n + m) left new_left
+leaves_then n m left between new_left (more, is, few) (later, then_is, few_later) = (
+  more ++ later,
+  then_is ∙ ap (λ (l : List ℕ). l ++ later) is ∙ append_assoc left more later,
+  omega (arith, length-append more later, few, few_later),
+)
+
 -- ---- one object is flushed
 
 -- the same sessions beside other objects
@@ -316,6 +336,7 @@ dropped seen client old new held new_view item d at settled =
       owners = λ present owners. owners;
       persist = persist_over_objects (seen old).state (seen new).state d.rest.rest;
       orphans = omega (arith, ap (λ (l : List ℕ). length l) d.left);
+      left = leaves_same 0 held.objects.left new_view.left d.left;
       failures = inl (omega (arith, d.rest.count));
       right = rightly seen old new d.taken;
       slots = d.slots;
@@ -363,6 +384,7 @@ left seen client old new held new_view item slot view_is slot_is same rest rose 
       owners = λ present owners. owners;
       persist = persist_over_objects (seen old).state (seen new).state rest.rest;
       orphans = omega (arith, ap (λ (v : ObjectsView). length v.left) view_is, length-append held.objects.left (slot ∷ []));
+      left = (slot ∷ [], ap (λ (v : ObjectsView). v.left) view_is, omega arith);
       failures = counted_once (seen old).faults (seen new).faults rose;
       right = inr (right_none (asked_of (seen new)) (last_of (seen new)) none);
       slots = ap (λ (v : ObjectsView). v.slots) view_is;
@@ -385,6 +407,7 @@ drops_none seen client old held settled = record {
   owners = λ present owners. owners;
   persist = persist_same (seen old).state;
   orphans = omega arith;
+  left = leaves_same 0 held.objects.left held.objects.left refl;
   failures = inl (omega arith);
   right = inl refl;
   slots = refl;
@@ -409,6 +432,7 @@ drops_then {D} seen client old middle new held between new_held n m first second
   owners = λ present owners. second.owners present (first.owners present owners);
   persist = persist_then (seen old).state (seen middle).state (seen new).state first.keeps.tells first.persist second.persist;
   orphans = omega (arith, first.orphans, second.orphans);
+  left = leaves_then n m held.objects.left between.objects.left new_held.objects.left first.left second.left;
   failures = counted_both (seen old).faults (seen middle).faults (seen new).faults n m second.keeps.count first.failures second.failures;
   right = answered_then (λ (d : D). IsRight (asked_of (seen d)) (last_of (seen d))) old middle new first.right second.right;
   slots = second.slots ∙ first.slots;
@@ -440,6 +464,7 @@ drops_ended seen client old new held new_held view list n drops view_is =
       owners = drops.owners;
       persist = drops.persist;
       orphans = drops.orphans;
+      left = drops.left;
       failures = drops.failures;
       right = drops.right;
       slots = drops.slots;

@@ -17,6 +17,7 @@ use Rattle.client_machine.specs.Moves.{other_than}
 use Rattle.client_machine.specs.Settled.{Settled}
 use Rattle.client_machine.specs.Tables.{AreOpenOwners}
 use Rattle.client_machine.proofs.Disowning.{IsOwnAt, ended_orphans, ended_others, ended_owners, left_orphans, left_others, left_owners}
+use Rattle.client_machine.proofs.Dropping.{leaves_same}
 use Rattle.client_machine.proofs.Keeping.{KeepsOtherSessions, counted_once, owners_same, right_none, right_of}
 use Rattle.client_machine.proofs.Prepared.{counts_same}
 use Rattle.client_machine.proofs.Settling.{keeps_over_sessions, object_counter_over_sessions, objects_over_sessions, persist_over_sessions, settled_over_sessions}
@@ -62,6 +63,7 @@ ended seen client old new held new_view n e at settled =
         ap (λ (l : List (Option sessions.Item)). count_by is_orphan l) new_items,
         ended_orphans items client n at,
       );
+      left = leaves_same 0 held.objects.left held.objects.left refl;
       failures = inl (omega (arith, e.rest.count));
       right = inr (right_of (asked_of (seen new)) (last_of (seen new)) e.answered);
       slots = refl;
@@ -112,6 +114,7 @@ left seen client old new held new_view handle view_is same rest rose none names 
         ap (λ (l : List (Option sessions.Item)). count_by is_orphan l) new_items,
         left_orphans items client n at,
       );
+      left = leaves_same 1 held.objects.left held.objects.left refl;
       failures = counted_once (seen old).faults (seen new).faults rose;
       right = inr (right_none (asked_of (seen new)) (last_of (seen new)) none);
       slots = refl;

@@ -20,7 +20,7 @@ use Rattle.history_spec.specs.Table.{held_under, number_of_object, without_handl
 use Rattle.world_spec.specs.World.{ClientState, Owned, without_named}
 use Rattle.client_machine.specs.declared.held.Held.{Held}
 use Rattle.client_machine.specs.Dropping.{Drops}
-use Rattle.client_machine.specs.Moves.{IsFlushSent, KeepsOwners, LeavesState, Moves, Prepares, StaysAs, any_client, client_state, other_than, SentBefore}
+use Rattle.client_machine.specs.Moves.{FlushesSome, IsFlushSent, KeepsOwners, LeavesState, Moves, Prepares, StaysAs, any_client, client_state, other_than}
 use Rattle.client_machine.specs.Settled.{Sequences, Settled, orphan_count, sessions_in}
 use Rattle.client_machine.specs.Tables.{IsPlaceOf, IsTable, flushed_handle, is_item, objects_in, place_object, slot_handle}
 use Rattle.client_machine.proofs.Orphans.{dropped_object, keeps_then, objects_then, owners_then, zero_set}
@@ -184,7 +184,7 @@ slot_by table items handle item transient held_here =
     ∙ ap (λ (place : Option ℕ). slot_handle items place) held_here
 
 sent_by : {D : Type 0} (seen : D → Seen) (nobodys : ℕ) (slot : Option ℕ)
-    (old middle new : D) → is_some slot ≡ true → SentBefore seen old middle
+    (old middle new : D) → is_some slot ≡ true → FlushesSome seen nobodys old middle
     → (nobodys ≡ 0 → middle ≡ old)
     → IfSome slot (λ handle. (asked_of (seen new) ≡ flush_context_command handle) × (sent_of (seen new) ≡ one_more (sent_of (seen middle))))
     → IfSome slot (λ handle. IsAnswered (asked_of (seen new)) (last_of (seen new))) → IsFlushSent seen nobodys slot old new
@@ -208,7 +208,7 @@ pub object_sent : {D : Type 0} (unsent : Type 0) (seen : D → Seen) (nobodys : 
     (table : List (Option ℕ)) (items between : List Item) (handle item : ℕ) (old middle new : D)
     → (octet_of handle == HT_TRANSIENT) ≡ true → held_under table handle ≡ Some item
     → is_some (handle_in (item_at items item).slot) ≡ true → item_at between item ≡ item_at items item
-    → SentBefore seen old middle → (nobodys ≡ 0 → middle ≡ old)
+    → FlushesSome seen nobodys old middle → (nobodys ≡ 0 → middle ≡ old)
     → MatchOption (handle_in (item_at between item).slot) unsent (λ handle. Asks {A = Unit {0}} seen middle new (flush_context_command handle) (Ok tt))
     → IsFlushSent seen nobodys (flushed_handle table items handle) old new
 object_sent unsent seen nobodys table items between handle item old middle new transient held_here there same own still sent =

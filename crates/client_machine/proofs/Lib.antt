@@ -31,3 +31,4 @@ pub mod Telling
 pub mod Replying
 pub mod Flushing
 pub mod FlushingSessions
+pub mod Before

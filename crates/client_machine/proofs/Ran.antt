@@ -15,7 +15,7 @@ use Rattle.effect_spec.specs.SessionAuths.{continues}
 use Rattle.device_spec.specs.Answers.{IsRight, takes}
 use Rattle.device_spec.specs.Slots.{SlotState, Step, slot_step}
 use Rattle.device_port.specs.Device.{Answered, Seen, asked_of, last_of}
-use Rattle.device_port.specs.Own.{AsksSome, HasCause}
+use Rattle.device_port.specs.Own.{HasCause}
 use Rattle.device_port.specs.Use.{without_one}
 use Rattle.device_port.specs.declared.own.SwapError.{SwapError}
 use Rattle.client_laws.specs.Ready.{ends_session, is_sent, named_sessions, sent_for, starts_session, tells_object, tells_session}
@@ -37,7 +37,7 @@ use Rattle.world_laws.proofs.Histories.{each-weaker}
 use Rattle.history_laws.proofs.Tables.{held_all, mapped}
 use Rattle.client_machine.specs.declared.held.Held.{Held}
 use Rattle.client_machine.specs.Costs.{SendsUpTo, StaysIn, new_bound, places_of, renewal_bound}
-use Rattle.client_machine.specs.Moves.{Adopts, AreTaken, CarriesOut, CountsOnBy, GainsNone, HasRoomFor, IsAtHand, IsCalm, IsPrepared, IsSent, IsTaken, KeepsOwners, MayAdopt, MayMove, MayStart, Moves, Prepares, Ran, Serves, StaysAs, StepsAs, UsesNamed, any_client, order_after, order_made, client_reply, first_handle, loads_kept, number_taken, other_than, pick_of, saved_list_after, saved_number, saves_one, saves_session, sessions_held_after, told_handle, SentBefore}
+use Rattle.client_machine.specs.Moves.{Adopts, AreTaken, CarriesOut, CountsOnBy, FailsAtLast, GainsNone, HasRoomFor, IsAtHand, IsCalm, IsPrepared, IsSent, IsTaken, KeepsOwners, MayAdopt, MayMove, MayStart, Moves, Prepares, Ran, Serves, StaysAs, StepsAs, UsesNamed, any_client, order_after, order_made, client_reply, first_handle, loads_kept, number_taken, other_than, pick_of, saved_list_after, saved_number, saves_one, saves_session, sessions_held_after, told_handle, SentBefore}
 use Rattle.client_machine.specs.Settled.{AreBelow, Sequences, Settled, call_contexts, orphan_count}
 use Rattle.client_machine.specs.Tables.{AreOpenOwners, IsOpenOwner, IsPlaceOf, IsPlaced, IsTable, OwnedHandle, device_handle, handle_or, is_open, objects_in, owned_handles, place_object, slot_handle, table_with, tables_seen, with_owner}
 use Rattle.client_machine.proofs.Adopting.{adopted_gained, adopted_item, adopted_length, adopted_loads, adopted_new, adopted_others, adopted_table}
@@ -228,16 +228,13 @@ prepares_stays {seen = seen} {old = old} {new = new} {held = held} {new_held = n
       session_sequence = least.session;
     }
 
--- what was sent before a command, by a call that succeeded
-pub sent_before : {D A : Type 0} {seen : D → Seen} {old new : D} {x : A} → AsksSome seen old new (Ok x) → SentBefore seen old new
-sent_before asks = record { answered = asks.answered; own = asks.own }
-
 -- a call that failed, after no more than such steps
 pub serves_failed : {D B : Type 0} {contexts : ℕ} {seen : D → Seen} {old new : D} {held new_held : Held} {e : SwapError}
     (client : ℕ) (table : List (Option ℕ)) (result : Result B SwapError) → (f : SwapError) × (result ≡ Err f) × (f ≡ e) → contexts ≤ 100
     → Prepares contexts seen old new held new_held → IsTable held.objects.items client table → HasCause seen e old new
-    → SendsUpTo seen (new_bound (orphan_count held) (gap_kept held.sessions)) old new → Serves seen client old new held new_held table table result
-serves_failed {B = B} {seen = seen} {old = old} {new = new} {held = held} {new_held = new_held} client table result (f, result_is, same) few prepares is cause costs =
+    → SendsUpTo seen (new_bound (orphan_count held) (gap_kept held.sessions)) old new → FailsAtLast seen old new
+    → Serves seen client old new held new_held table table result
+serves_failed {B = B} {seen = seen} {old = old} {new = new} {held = held} {new_held = new_held} client table result (f, result_is, same) few prepares is cause costs fails =
     subst (λ (r : Result B SwapError). Serves seen client old new held new_held table table r) (sym result_is)
     (record {
       moves = prepares_moves client table few prepares is;
@@ -250,6 +247,7 @@ serves_failed {B = B} {seen = seen} {old = old} {new = new} {held = held} {new_h
       };
       costs = costs;
       cause = subst (λ (e : SwapError). HasCause seen e old new) (sym same) cause;
+      fails = fails;
     })
 
 -- a call that returned where the last one failed
@@ -263,6 +261,7 @@ serves_again {B = B} {seen = seen} {client = client} {old = old} {new = new} {he
       stays = serves.stays;
       costs = serves.costs;
       cause = subst (λ (e : SwapError). HasCause seen e old new) (sym same) serves.cause;
+      fails = serves.fails;
     })
 
 -- ---- what is sent
@@ -761,7 +760,7 @@ pub ran_then : {D : Type 0} {old between new : D} {held mid : Held}
     {client : ℕ} {new_items : List Item} {table new_table : List (Option ℕ)} {a : Admitted} {bytes command reply new_reply : List ℕ}
     (seen : D → Seen) (used : List ℕ)
     → Prepared seen old between held mid client table a bytes command → IsTaken seen between new mid command reply
-    → SentBefore seen old between → tells_object a reply ≡ true
+    → SentBefore seen (orphan_count held) old between → tells_object a reply ≡ true
     → (adopts : Adopts client (told_handle reply) mid.objects.items new_items table new_table) → used ≡ mid.objects.order ++ adopts.item ∷ []
     → new_reply ≡ with_response_handle reply (next_handle table) → (IsAtHand held table a bytes → between ≡ old)
     → Ran seen client old new held (in_orders (held_after mid new_items client a reply) used (order_after a reply mid.sessions.order)
@@ -804,7 +803,7 @@ pub ran_else : {D : Type 0} {old between new : D} {held mid : Held}
     {client : ℕ} {table : List (Option ℕ)} {a : Admitted} {bytes command reply : List ℕ}
     (seen : D → Seen)
     → Prepared seen old between held mid client table a bytes command → IsTaken seen between new mid command reply
-    → SentBefore seen old between → tells_object a reply ≡ false → (IsAtHand held table a bytes → between ≡ old)
+    → SentBefore seen (orphan_count held) old between → tells_object a reply ≡ false → (IsAtHand held table a bytes → between ≡ old)
     → Ran seen client old new held (in_orders (held_after mid mid.objects.items client a reply) mid.objects.order (order_after a reply mid.sessions.order)
     (saved_list_after a reply mid.sessions.saved)) table table a bytes reply
 ran_else {between = between} {new = new} {mid = mid} {client = client} {table = table} {a = a} {bytes = bytes} {reply = reply} seen p sent own plain still = record {
@@ -874,7 +873,7 @@ held_then mid new_objects new_sessions client a shown reply is same rest =
 pub outcome_else : {D : Type 0} {seen : D → Seen} {old between new : D} {held mid : Held}
     {client : ℕ} {table : List (Option ℕ)} {a : Admitted} {bytes command shown reply : List ℕ} (new_sessions : SessionsView)
     → Prepared seen old between held mid client table a bytes command → IsTaken seen between new mid command reply
-    → SentBefore seen old between → (IsAtHand held table a bytes → between ≡ old)
+    → SentBefore seen (orphan_count held) old between → (IsAtHand held table a bytes → between ≡ old)
     → saves_one a ≡ false → tells_object a reply ≡ false
     → new_sessions ≡ sessions_kept mid.sessions client a shown → shown ≡ reply
     → Outcome seen old new client held (record { objects = mid.objects; sessions = new_sessions }) table table a bytes reply
@@ -893,6 +892,7 @@ outcome_else {seen = seen} {old = old} {between = between} {new = new} {held = h
         stays = tt;
         costs = omega (arith, p.costs, sent.sent.once);
         cause = tt;
+        fails = tt;
       };
       carries = record {
         did = inr (inr (ran_else seen p sent own plain still));
@@ -905,7 +905,7 @@ outcome_else {seen = seen} {old = old} {between = between} {new = new} {held = h
 pub outcome_then : {D : Type 0} {seen : D → Seen} {old between new : D} {held mid : Held}
     {client spare : ℕ} {table new_table : List (Option ℕ)} {a : Admitted} {bytes command shown reply new_reply : List ℕ} (new_objects : ObjectsView) (new_sessions : SessionsView)
     → Prepared seen old between held mid client table a bytes command → IsTaken seen between new mid command reply
-    → SentBefore seen old between → (IsAtHand held table a bytes → between ≡ old)
+    → SentBefore seen (orphan_count held) old between → (IsAtHand held table a bytes → between ≡ old)
     → saves_one a ≡ false → MayAdopt mid.objects table spare reply → tells_object a reply ≡ true
     → (adopts : Adopts client (told_handle reply) mid.objects.items new_objects.items table new_table)
     → new_objects.order ≡ mid.objects.order ++ adopts.item ∷ []
@@ -928,6 +928,7 @@ outcome_then {seen = seen} {old = old} {between = between} {new = new} {held = h
         stays = tt;
         costs = omega (arith, p.costs, sent.sent.once);
         cause = tt;
+        fails = tt;
       };
       carries = record {
         did = inr (inr (ran_then seen new_objects.order p sent own tells adopts used_is reply_is still));

@@ -559,6 +559,7 @@ replied_serves seen device held new_view client table a bytes reply settled is o
   stays = tt;
   costs = omega arith;
   cause = tt;
+  fails = tt;
 }
 
 pub replied_carries : {D : Type 0} (seen : D → Seen) (device : D) (held : Held) (new_view : SessionsView) (client : ℕ)

@@ -8,7 +8,6 @@ use Rattle.tab_spec.specs.declared.TheConstants.{CC_CONTEXT_SAVE, CC_START_AUTH_
 use Rattle.tab_spec.specs.declared.Admitted.{Admitted}
 use Rattle.tab_spec.specs.declared.CommandRow.{CommandRow}
 use Rattle.tab_spec.specs.Admission.{client_admitted, is_session_handle}
-use Rattle.tab_spec.specs.Count.{one_more}
 use Rattle.tab_spec.specs.Frame.{code_of, is_frame}
 use Rattle.tab_spec.specs.Reply.{response}
 use Rattle.tab_spec.specs.Session.{Session}
@@ -16,7 +15,7 @@ use Rattle.tab_spec.specs.Shape.{number_of_session, octet_of}
 use Rattle.tab_spec.specs.Values.{AreBytes}
 use Rattle.effect_spec.specs.Contexts.{session_context}
 use Rattle.effect_spec.specs.Operands.{command_auth}
-use Rattle.device_port.specs.Device.{Seen, asked_of, last_of, sent_of}
+use Rattle.device_port.specs.Device.{Seen, asked_of, last_of}
 use Rattle.device_port.specs.Own.{Asks, Succeeds}
 use Rattle.device_port.specs.Use.{without_one}
 use Rattle.device_spec.specs.ContextCommands.{context_save_command}
@@ -38,7 +37,7 @@ use Rattle.world_spec.specs.World.{Owned, client_step, in_use, own_place, owned_
 use Rattle.client_machine.specs.declared.held.Held.{Held}
 use Rattle.client_machine.specs.Costs.{places_of}
 use Rattle.client_machine.specs.Moves.{IsAtHand, Ran, client_state, first_handle, loads_kept, number_taken, order_after, pick_of, saved_number, saves_one, saves_session, sessions_held_after, sessions_saved, tells_context, told_sequence, SentBefore}
-use Rattle.client_machine.specs.Settled.{Sequences, owned_by_client, owned_in, sessions_in}
+use Rattle.client_machine.specs.Settled.{Sequences, orphan_count, owned_by_client, owned_in, sessions_in}
 use Rattle.client_machine.specs.Tables.{device_handle, tables_seen}
 use Rattle.client_machine.proofs.Doing.{both_so, no_handle, no_start, pick_saved}
 use Rattle.client_machine.proofs.Managing.{managed, managed_by}
@@ -339,15 +338,17 @@ pub ran_saved : {D : Type 0} {old between new : D} {held mid : Held}
     (seen : D → Seen) (new_view : SessionsView)
     → Prepared seen old between held mid client table a bytes command → saves_one a ≡ true → AreBytes bytes
     → SavedOne seen between new mid new_view (first_handle a) reply
-    → SentBefore seen old between → sent_of (seen new) ≡ one_more (sent_of (seen between)) → asked_of (seen new) ≡ context_save_command (first_handle a)
+    → SentBefore seen (orphan_count held) old between
+    → Asks {A = Unit {0}} seen between new (context_save_command (first_handle a)) (Ok tt)
     → last_of (seen new) ≡ Some reply → (IsAtHand held table a bytes → between ≡ old)
     → Ran seen client old new held (held_with mid new_view) table table a bytes reply
-ran_saved {between = between} {new = new} {mid = mid} {client = client} {table = table} {a = a} {bytes = bytes} {reply = reply} seen new_view p alone all saved own once asked_is last_is still =
+ran_saved {between = between} {new = new} {mid = mid} {client = client} {table = table} {a = a} {bytes = bytes} {reply = reply} seen new_view p alone all saved own asks last_is still =
     let handle = first_handle a in
     let both = and_parts (a.shape.row.code == CC_CONTEXT_SAVE) (is_session_handle handle) alone in
     let tells = tells_by client table mid.sessions.items a bytes reply p.admitted alone saved.given.success.code in
     let device_is : device_handle table mid.objects.items handle ≡ handle = same_else (octet_of handle == HT_TRANSIENT) _ handle (session_apart handle both.1) in
     let items_are = saved_after new_view reply p alone saved.given in
+    let command_is = sym (save_sent (tables_seen client table mid.sessions.items) bytes a handle p.admitted both.0 p.sort all) ∙ ap (sent_for bytes a) (sym device_is) in
     record {
       sort = p.sort;
       before = between;
@@ -358,8 +359,9 @@ ran_saved {between = between} {new = new} {mid = mid} {client = client} {table =
       loaded = p.ready.sessions.loaded;
       owners = p.prepares.session_owners;
       sent_is = record {
-        once = once;
-        asked_is = asked_is ∙ sym (save_sent (tables_seen client table mid.sessions.items) bytes a handle p.admitted both.0 p.sort all) ∙ ap (sent_for bytes a) (sym device_is);
+        once = asks.once;
+        one = asks.one ∙ ap (λ (bytes : List ℕ). record { command = bytes; response = last_of (seen new) } ∷ (seen between).trace) command_is;
+        asked_is = asks.asked ∙ command_is;
         failed = λ none. absurd (let some = sym last_is ∙ none in cc);
       };
       answer = reply;
@@ -370,7 +372,7 @@ ran_saved {between = between} {new = new} {mid = mid} {client = client} {table =
       object_is = λ told. absurd (true≢false (sym told ∙ tells.object));
       taken = subst
           (λ (command : List ℕ). takes (loads_kept mid.objects.items command) (number_taken mid.sessions.items reply) command reply ≡ true)
-          (sym asked_is)
+          (sym asks.asked)
           (save_taken (loads_kept mid.objects.items (context_save_command handle)) (number_taken mid.sessions.items reply) handle reply
           saved.given.success saved.given.frame);
       sessions_are = items_are;
@@ -401,7 +403,7 @@ pub outcome_saved : {D : Type 0} {seen : D → Seen} {old between new : D} {held
     {client : ℕ} {table : List (Option ℕ)} {a : Admitted} {bytes command reply : List ℕ} (new_view : SessionsView)
     → Prepared seen old between held mid client table a bytes command → saves_one a ≡ true → AreBytes bytes
     → SavedOne seen between new mid new_view (first_handle a) reply
-    → SentBefore seen old between → (IsAtHand held table a bytes → between ≡ old)
+    → SentBefore seen (orphan_count held) old between → (IsAtHand held table a bytes → between ≡ old)
     → Asks {A = Unit {0}} seen between new (context_save_command (first_handle a)) (Ok tt) → last_of (seen new) ≡ Some reply
     → Outcome seen old new client held (held_with mid new_view) table table a bytes reply
 outcome_saved {seen = seen} {between = between} {new = new} {held = held} {mid = mid} {client = client} {table = table} {a = a} {bytes = bytes} {reply = reply} new_view p alone all saved own still asks last_is =
@@ -417,9 +419,10 @@ outcome_saved {seen = seen} {between = between} {new = new} {held = held} {mid =
         stays = tt;
         costs = omega (arith, p.costs, asks.once);
         cause = tt;
+        fails = tt;
       };
       carries = record {
-        did = inr (inr (ran_saved seen new_view p alone all saved own asks.once asks.asked last_is still));
+        did = inr (inr (ran_saved seen new_view p alone all saved own asks last_is still));
         steps = ran_steps new (held_with mid new_view) table reply p done;
         whole = saved.given.frame;
         stays = λ narrow.

@@ -1,5 +1,5 @@
 -- What each step leaves while what a client has is dropped.
-use Rattle.std.specs.Prelude.{◌≡◌, ◌≤◌, ◌⊎◌, ℕ, ◌+◌, false, List, length, Option, Some, None, Result, IfErr, OnErr}
+use Rattle.std.specs.Prelude.{◌≡◌, ◌≤◌, ◌⊎◌, ℕ, ◌+◌, false, List, ◌++◌, length, Option, Some, None, Result, IfErr, OnErr}
 use Rattle.tab_spec.specs.Count.{largest_count}
 use Rattle.device_spec.specs.Answers.{IsRight, IsWrongAnswer}
 use Rattle.device_spec.specs.Slots.{SlotState}
@@ -30,6 +30,10 @@ pub record Disowns {D A : Type 0} (seen : D → Seen) (old new : D) (held new_he
   pub left : AreLeftByFaults (orphan_count held) (seen old).faults (orphan_count new_held) (seen new).faults
   pub err : IfErr result (λ code. IsWrongAnswer (asked_of (seen new)) (last_of (seen new)) code × ((seen new).state ≡ None))
 
+-- the slots of what closed clients left: those before, and so many more at most
+abbrev pub LeavesMore : ℕ → (left new_left : List ℕ) → Type 0
+LeavesMore most left new_left = (more : List ℕ) × (new_left ≡ left ++ more) × (length more ≤ most)
+
 -- A client loses objects and sessions, of which so many are left to nobody since their flush failed. These are the owners of the lists of
 -- objects then.
 pub record Drops {D : Type 0} (seen : D → Seen)
@@ -46,6 +50,8 @@ pub record Drops {D : Type 0} (seen : D → Seen)
   pub owners : (present : List ℕ) → AreOpenOwners present held.sessions.items → AreOpenOwners present new_held.sessions.items
   pub persist : KeepsPersist (seen old).state (seen new).state
   pub orphans : orphan_count new_held ≡ orphan_count held + failed
+  -- what others left isn't flushed in their place
+  pub left : LeavesMore failed held.objects.left new_held.objects.left
   -- each of these has a failed transmission of its own
   pub failures : (failed + (seen old).faults ≤ (seen new).faults) ⊎ (largest_count ≤ (seen new).faults)
   -- nothing was sent, or the last response was taken

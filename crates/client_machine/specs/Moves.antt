@@ -1,6 +1,6 @@
 -- What the calls on the device, the objects and the sessions do for one client, and what they leave to the others.
 use Rattle.std.specs.Prelude.{◌≡◌, ◌≤◌, ◌⊎◌, ℕ, ◌+◌, ◌-◌, ◌<◌, ◌==◌, ◌&&◌, not, nat_lt, Bool, true, false, List, [], ◌∷◌, ◌++◌, length, take, drop, set, get_or, Option, Some, None, is_some, IsSome, Result, Ok, Err, IfErr, IfSome, OnErr, OnOk, if◌then◌else◌}
-use Rattle.std.specs.List.{count_by, list_any}
+use Rattle.std.specs.List.{AllByRecursion, count_by, list_any}
 use Rattle.std.specs.Int.{w32, from_be_bytes}
 use Rattle.tab_spec.specs.declared.TheConstants.{ACTIVE_SESSIONS, CC_CONTEXT_LOAD, CC_CONTEXT_SAVE, CC_FLUSH_CONTEXT, CONTEXT_LIMIT, HEADER_BYTES, HT_TRANSIENT, LOADED_SESSIONS, OBJECT_SLOTS, RC_SUCCESS, ST_NO_SESSIONS, TRANSIENT_FIRST}
 use Rattle.tab_spec.specs.declared.Admitted.{Admitted}
@@ -11,8 +11,8 @@ use Rattle.tab_spec.specs.Persist.{Persist}
 use Rattle.tab_spec.specs.Reply.{error_reply, response, with_response_handle}
 use Rattle.tab_spec.specs.Shape.{makes_object_by, number_of_session, octet_of}
 use Rattle.effect_spec.specs.Operands.{command_auth}
-use Rattle.device_port.specs.Device.{Answered, Seen, asked_of, last_of, sent_of}
-use Rattle.device_port.specs.Own.{HasCause, IsAnswered, SendsOwn}
+use Rattle.device_port.specs.Device.{Answered, Seen, Transmission, asked_of, last_of, sent_of}
+use Rattle.device_port.specs.Own.{AsksSome, HasCause, IsAnswered, IsOwn, SendsOwn, WasTaken}
 use Rattle.device_port.specs.Use.{all_used, without_first, without_one}
 use Rattle.device_port.specs.declared.own.SwapError.{SwapError}
 use Rattle.device_spec.specs.Answers.{IsRight, is_word, takes, word_at}
@@ -43,8 +43,18 @@ pub record Keeps {D : Type 0} (seen : D → Seen) (old new : D) : Type 0 where
 -- this command was sent, and once. Where no response came, the fault count rose
 pub record IsSent {D : Type 0} (seen : D → Seen) (old new : D) (command : List ℕ) : Type 0 where
   pub once : sent_of (seen new) ≡ one_more (sent_of (seen old))
+  pub one : (seen new).trace ≡ record { command = command; response = last_of (seen new) } ∷ (seen old).trace
   pub asked_is : asked_of (seen new) ≡ command
   pub failed : last_of (seen new) ≡ None → Rose (seen old).faults (seen new).faults
+
+-- What came to the trace of a call that failed: the last command that was sent wasn't answered, or its response isn't taken, and
+-- nothing was sent after it. Those before it are the broker's own, and each of them was answered.
+pub record FailsAtLast {D : Type 0} (seen : D → Seen) (old new : D) : Type 0 where
+  pub last : Transmission
+  pub before : List Transmission
+  pub trace_is : (seen new).trace ≡ last ∷ before ++ (seen old).trace
+  pub own : AllByRecursion (λ one. IsOwn one.command) before
+  pub all : AllByRecursion WasTaken before
 
 -- ---- what a client's call is over
 
@@ -214,6 +224,7 @@ pub record Serves {D A : Type 0} (seen : D → Seen) (client : ℕ) (old new : D
   pub stays : OnErr result (Stays (seen old).state (seen new).state held new_held table new_table)
   pub costs : SendsUpTo seen (new_bound (orphan_count held) (gap_kept held.sessions)) old new
   pub cause : IfErr result (λ e. HasCause seen e old new)
+  pub fails : OnErr result (FailsAtLast seen old new)
 
 -- ---- a command
 
@@ -446,19 +457,40 @@ pub record UsedLast (held new_held : Held) (table : List (Option ℕ)) (a : Admi
   pub objects : new_held.objects.order ≡ order_made (tells_object a answer) item ready.objects.order
   pub sessions : new_held.sessions.order ≡ order_after a answer ready.sessions.order
 
--- before a client's own command nothing was sent, or commands of the broker's own, of which the last was answered
-pub record SentBefore {D : Type 0} (seen : D → Seen) (old new : D) : Type 0 where
+-- a flush that was answered
+abbrev pub WasFlushed : Transmission → Type 0
+WasFlushed one = (code_of one.command ≡ CC_FLUSH_CONTEXT) × WasTaken one
+
+-- so many flushes were sent, and nothing else: these came to the trace, the newest first
+pub record FlushesSome {D : Type 0} (seen : D → Seen) (count : ℕ) (old new : D) : Type 0 where
+  pub sent : List Transmission
+  pub trace_is : (seen new).trace ≡ sent ++ (seen old).trace
+  pub each : AllByRecursion WasFlushed sent
+  pub count_is : length sent ≡ count
+
+-- Before a client's own command so many things of nobody were flushed, and then commands of the broker's own were sent. Each was
+-- answered.
+pub record SentBefore {D : Type 0} (seen : D → Seen) (nobodys : ℕ) (old new : D) : Type 0 where
+  pub cleared : D
+  pub flushed : FlushesSome seen nobodys old cleared
+  pub own : SendsOwn seen cleared new
+  pub all : AllByRecursion WasTaken own.sent
   pub answered : (new ≡ old) ⊎ IsAnswered (asked_of (seen new)) (last_of (seen new))
-  pub own : SendsOwn seen old new
+
+-- what a call sends that makes ready for a client's own command
+pub record MakesReady {D A : Type 0} (seen : D → Seen) (nobodys : ℕ) (old new : D) (result : Result A SwapError) : Type 0 where
+  pub asks : AsksSome seen old new result
+  pub before : OnOk result (SentBefore seen nobodys old new)
 
 -- The command was the last that was sent, and once, over the slot of its object and the handles of its sessions, which were loaded.
 -- What came back is the reply, and the client has a new object or session where that tells one, or a saved session where that has its
--- context. What was sent before it are commands of the broker's own, and the last of them was answered. Whose each other session is stays
+-- context. What was sent before it are commands of the broker's own: first the flushes of what was nobody's. Each was answered. Whose
+-- each other session is stays
 pub record Ran {D : Type 0} (seen : D → Seen) (client : ℕ) (old new : D)
     (held new_held : Held) (table new_table : List (Option ℕ)) (a : Admitted) (bytes reply : List ℕ) : Type 0 where
   pub sort : is_sent a bytes ≡ true
   pub before : D
-  pub own_before : SentBefore seen old before
+  pub own_before : SentBefore seen (orphan_count held) old before
   pub unmoved : IsAtHand held table a bytes → before ≡ old
   pub placed : IsPlaced table new_held.objects.items (first_handle a)
   pub mid : List (Option sessions.Item)
@@ -486,7 +518,7 @@ pub record Ran {D : Type 0} (seen : D → Seen) (client : ℕ) (old new : D)
 abbrev pub IsFlushSent : {D : Type 0} (seen : D → Seen) → ℕ → Option ℕ → (old new : D) → Type 0
 IsFlushSent seen nobodys None old new = new ≡ old
 IsFlushSent seen nobodys (Some handle) old new =
-    (before : _) × SentBefore seen old before × (nobodys ≡ 0 → before ≡ old)
+    (before : _) × FlushesSome seen nobodys old before × (nobodys ≡ 0 → before ≡ old)
     × (asked_of (seen new) ≡ flush_context_command handle) × (sent_of (seen new) ≡ one_more (sent_of (seen before))) × IsSome (last_of (seen new))
 
 -- FlushContext is refused with this code, whatever the machine keeps

@@ -526,7 +526,8 @@ impl<D: Device> Machine<D> {
         self.drop_all_by(client, list, &mut Uncounted)
     }
 
-    /// `drop_all`, which visits six records at most for each object of the client.
+    /// `drop_all`, which visits three to six records for each object of the client; no more than six
+    /// where it fails.
     pub fn drop_all_counted<L: Ledger>(
         &mut self,
         client: u32,
@@ -548,6 +549,8 @@ impl<D: Device> Machine<D> {
             self.old.device self.new.device }
         ensures steps { steps.new
             ≤ steps.old + 6 * own_objects client self.old.held.objects.items }
+        ensures counted { OnOk result
+            (steps.old + 3 * own_objects client self.old.held.objects.items ≤ steps.new) }
     {
         self.drop_all_by(client, list, steps)
     }
@@ -575,6 +578,9 @@ impl<D: Device> Machine<D> {
             self.old.device self.new.device }
         ensures steps { C.count steps.new
             ≤ C.count steps.old + 6 * own_objects client self.old.held.objects.items }
+        ensures counted { OnOk result (C.count steps.old
+            + 3 * (C.weight * own_objects client self.old.held.objects.items)
+            ≤ C.count steps.new) }
     {
         let of_sessions = self.drop_sessions(client)?;
         let of_objects = self.drop_objects(list, steps)?;
@@ -669,6 +675,11 @@ impl<D: Device> Machine<D> {
         ensures steps { (client : ℕ) → owner_at self.old.held.objects.owners list ≡ Some client
             → C.count steps.new
             ≤ C.count steps.old + 6 * own_objects client self.old.held.objects.items }
+        ensures counted { OnOk result ((client : ℕ)
+            → owner_at self.old.held.objects.owners list ≡ Some client
+            → C.count steps.old
+            + 3 * (C.weight * own_objects client self.old.held.objects.items)
+            ≤ C.count steps.new) }
     {
         let before = self.held.objects.orphans();
         while let Some(item) = self.held.objects.first_by(list, steps) {
@@ -695,7 +706,8 @@ impl<D: Device> Machine<D> {
             → (objects.item_at self.old.held.objects.items item).client ≡ Some client
             → SendsUpTo D.seen (own_residents client self.old.held.objects.items)
             self.old.device self.new.device }
-        ensures steps { C.count steps.new ≤ C.count steps.old + 5 }
+        ensures steps { (C.count steps.new ≤ C.count steps.old + 5)
+            × OnOk result (C.count steps.old + 2 * C.weight ≤ C.count steps.new) }
     {
         match self
             .held

@@ -10,8 +10,9 @@ ghost use Rattle.session_swap.specs.declared.TheConstants.{RENEWAL_GAP};
 ghost use Rattle.session_swap.specs.Items.{AreNamed, gap_in, gap_kept};
 ghost use Rattle.client_machine.specs.Costs.{SendsUpTo, StaysIn, places_of};
 ghost use Rattle.client_machine.specs.Costs.{renewal_bound};
-ghost use Rattle.client_machine.specs.Moves.{Clears, HasSessions, IsAtHand, IsCalm, IsClear};
-ghost use Rattle.client_machine.specs.Moves.{IsPrepared, Loses, MayMove, MovesObjects};
+ghost use Rattle.client_machine.specs.Moves.{Clears, FlushesSome, HasSessions, IsAtHand, IsCalm};
+ghost use Rattle.client_machine.specs.Moves.{IsClear, IsPrepared, Loses, MakesReady, MayMove};
+ghost use Rattle.client_machine.specs.Moves.{MovesObjects};
 ghost use Rattle.client_machine.specs.Moves.{MovesSessions, NeedsNoSession, Prepares, UsesNamed};
 ghost use Rattle.client_machine.specs.Moves.{listed, moves_for, named_by};
 ghost use Rattle.client_machine.specs.Settled.{Settled, call_contexts, orphan_count, swap_contexts};
@@ -38,6 +39,9 @@ pub(crate) fn flush_orphans<D: Device>(
     ensures clears { Clears D.seen device.old device.new held.old held.new }
     ensures none { OnOk result (orphan_count held.new ≡ 0) }
     ensures costs { SendsUpTo D.seen (orphan_count held.old) device.old device.new }
+    // One flush for each is all that was sent.
+    ensures flushed { OnOk result
+        (FlushesSome D.seen (orphan_count held.old) device.old device.new) }
     ensures asks { AsksSome D.seen device.old device.new result }
 {
     while let Some(handle) = held.sessions.orphan() {
@@ -59,7 +63,7 @@ fn renew<D: Device>(held: &mut Held, device: &mut D, scratch: &mut Buffer) -> Re
         (orphan_count held.old + renewal_bound (gap_kept held.old.sessions)) device.old device.new }
     // Where no renewal is due, nothing moves: each thing is as it was, or is gone.
     ensures stays { gap_kept held.old.sessions < RENEWAL_GAP → Loses held.old held.new }
-    ensures asks { AsksSome D.seen device.old device.new result }
+    ensures sends { MakesReady D.seen (orphan_count held.old) device.old device.new result }
 {
     flush_orphans(held, device, scratch)?;
     refresh(&mut held.sessions, device, scratch)?;
@@ -205,7 +209,7 @@ pub(crate) fn prepare<D: Device>(
         (moves_for held.old table.now.items admitted.now bytes.now) device.old device.new }
     ensures used { OnOk result (IsCalm held.old
         → UsesNamed held.old held.new table.now.items admitted.now bytes.now) }
-    ensures asks { AsksSome D.seen device.old device.new result }
+    ensures sends { MakesReady D.seen (orphan_count held.old) device.old device.new result }
 {
     renew(held, device, scratch)?;
     load_sessions(held, device, admitted, scratch)?;

@@ -3,6 +3,7 @@ use Rattle.tab_spec.specs.Frame.{reported_code}
 use Rattle.tab_laws.proofs.Outcomes.{from_ok}
 use Rattle.device_spec.specs.Answers.{takes}
 use Rattle.device_port.specs.Device.{count_of, newest_command, newest_response}
+use Rattle.device_port.proofs.Asking.{sent_as}
 use Rattle.session_swap.specs.Items.{Item}
 use Rattle.std.specs.Prelude.{Option}
 use Rattle.client_machine.specs.Moves.{loads_kept, number_taken}
@@ -30,7 +31,7 @@ returns-then-not-takes-clause-err g c =
     let none = untold _ _ kept (number_taken items) command reply c.requires.told (from_ok c.transmit.result _ c.transmit.ensures.answered sent) not_taken in
     let last_is = last_of c.transmit.result _ _ (ap newest_response c.transmit.ensures.trace) sent in
     record {
-      sent = record { once = ap count_of c.transmit.ensures.trace; asked_is = ap newest_command c.transmit.ensures.trace; failed = λ never. absurd (let some = sym last_is ∙ never in cc) };
+      sent = record { once = ap count_of c.transmit.ensures.trace; one = sent_as _ _ _ _ c.transmit.ensures.trace; asked_is = ap newest_command c.transmit.ensures.trace; failed = λ never. absurd (let some = sym last_is ∙ never in cc) };
       cause = (
         wrong_answer command _ _ reply _ (ap newest_command c.transmit.ensures.trace) last_is (never_taken kept (number_taken items reply) command reply not_taken)
             (c.reported_code.ensures ∙ ap reported_code c.as_slice-then-not-takes.ensures.value),
@@ -52,7 +53,7 @@ returns-clause-ok g c =
     c.takes.ensures c.refuses_kept-is_kept.ensures c.is_number_taken-is_taken.ensures c.as_slice.ensures.value c.as_slice-2.ensures.value c.as_slice-3.ensures.value c.if-not-takes.false in
     let last_is = last_of c.transmit.result _ _ (ap newest_response c.transmit.ensures.trace) sent in
     record {
-      sent = record { once = ap count_of c.transmit.ensures.trace; asked_is = ap newest_command c.transmit.ensures.trace; failed = λ never. absurd (let some = sym last_is ∙ never in cc) };
+      sent = record { once = ap count_of c.transmit.ensures.trace; one = sent_as _ _ _ _ c.transmit.ensures.trace; asked_is = ap newest_command c.transmit.ensures.trace; failed = λ never. absurd (let some = sym last_is ∙ never in cc) };
       answered = from_ok c.transmit.result _ c.transmit.ensures.answered sent;
       last_is = last_is;
       taken = taken;

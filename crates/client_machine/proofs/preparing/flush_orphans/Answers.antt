@@ -1,4 +1,4 @@
-use Rattle.std.proofs.Common.{ℕ, [], ◌∷◌, length, length-append, ap, arith, Ok, Err, List}
+use Rattle.std.proofs.Common.{ℕ, ◌+◌, [], ◌∷◌, length, length-append, ap, arith, Ok, Err, List}
 use Rattle.std.specs.List.{count_by}
 use Rattle.std.proofs.lemmas.Result.{err_from_is_err_and}
 use Rattle.object_swap.specs.Items.{ObjectsView}
@@ -6,6 +6,8 @@ use Rattle.session_swap.specs.Items as sessions
 use Rattle.session_swap.specs.Items.{SessionsView}
 use Rattle.device_port.specs.Device.{sent_of}
 use Rattle.device_port.proofs.Sending.{asks_none, asks_some, asks_then, some_failed}
+use Rattle.tab_spec.specs.declared.TheConstants.{TRANSIENT_FIRST}
+use Rattle.client_machine.proofs.Before.{asks_as, flushes_all, flushes_more, flushes_none}
 use Rattle.client_machine.proofs.Costs.{sent_one}
 use Rattle.client_machine.proofs.Orphans.{clears_failed, clears_none, clears_orphan, clears_session, clears_then, last_of, none_counted, orphans_less}
 use Rattle.client_machine.proofs.Settling.{gap_settled, keeps_over_objects, keeps_over_sessions, objects_settled, sessions_settled}
@@ -16,6 +18,7 @@ loop-handle-init g c = record {
   clears = clears_none _ _ _ c.requires.settled;
   asks = asks_none g.D.Device.seen c.args.device.now;
   costs = omega arith;
+  flushed = (0, omega arith, flushes_none g.D.Device.seen c.args.device.now);
 }
 
 pub drop_session-requires-clause-stand : goal.drop_session-requires-clause-stand
@@ -27,6 +30,7 @@ loop-handle-preserved g c =
     let seen = g.D.Device.seen in
     let so_far = c.loop-handle.invariant.clears in
     let gone = c.in_ok-drop_session.ensures in
+    let before = c.loop-handle.invariant.flushed in
     record {
       clears = clears_then _ _ _ _ _ _ _ so_far
           (clears_session _ _ _ c.loop-handle.held c.drop_session.new.self c.in-Some.handle c.in-Some.ensures.1
@@ -42,6 +46,16 @@ loop-handle-preserved g c =
         sent_one seen _ _ _ (Ok tt) gone.asks,
         ap (λ (v : SessionsView). count_by sessions.is_orphan v.items) gone.ok.view_is,
         orphans_less c.loop-handle.held.sessions.items _ c.in-Some.ensures.1,
+      );
+      flushed = (
+        before.0 + 1,
+        omega (
+          arith,
+          before.1,
+          ap (λ (v : SessionsView). count_by sessions.is_orphan v.items) gone.ok.view_is,
+          orphans_less c.loop-handle.held.sessions.items _ c.in-Some.ensures.1,
+        ),
+        flushes_more seen _ c.loop-handle.device _ before.0 c.in-Some.handle tt before.2 gone.asks,
       );
     }
 
@@ -74,6 +88,7 @@ loop-init g c = record {
   clears = c.loop-handle.invariant.clears;
   asks = c.loop-handle.invariant.asks;
   costs = c.loop-handle.invariant.costs;
+  flushed = c.loop-handle.invariant.flushed;
   none = none_counted sessions.is_orphan c.loop-handle.held.sessions.items c.in_default.ensures;
 }
 
@@ -88,17 +103,29 @@ loop-preserved g c =
     let so_far = c.loop.invariant.clears in
     let gone = c.in_ok-flush_orphan.ensures in
     let lost = gone.flushed c.if-branch.true in
+    let before = c.loop.invariant.flushed in
+    let asked = gone.sent c.flush_orphan.new.self.left lost.slot lost.left in
     record {
       clears = clears_then _ _ _ _ _ _ _ so_far
           (clears_orphan _ _ _ c.loop.held c.flush_orphan.new.self lost gone.rest so_far.prepared.settled);
       asks = asks_then seen _ c.loop.device _ tt (Ok tt) c.loop.invariant.asks
-          (record { own = gone.asks.own; answered = gone.asks.answered; cause = tt; base = gone.asks.base; count = gone.asks.count });
+          (asks_as seen _ _ _ tt gone.asks);
       costs = omega (
         arith,
         c.loop.invariant.costs,
-        sent_one seen _ _ _ (Ok _) (gone.sent c.flush_orphan.new.self.left lost.slot lost.left),
+        sent_one seen _ _ _ (Ok _) asked,
         ap (λ (l : List ℕ). length l) lost.left,
         length-append c.flush_orphan.new.self.left (lost.slot ∷ []),
+      );
+      flushed = (
+        before.0 + 1,
+        omega (
+          arith,
+          before.1,
+          ap (λ (l : List ℕ). length l) lost.left,
+          length-append c.flush_orphan.new.self.left (lost.slot ∷ []),
+        ),
+        flushes_more seen _ c.loop.device _ before.0 (TRANSIENT_FIRST + lost.slot) _ before.2 asked,
       );
       none = c.loop.invariant.none;
     }
@@ -141,3 +168,15 @@ returns-clause-none g c =
       ap (λ (l : List ℕ). length l) done.0,
       ap (λ (v : ObjectsView). length v.left) done.1,
     )
+
+pub returns-clause-flushed : goal.returns-clause-flushed
+returns-clause-flushed g c =
+    let done = c.in_ok-flush_orphan.ensures.none c.if-branch.false in
+    let before = c.loop.invariant.flushed in
+    flushes_all g.D.Device.seen _ c.loop.device _ before.0 _ (omega (arith, before.1, c.loop.invariant.none, ap (λ (l : List ℕ). length l) done.0)) done.2
+    before.2
+
+pub returns-clause-asks : goal.returns-clause-asks
+returns-clause-asks g c =
+    let last = c.in_ok-flush_orphan.ensures.asks in
+    asks_then g.D.Device.seen _ c.loop.device _ tt (Ok tt) c.loop.invariant.asks (asks_as g.D.Device.seen _ _ _ tt last)

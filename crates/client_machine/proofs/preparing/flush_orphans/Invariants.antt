@@ -1,10 +1,10 @@
-use Rattle.std.proofs.Common.{◌≡◌, ◌≤◌, ◌+◌}
+use Rattle.std.proofs.Common.{◌≡◌, ◌≤◌, ◌+◌, ℕ}
 use Rattle.std.specs.Prelude.{Ok, length}
 use Rattle.std.specs.List.{count_by}
 use Rattle.device_port.specs.Device.{sent_of}
 use Rattle.device_port.specs.Own.{AsksSome}
 use Rattle.session_swap.specs.Items as sessions
-use Rattle.client_machine.specs.Moves.{Clears}
+use Rattle.client_machine.specs.Moves.{Clears, FlushesSome}
 use Rattle.client_machine.specs.Settled.{orphan_count}
 use Rattle.client_machine.proofs.preparing.flush_orphans.Given as goal
 
@@ -15,6 +15,7 @@ invariant-loop-handle g l =
       clears : Clears D.seen l.fn.device l.device l.fn.held l.held;
       asks : AsksSome {A = Unit {0}} D.seen l.fn.device l.device (Ok tt);
       costs : sent_of (D.seen l.device) + orphan_count l.held ≤ sent_of (D.seen l.fn.device) + orphan_count l.fn.held;
+      flushed : (count : ℕ) × (count + orphan_count l.held ≡ orphan_count l.fn.held) × FlushesSome D.seen count l.fn.device l.device;
     }
 
 abbrev pub decreases-loop-handle : goal.decreases-loop-handle
@@ -27,6 +28,7 @@ invariant-loop g l =
       clears : Clears D.seen l.fn.device l.device l.fn.held l.held;
       asks : AsksSome {A = Unit {0}} D.seen l.fn.device l.device (Ok tt);
       costs : sent_of (D.seen l.device) + orphan_count l.held ≤ sent_of (D.seen l.fn.device) + orphan_count l.fn.held;
+      flushed : (count : ℕ) × (count + orphan_count l.held ≡ orphan_count l.fn.held) × FlushesSome D.seen count l.fn.device l.device;
       none : count_by sessions.is_orphan l.held.sessions.items ≡ 0;
     }
 

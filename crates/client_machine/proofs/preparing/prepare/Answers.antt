@@ -9,6 +9,7 @@ use Rattle.device_port.proofs.Sending.{asks_then, some_failed}
 use Rattle.client_machine.specs.declared.held.Held.{Held}
 use Rattle.client_machine.specs.Moves.{NeedsNoSession, first_handle, named_objects, slots_of}
 use Rattle.client_machine.specs.Tables.{tables_seen}
+use Rattle.client_machine.proofs.Before.{before_then, ready_failed}
 use Rattle.client_machine.proofs.Bringing.{command_placed, command_shape, free_for, handle_written, named_kept, placed_resident, room_kept}
 use Rattle.client_laws.proofs.NameSessions.{named_none, named_own}
 use Rattle.client_machine.proofs.Orphans.{prepares_more, prepares_then}
@@ -23,10 +24,11 @@ use Rattle.client_machine.proofs.preparing.prepare.Goals as goal
 pub returns-in_err-renew-clause-prepared : goal.returns-in_err-renew-clause-prepared
 returns-in_err-renew-clause-prepared g c = prepares_more g.D.Device.seen _ _ _ _ (omega arith) c.renew.ensures.prepared
 
-pub returns-in_err-renew-clause-asks : goal.returns-in_err-renew-clause-asks
-returns-in_err-renew-clause-asks g c =
-    some_failed g.D.Device.seen _ _ _ c.from_residual.result (err_from_is_err_and c.from_residual.result c.from_residual.ensures.1)
-    c.in_err-renew.ensures.asks
+pub returns-in_err-renew-clause-sends : goal.returns-in_err-renew-clause-sends
+returns-in_err-renew-clause-sends g c =
+    let seen = g.D.Device.seen in
+    let failed = err_from_is_err_and c.from_residual.result c.from_residual.ensures.1 in
+    ready_failed seen _ _ _ _ c.from_residual.result failed (some_failed seen _ _ _ c.from_residual.result failed c.in_err-renew.ensures.sends.asks)
 
 pub load_sessions-requires-clause-may : goal.load_sessions-requires-clause-may
 load_sessions-requires-clause-may g c =
@@ -48,12 +50,14 @@ pub returns-in_err-load_sessions-clause-prepared : goal.returns-in_err-load_sess
 returns-in_err-load_sessions-clause-prepared g c =
     prepares_then g.D.Device.seen _ c.renew.new.device _ _ c.renew.new.held _ (omega arith) c.renew.ensures.prepared c.load_sessions.ensures.prepared
 
-pub returns-in_err-load_sessions-clause-asks : goal.returns-in_err-load_sessions-clause-asks
-returns-in_err-load_sessions-clause-asks g c =
+pub returns-in_err-load_sessions-clause-sends : goal.returns-in_err-load_sessions-clause-sends
+returns-in_err-load_sessions-clause-sends g c =
     let seen = g.D.Device.seen in
     let returned = c.from_residual-in_err-load_sessions in
-    asks_then seen _ c.renew.new.device _ tt returned.result c.in_ok-renew.ensures.asks
-    (some_failed seen c.renew.new.device _ _ returned.result (err_from_is_err_and returned.result returned.ensures.1) c.in_err-load_sessions.ensures.asks)
+    let failed = err_from_is_err_and returned.result returned.ensures.1 in
+    ready_failed seen _ _ _ _ returned.result failed
+    (asks_then seen _ c.renew.new.device _ tt returned.result c.in_ok-renew.ensures.sends.asks
+    (some_failed seen c.renew.new.device _ _ returned.result failed c.in_err-load_sessions.ensures.asks))
 
 pub bring-requires-clause-named : goal.bring-requires-clause-named
 bring-requires-clause-named g c =
@@ -78,13 +82,15 @@ returns-in_err-bring-clause-prepared g c =
     (prepares_then seen _ c.renew.new.device _ _ c.renew.new.held _ (omega arith) c.renew.ensures.prepared c.load_sessions.ensures.prepared)
     c.bring.ensures.prepared
 
-pub returns-in_err-bring-clause-asks : goal.returns-in_err-bring-clause-asks
-returns-in_err-bring-clause-asks g c =
+pub returns-in_err-bring-clause-sends : goal.returns-in_err-bring-clause-sends
+returns-in_err-bring-clause-sends g c =
     let seen = g.D.Device.seen in
     let returned = c.from_residual-in_err-bring in
-    asks_then seen _ c.load_sessions.new.device _ tt returned.result
-    (asks_then seen _ c.renew.new.device _ tt (Ok tt) c.in_ok-renew.ensures.asks c.in_ok-load_sessions.ensures.asks)
-    (some_failed seen c.load_sessions.new.device _ _ returned.result (err_from_is_err_and returned.result returned.ensures.1) c.in_err-bring.ensures.asks)
+    let failed = err_from_is_err_and returned.result returned.ensures.1 in
+    ready_failed seen _ _ _ _ returned.result failed
+    (asks_then seen _ c.load_sessions.new.device _ tt returned.result
+    (asks_then seen _ c.renew.new.device _ tt (Ok tt) c.in_ok-renew.ensures.sends.asks c.in_ok-load_sessions.ensures.asks)
+    (some_failed seen c.load_sessions.new.device _ _ returned.result failed c.in_err-bring.ensures.asks))
 
 pub with_handles-requires : goal.with_handles-requires
 with_handles-requires g c =
@@ -98,11 +104,16 @@ returns-clause-prepared g c =
     (prepares_then seen _ c.renew.new.device _ _ c.renew.new.held _ (omega arith) c.renew.ensures.prepared c.load_sessions.ensures.prepared)
     c.bring.ensures.prepared
 
-pub returns-clause-asks : goal.returns-clause-asks
-returns-clause-asks g c =
+pub returns-clause-sends : goal.returns-clause-sends
+returns-clause-sends g c =
     let seen = g.D.Device.seen in
-    asks_then seen _ c.load_sessions.new.device _ tt (Ok tt)
-    (asks_then seen _ c.renew.new.device _ tt (Ok tt) c.in_ok-renew.ensures.asks c.in_ok-load_sessions.ensures.asks) c.in_ok-bring.ensures.asks
+    let renewed = c.in_ok-renew.ensures.sends in
+    let loaded = c.in_ok-load_sessions.ensures.asks in
+    let brought = c.in_ok-bring.ensures.asks in
+    record {
+      asks = asks_then seen _ c.load_sessions.new.device _ tt (Ok tt) (asks_then seen _ c.renew.new.device _ tt (Ok tt) renewed.asks loaded) brought;
+      before = before_then seen _ _ c.load_sessions.new.device _ tt (before_then seen _ _ c.renew.new.device _ tt renewed.before loaded) brought;
+    }
 
 pub returns-clause-ready : goal.returns-clause-ready
 returns-clause-ready g c =

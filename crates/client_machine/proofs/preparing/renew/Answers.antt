@@ -5,6 +5,7 @@ use Rattle.session_swap.specs.declared.TheConstants.{RENEWAL_GAP}
 use Rattle.session_swap.specs.Items.{SessionsView, gap_kept, saved_items}
 use Rattle.client_machine.specs.declared.held.Held.{Held}
 use Rattle.client_machine.specs.Moves.{Loses}
+use Rattle.client_machine.proofs.Before.{asks_as, before_flushed, before_then, ready_failed}
 use Rattle.client_machine.proofs.Costs.{renews_few}
 use Rattle.client_machine.proofs.Loading.{sessions_moved}
 use Rattle.client_machine.proofs.Orphans.{prepares_more, prepares_then}
@@ -13,10 +14,11 @@ use Rattle.client_machine.proofs.preparing.renew.Goals as goal
 pub returns-in_err-flush_orphans-clause-prepared : goal.returns-in_err-flush_orphans-clause-prepared
 returns-in_err-flush_orphans-clause-prepared g c = prepares_more g.D.Device.seen _ _ _ _ (omega arith) c.flush_orphans.ensures.clears.prepared
 
-pub returns-in_err-flush_orphans-clause-asks : goal.returns-in_err-flush_orphans-clause-asks
-returns-in_err-flush_orphans-clause-asks g c =
-    some_failed g.D.Device.seen _ _ _ c.from_residual.result (err_from_is_err_and c.from_residual.result c.from_residual.ensures.1)
-    c.in_err-flush_orphans.ensures.asks
+pub returns-in_err-flush_orphans-clause-sends : goal.returns-in_err-flush_orphans-clause-sends
+returns-in_err-flush_orphans-clause-sends g c =
+    let seen = g.D.Device.seen in
+    let failed = err_from_is_err_and c.from_residual.result c.from_residual.ensures.1 in
+    ready_failed seen _ _ _ _ c.from_residual.result failed (some_failed seen _ _ _ c.from_residual.result failed c.in_err-flush_orphans.ensures.asks)
 
 pub returns-in_err-refresh-clause-prepared : goal.returns-in_err-refresh-clause-prepared
 returns-in_err-refresh-clause-prepared g c =
@@ -27,13 +29,14 @@ returns-in_err-refresh-clause-prepared g c =
     (sessions_moved seen 65 c.flush_orphans.new.device c.refresh.new.device between c.refresh.new.sessions c.refresh.ensures.moved
     c.refresh.ensures.counts.room (omega (arith, c.refresh.ensures.counts.counter)) first.settled)
 
-pub returns-in_err-refresh-clause-asks : goal.returns-in_err-refresh-clause-asks
-returns-in_err-refresh-clause-asks g c =
+pub returns-in_err-refresh-clause-sends : goal.returns-in_err-refresh-clause-sends
+returns-in_err-refresh-clause-sends g c =
     let seen = g.D.Device.seen in
     let returned = c.from_residual-in_err-refresh in
-    asks_then seen _ c.flush_orphans.new.device _ tt returned.result c.in_ok-flush_orphans.ensures.asks
-    (some_failed seen c.flush_orphans.new.device _ _ returned.result (err_from_is_err_and returned.result returned.ensures.1)
-    c.in_err-refresh.ensures.asks)
+    let failed = err_from_is_err_and returned.result returned.ensures.1 in
+    ready_failed seen _ _ _ _ returned.result failed
+    (asks_then seen _ c.flush_orphans.new.device _ tt returned.result c.in_ok-flush_orphans.ensures.asks
+    (some_failed seen c.flush_orphans.new.device _ _ returned.result failed c.in_err-refresh.ensures.asks))
 
 pub returns-clause-prepared : goal.returns-clause-prepared
 returns-clause-prepared g c =
@@ -60,12 +63,15 @@ returns-clause-still g c = λ none narrow.
     let renewed = c.refresh.ensures.still (subst (λ (h : Held). gap_kept h.sessions < RENEWAL_GAP) (sym flushed.1) narrow) in
     (renewed.0 ∙ flushed.0, (λ i. record { objects = c.flush_orphans.new.held.objects; sessions = renewed.1 i }) ∙ flushed.1)
 
-pub returns-clause-asks : goal.returns-clause-asks
-returns-clause-asks g c =
+pub returns-clause-sends : goal.returns-clause-sends
+returns-clause-sends g c =
     let seen = g.D.Device.seen in
-    let last = c.in_ok-refresh.ensures.asks in
-    asks_then seen _ c.flush_orphans.new.device _ tt (Ok tt) c.in_ok-flush_orphans.ensures.asks
-    (record { own = last.own; answered = last.answered; cause = tt; base = last.base; count = last.count })
+    let first = c.in_ok-flush_orphans.ensures in
+    let last = asks_as seen c.flush_orphans.new.device c.refresh.new.device _ tt c.in_ok-refresh.ensures.asks in
+    record {
+      asks = asks_then seen _ c.flush_orphans.new.device _ tt (Ok tt) first.asks last;
+      before = before_then seen _ _ c.flush_orphans.new.device _ tt (before_flushed seen _ _ _ tt first.flushed first.asks) last;
+    }
 
 pub returns-in_err-refresh-clause-costs : goal.returns-in_err-refresh-clause-costs
 returns-in_err-refresh-clause-costs g c =

@@ -14,8 +14,8 @@ use Rattle.device_port.specs.declared.own.SwapError.{SwapError}
 use Rattle.device_port.specs.Own.{HasCause}
 use Rattle.history_spec.specs.declared.Pick.TheVariants.{Nothing}
 use Rattle.history_spec.specs.Entry.{Entry, HasRoom, command_entry, fault_entry, IsOpen, IsNextNumber}
-use Rattle.broker_core.specs.Broker.{BrokerView, Holds, TellsNoRoom}
-use Rattle.client_machine.specs.Moves.{MayMove, pick_of}
+use Rattle.broker_core.specs.Broker.{BrokerView, Holds, IsAdmitted, TellsNoRoom}
+use Rattle.client_machine.specs.Moves.{FailsAtLast, MayMove, pick_of}
 use Rattle.client_machine.specs.Settled.{orphan_count}
 use Rattle.client_machine.specs.Tables.{owned_handles, tables_seen}
 use Rattle.broker_core.proofs.Entering.{costs_admitted, entered_carried, entered_faulted, entered_refused, entered_seen, context_now, left_more, long_now, made_by, owners_more, told_unentered, view_entered}
@@ -98,6 +98,7 @@ returns-then-is_err-clause-told g c =
       rw (device, held, kept) c.self.view_is,
       record { reply_is = c.error_reply-then-is_err.ensures; makes = made_by _ c.args.bytes.now c.in-Ok.admitted admitted grows.0 },
       subst (λ (v : BrokerView g.row.D.Denot). HasRoom v.limit v.journal c.args.bytes.now) c.self.view_is ready.0,
+      subst (λ (v : BrokerView g.row.D.Denot). IsAdmitted v c.args.client c.args.bytes.now) c.self.view_is (c.in-Ok.admitted, admitted),
     )
 
 pub answer-requires-clause-admitted : goal.answer-requires-clause-admitted
@@ -261,9 +262,10 @@ returns-in-Err-Failed-clause-told g c =
     let sessions = done.serves.stays.sessions ∙ ap (λ (v : SessionsView). owned_handles v.items) c.reserve.ensures.same.2 in
     let objects = owners_more c.self.inside.machine.held.objects.items c.reserve.new.self.held.objects.items c.answer.new.self.held.objects.items are done.serves.stays.objects in
     let failed = subst (λ (d : _). Rose (g.D.Device.seen d).faults (g.D.Device.seen c.answer.new.self.device).faults × (last_of (g.D.Device.seen c.answer.new.self.device) ≡ None)) device cause in
+    let sent = subst (λ (d : _). FailsAtLast g.D.Device.seen d c.answer.new.self.device) device done.serves.fails in
     entered_seen g.D.Device.seen {old = old} c.self.view_is
     (entered_faulted g.D.Device.seen old _ c.args.client c.args.number c.fault_count-faults.result c.args.bytes.now c.enter_fault.new.reply c.in-Ok.admitted
-    admitted c.enter_fault.ensures.reply c.fault_count-faults.ensures ready.0 c.enter_fault.ensures.entered failed tables sessions objects)
+    admitted c.enter_fault.ensures.reply c.fault_count-faults.ensures ready.0 c.enter_fault.ensures.entered failed sent tables sessions objects)
 
 pub returns-in-Err-Answer-clause-told : goal.returns-in-Err-Answer-clause-told
 returns-in-Err-Answer-clause-told g c =

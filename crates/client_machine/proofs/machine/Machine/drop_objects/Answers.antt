@@ -1,11 +1,11 @@
-use Rattle.std.proofs.Common.{◌≡◌, ◌+◌, ℕ, List, Some, Ok, refl, ap, ◌∙◌, subst, arith}
+use Rattle.std.proofs.Common.{◌≡◌, ◌+◌, ◌*◌, ℕ, List, Some, Ok, refl, ap, ◌∙◌, subst, arith}
 use Rattle.std.specs.Prelude.{◌-◌, Option}
 use Rattle.std.proofs.lemmas.Result.{err_from_is_err_and}
 use Rattle.object_swap.specs.Items.{owner_at}
 use Rattle.session_swap.specs.Items.{SessionsView, is_orphan}
 use Rattle.std.specs.List.{count_by}
 use Rattle.client_machine.specs.Dropping.{Drops}
-use Rattle.client_machine.proofs.Dropping.{disowns_failed, disowns_none, disowns_ok, disowns_then, drops_none, drops_then, objects_left, some_object}
+use Rattle.client_machine.proofs.Dropping.{disowns_failed, disowns_none, disowns_ok, disowns_then, drops_none, drops_then, none_owned, objects_left, some_object}
 use Rattle.client_machine.proofs.machine.Machine.drop_objects.Goals as goal
 
 pub loop-item-init : goal.loop-item-init
@@ -17,6 +17,7 @@ loop-item-init g c = record {
   disowns = disowns_none _ _ _ 0;
   costs = λ client owner. omega arith;
   steps = λ client owner. omega arith;
+  counted = λ client owner. omega arith;
 }
 
 -- the client has one fewer
@@ -55,7 +56,14 @@ loop-item-preserved g c =
         so_far.steps client owner,
         (here client owner).fewer,
         c.first_by.ensures.few,
-        c.drop_object.ensures.steps,
+        c.drop_object.ensures.steps.0,
+      );
+      counted = λ client owner. omega (
+        arith,
+        so_far.counted client owner,
+        ap (λ (n : ℕ). g.C.Visits.weight * n) (here client owner).fewer,
+        c.in-Some.ensures.steps,
+        c.in_ok-drop_object.ensures.steps.1,
       );
     }
 
@@ -84,7 +92,7 @@ returns-in_err-drop_object-clause-steps g c =
       arith,
       c.loop-item.invariant.steps client owner,
       c.first_by.ensures.few,
-      c.drop_object.ensures.steps,
+      c.drop_object.ensures.steps.0,
       some_object c.loop-item.self.held.objects.items client c.in-Some.item (record { names = found.0; own = found.1 }),
     )
 
@@ -118,6 +126,17 @@ returns-clause-costs g c = λ client owner. omega (arith, c.loop-item.invariant.
 
 pub returns-clause-steps : goal.returns-clause-steps
 returns-clause-steps g c = λ client owner. omega (arith, c.loop-item.invariant.steps client owner, c.in_default.ensures.steps)
+
+pub returns-clause-counted : goal.returns-clause-counted
+returns-clause-counted g c =
+    λ client owner.
+    let here = ap (λ (owners : List (Option ℕ)). owner_at owners c.args.list) c.loop-item.invariant.lists ∙ owner in
+    omega (
+      arith,
+      c.loop-item.invariant.counted client owner,
+      ap (λ (n : ℕ). g.C.Visits.weight * n) (none_owned c.loop-item.self.held.objects.items client (c.in_default.ensures.first client here)),
+      c.in_default.ensures.steps,
+    )
 
 pub overflow_sub-result : goal.overflow_sub-result
 overflow_sub-result g c =

@@ -26,6 +26,9 @@ invariant-loop-item g l =
       steps : (client : ℕ) → owner_at l.fn.self.held.objects.owners l.list ≡ Some client
           → C.count l.steps + 6 * own_objects client l.self.held.objects.items
           ≤ C.count l.fn.steps + 6 * own_objects client l.fn.self.held.objects.items;
+      counted : (client : ℕ) → owner_at l.fn.self.held.objects.owners l.list ≡ Some client
+          → C.count l.fn.steps + 3 * (C.weight * own_objects client l.fn.self.held.objects.items)
+          ≤ C.count l.steps + 3 * (C.weight * own_objects client l.self.held.objects.items);
     }
 
 -- how many the client of the list has

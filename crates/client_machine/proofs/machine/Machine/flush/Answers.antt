@@ -5,9 +5,10 @@ use Rattle.std.proofs.lemmas.Result.{err_from_is_err_and}
 use Rattle.tab_spec.specs.Shape.{number_of_session}
 use Rattle.object_swap.specs.Items.{ObjectsView, handle_in, item_at}
 use Rattle.session_swap.specs.Items.{SessionsView}
-use Rattle.device_port.proofs.Sending.{asks_then, cause_then}
+use Rattle.device_port.proofs.Sending.{asks_some, asks_then, cause_then}
 use Rattle.world_spec.specs.World.{ClientState, without_named}
 use Rattle.client_machine.specs.Settled.{orphan_count}
+use Rattle.client_machine.proofs.Before.{fails_asking}
 use Rattle.client_machine.proofs.Disowning.{own_at}
 use Rattle.client_machine.proofs.Dropping.{dropped, held_named, table_after}
 use Rattle.client_machine.proofs.DroppingSessions.{ended}
@@ -17,7 +18,7 @@ use Rattle.client_machine.proofs.Keeping.{rightly}
 use Rattle.client_machine.proofs.Orphans.{prepares_failed, prepares_same, prepares_then}
 use Rattle.client_machine.proofs.Staying.{loses_object, loses_session, loses_then}
 use Rattle.client_machine.proofs.Costs.{one_most, sent_slot}
-use Rattle.client_machine.proofs.Ran.{prepares_stays, prepares_table, serves_failed, sent_before}
+use Rattle.client_machine.proofs.Ran.{prepares_stays, prepares_table, serves_failed}
 use Rattle.client_machine.proofs.Settling.{gap_settled, keeps_over_objects, keeps_over_sessions, objects_settled, sessions_settled}
 use Rattle.client_machine.proofs.machine.Machine.flush.Goals as goal
 
@@ -27,14 +28,14 @@ returns-in_err-flush_orphans-clause-serves g c = λ client may.
     let returned = c.from_residual in
     serves_failed client c.args.table.now.items returned.result (err_from_is_err_and returned.result returned.ensures.1) (omega arith)
     c.flush_orphans.ensures.clears.prepared may.own_table c.in_err-flush_orphans.ensures.asks.cause
-    (omega (arith, c.flush_orphans.ensures.costs))
+    (omega (arith, c.flush_orphans.ensures.costs)) (fails_asking g.D.Device.seen _ _ _ c.in_err-flush_orphans.ensures.asks)
 
 pub returns-in_err-flush_orphans-2-clause-serves : goal.returns-in_err-flush_orphans-2-clause-serves
 returns-in_err-flush_orphans-2-clause-serves g c = λ client may.
     let returned = c.from_residual-in_err-flush_orphans-2 in
     serves_failed client c.args.table.now.items returned.result (err_from_is_err_and returned.result returned.ensures.1) (omega arith)
     c.flush_orphans-2.ensures.clears.prepared may.own_table c.in_err-flush_orphans-2.ensures.asks.cause
-    (omega (arith, c.flush_orphans-2.ensures.costs))
+    (omega (arith, c.flush_orphans-2.ensures.costs)) (fails_asking g.D.Device.seen _ _ _ c.in_err-flush_orphans-2.ensures.asks)
 
 -- a session of the client's whose flush failed
 pub returns-in_err-drop_session-clause-serves : goal.returns-in_err-drop_session-clause-serves
@@ -51,6 +52,8 @@ returns-in_err-drop_session-clause-serves g c = λ client may.
     may.own_table
     (cause_then seen _ c.flush_orphans.new.device _ _ c.in_ok-flush_orphans.ensures.asks.count failed.asks.cause)
     (omega (arith, c.flush_orphans.ensures.costs, failed.asks.once))
+    (fails_asking seen _ _ _
+    (asks_then seen _ c.flush_orphans.new.device _ tt (Err _) c.in_ok-flush_orphans.ensures.asks (asks_some seen _ _ _ (Err _) failed.asks)))
 
 -- a session of the client's that was flushed
 pub returns-then-octet_of-ne-HT_TRANSIENT-clause-serves : goal.returns-then-octet_of-ne-HT_TRANSIENT-clause-serves
@@ -85,6 +88,7 @@ returns-then-octet_of-ne-HT_TRANSIENT-clause-serves g c = λ client may.
       stays = tt;
       costs = omega (arith, c.flush_orphans.ensures.costs, done.asks.once);
       cause = tt;
+      fails = tt;
     }
 
 pub returns-then-octet_of-ne-HT_TRANSIENT-clause-flushes : goal.returns-then-octet_of-ne-HT_TRANSIENT-clause-flushes
@@ -149,6 +153,7 @@ returns-then-is_none-clause-serves g c = λ client may.
         one_most (is_some (handle_in (item_at held.objects.items c.unwrap-item.result).slot)),
       );
       cause = tt;
+      fails = tt;
     }
 
 pub returns-then-is_none-clause-left : goal.returns-then-is_none-clause-left
@@ -210,6 +215,7 @@ returns-in_err-drop_object-2-clause-serves g c = λ client may.
       sent_slot seen (item_at between.objects.items c.unwrap-item.result).slot tt _ _ (Err _) failed.sent,
       one_most (is_some (handle_in (item_at between.objects.items c.unwrap-item.result).slot)),
     ))
+    (fails_asking seen _ _ _ (asks_then seen _ c.flush_orphans-2.new.device _ tt (Err _) c.in_ok-flush_orphans-2.ensures.asks failed.asks))
 
 pub returns-clause-serves : goal.returns-clause-serves
 returns-clause-serves g c = λ client may.
@@ -245,6 +251,7 @@ returns-clause-serves g c = λ client may.
         one_most (is_some (handle_in (item_at between.objects.items c.unwrap-item.result).slot)),
       );
       cause = tt;
+      fails = tt;
     }
 
 pub returns-clause-flushes : goal.returns-clause-flushes
@@ -260,7 +267,7 @@ returns-clause-flushes g c =
           c.flush_orphans-2.new.held.objects.items
           c.args.handle item c.args.self.now.device c.flush_orphans-2.new.device c.drop_object-2.new.device
           (transient c.octet_of.result c.args.handle c.octet_of.ensures c.if-octet_of-ne-HT_TRANSIENT.false) here there
-          (ap (λ (v : ObjectsView). item_at v.items item) c.flush_orphans-2.ensures.clears.objects) (sent_before c.in_ok-flush_orphans-2.ensures.asks)
+          (ap (λ (v : ObjectsView). item_at v.items item) c.flush_orphans-2.ensures.clears.objects) c.in_ok-flush_orphans-2.ensures.flushed
           (λ none. (c.flush_orphans-2.ensures.clears.still none).0) done.sent;
       nobodys = λ sent. none_without_object c.flush_orphans-2.new.held c.drop_object-2.new.self done.dropped.left c.in_ok-flush_orphans-2.ensures.none;
       table_is = search rules;

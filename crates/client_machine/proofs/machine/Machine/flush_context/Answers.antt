@@ -56,6 +56,7 @@ returns-in-Err-clause-serves g c = record {
   stays = tt;
   costs = omega arith;
   cause = tt;
+  fails = tt;
 }
 
 pub returns-in-Err-clause-carries : goal.returns-in-Err-clause-carries

@@ -1,17 +1,18 @@
 use Rattle.std.proofs.Common.{subst, ◌≡◌, ◌∙◌, ap, sym, refl, true, false, [], arith, is_some}
-use Rattle.std.specs.Prelude.{ℕ, List, Option}
+use Rattle.std.specs.Prelude.{Err, ℕ, List, Option}
 use Rattle.std.proofs.lemmas.Result.{err_from_is_err_and}
 use Rattle.client_laws.specs.Ready.{tells_object, tells_session}
 use Rattle.object_swap.specs.Items.{owner_at}
 use Rattle.client_machine.specs.Moves.{MayStart, first_handle, moves_for}
-use Rattle.client_machine.proofs.Ran.{may_adopt, may_end, may_start, outcome_else, outcome_then, prepared, prepared_frame, prepared_taken, serves_failed, sent_before}
+use Rattle.client_machine.proofs.Before.{fails_asking, fails_sending}
+use Rattle.client_machine.proofs.Ran.{may_adopt, may_end, may_start, outcome_else, outcome_then, prepared, prepared_frame, prepared_taken, serves_failed}
 use Rattle.client_machine.proofs.Handing.{slice_bytes}
 use Rattle.client_machine.proofs.Orphans.{prepares_failed, prepares_then}
 use Rattle.client_machine.proofs.Costs.{sent_alone, sent_none}
 use Rattle.client_machine.proofs.Moving.{sent_more, sent_then}
 use Rattle.client_machine.proofs.Saving.{SavedOne, outcome_saved, saved_now}
 use Rattle.client_machine.proofs.Settling.{keeps_over_sessions, sessions_settled}
-use Rattle.device_port.proofs.Sending.{cause_then}
+use Rattle.device_port.proofs.Sending.{asks_some, asks_then, cause_then}
 use Rattle.session_swap.specs.Items.{SessionsView}
 use Rattle.client_machine.proofs.machine.Machine.run.Goals as goal
 
@@ -19,7 +20,8 @@ pub returns-in_err-prepare-clause-serves : goal.returns-in_err-prepare-clause-se
 returns-in_err-prepare-clause-serves g c =
     let returned = c.from_residual in
     serves_failed c.args.client c.args.table.now.items returned.result (err_from_is_err_and returned.result returned.ensures.1) (omega arith)
-    c.prepare.ensures.prepared c.requires.table c.in_err-prepare.ensures.asks.cause (omega (arith, c.prepare.ensures.costs))
+    c.prepare.ensures.prepared c.requires.table c.in_err-prepare.ensures.sends.asks.cause (omega (arith, c.prepare.ensures.costs))
+    (fails_asking g.D.Device.seen _ _ _ c.in_err-prepare.ensures.sends.asks)
 
 pub send-requires-clause-frame : goal.send-requires-clause-frame
 send-requires-clause-frame g c =
@@ -46,8 +48,9 @@ returns-in_err-send-clause-serves g c =
     (record { base_is = failed.base_is; tells = ap (λ s. is_some s) failed.state_is; count = failed.count }) failed.state_is refl
     c.prepare.ensures.prepared.settled))
     c.requires.table
-    (cause_then seen _ between _ _ c.in_ok-prepare.ensures.asks.count failed.cause)
+    (cause_then seen _ between _ _ c.in_ok-prepare.ensures.sends.asks.count failed.cause)
     (omega (arith, c.prepare.ensures.costs, failed.sent.once))
+    (fails_sending seen _ between _ _ tt c.in_ok-prepare.ensures.sends.asks failed.sent)
 
 pub keep_sessions-requires-clause-started : goal.keep_sessions-requires-clause-started
 keep_sessions-requires-clause-started g c =
@@ -81,7 +84,7 @@ returns-then-tells_object-clause-serves g c =
     let sent = c.in_ok-send.ensures.ok in
     let tells : tells_object c.args.admitted.now c.send.new.reply ≡ true =
     ap (λ (reply : List ℕ). tells_object c.args.admitted.now reply) (sym c.as_slice-3.ensures.value) ∙ sym c.tells_object.ensures ∙ c.if-tells_object.true in
-    (outcome_then c.adopt.new.objects c.keep_sessions.new.sessions p sent (sent_before c.in_ok-prepare.ensures.asks) c.prepare.ensures.still
+    (outcome_then c.adopt.new.objects c.keep_sessions.new.sessions p sent c.in_ok-prepare.ensures.sends.before c.prepare.ensures.still
     (sym c.saves_one.ensures ∙ c.if-saves_one.false) (may_adopt c.args.table.now.spare p sent c.requires.room tells) tells c.adopt.ensures.adopted.0 c.adopt.ensures.adopted.1
     c.adopt.ensures.rest c.adopt.ensures.reply c.keep_sessions.ensures c.as_slice-2.ensures.value).serves
 
@@ -92,7 +95,7 @@ returns-then-tells_object-clause-carries g c =
     let sent = c.in_ok-send.ensures.ok in
     let tells : tells_object c.args.admitted.now c.send.new.reply ≡ true =
     ap (λ (reply : List ℕ). tells_object c.args.admitted.now reply) (sym c.as_slice-3.ensures.value) ∙ sym c.tells_object.ensures ∙ c.if-tells_object.true in
-    (outcome_then c.adopt.new.objects c.keep_sessions.new.sessions p sent (sent_before c.in_ok-prepare.ensures.asks) c.prepare.ensures.still
+    (outcome_then c.adopt.new.objects c.keep_sessions.new.sessions p sent c.in_ok-prepare.ensures.sends.before c.prepare.ensures.still
     (sym c.saves_one.ensures ∙ c.if-saves_one.false) (may_adopt c.args.table.now.spare p sent c.requires.room tells) tells c.adopt.ensures.adopted.0 c.adopt.ensures.adopted.1
     c.adopt.ensures.rest c.adopt.ensures.reply c.keep_sessions.ensures c.as_slice-2.ensures.value).carries
 
@@ -102,7 +105,7 @@ returns-else-tells_object-clause-serves g c =
     c.requires.sort c.requires.may c.type_inv.bytes c.in_ok-prepare.ensures.ready c.prepare.ensures.costs c.in_ok-prepare.ensures.stays c.in_ok-prepare.ensures.used c.as_slice.ensures.value in
     let tells : tells_object c.args.admitted.now c.send.new.reply ≡ false =
     ap (λ (reply : List ℕ). tells_object c.args.admitted.now reply) (sym c.as_slice-3.ensures.value) ∙ sym c.tells_object.ensures ∙ c.if-tells_object.false in
-    (outcome_else c.keep_sessions.new.sessions p c.in_ok-send.ensures.ok (sent_before c.in_ok-prepare.ensures.asks) c.prepare.ensures.still
+    (outcome_else c.keep_sessions.new.sessions p c.in_ok-send.ensures.ok c.in_ok-prepare.ensures.sends.before c.prepare.ensures.still
     (sym c.saves_one.ensures ∙ c.if-saves_one.false) tells c.keep_sessions.ensures c.as_slice-2.ensures.value).serves
 
 pub returns-else-tells_object-clause-carries : goal.returns-else-tells_object-clause-carries
@@ -111,7 +114,7 @@ returns-else-tells_object-clause-carries g c =
     c.requires.sort c.requires.may c.type_inv.bytes c.in_ok-prepare.ensures.ready c.prepare.ensures.costs c.in_ok-prepare.ensures.stays c.in_ok-prepare.ensures.used c.as_slice.ensures.value in
     let tells : tells_object c.args.admitted.now c.send.new.reply ≡ false =
     ap (λ (reply : List ℕ). tells_object c.args.admitted.now reply) (sym c.as_slice-3.ensures.value) ∙ sym c.tells_object.ensures ∙ c.if-tells_object.false in
-    (outcome_else c.keep_sessions.new.sessions p c.in_ok-send.ensures.ok (sent_before c.in_ok-prepare.ensures.asks) c.prepare.ensures.still
+    (outcome_else c.keep_sessions.new.sessions p c.in_ok-send.ensures.ok c.in_ok-prepare.ensures.sends.before c.prepare.ensures.still
     (sym c.saves_one.ensures ∙ c.if-saves_one.false) tells c.keep_sessions.ensures c.as_slice-2.ensures.value).carries
 
 pub returns-in_err-client_save-clause-serves : goal.returns-in_err-client_save-clause-serves
@@ -125,8 +128,9 @@ returns-in_err-client_save-clause-serves g c =
     (prepares_failed seen between c.client_save.new.device c.prepare.new.held _ (keeps_over_sessions _ _ _ failed.stands.rest) failed.asks.err
     (ap (λ (v : SessionsView). record { objects = c.prepare.new.held.objects; sessions = v }) failed.err) c.prepare.ensures.prepared.settled))
     c.requires.table
-    (cause_then seen _ between _ _ c.in_ok-prepare.ensures.asks.count failed.asks.cause)
+    (cause_then seen _ between _ _ c.in_ok-prepare.ensures.sends.asks.count failed.asks.cause)
     (omega (arith, c.prepare.ensures.costs, failed.asks.once))
+    (fails_asking seen _ _ _ (asks_then seen _ between _ tt (Err _) c.in_ok-prepare.ensures.sends.asks (asks_some seen _ _ _ (Err _) failed.asks)))
 
 pub client_save-requires-clause-stand : goal.client_save-requires-clause-stand
 client_save-requires-clause-stand g c =
@@ -143,7 +147,7 @@ returns-then-saves_one-clause-serves g c =
     (sessions_settled (D.seen c.prepare.new.device).state c.prepare.new.held c.prepare.ensures.prepared.settled)
     c.client_save.ensures.stands.stand c.client_save.ensures.room c.in_ok-client_save.ensures.ok.0 c.in_ok-client_save.ensures.ok.1 in
     (outcome_saved c.client_save.new.self p (sym c.saves_one.ensures ∙ c.if-saves_one.true) (slice_bytes c.args.bytes.now c.type_inv.bytes) saved
-    (sent_before c.in_ok-prepare.ensures.asks) c.prepare.ensures.still c.in_ok-client_save.ensures.asks c.in_ok-client_save.ensures.ok.0.last_is).serves
+    c.in_ok-prepare.ensures.sends.before c.prepare.ensures.still c.in_ok-client_save.ensures.asks c.in_ok-client_save.ensures.ok.0.last_is).serves
 
 pub returns-then-saves_one-clause-carries : goal.returns-then-saves_one-clause-carries
 returns-then-saves_one-clause-carries g c =
@@ -156,7 +160,7 @@ returns-then-saves_one-clause-carries g c =
     (sessions_settled (D.seen c.prepare.new.device).state c.prepare.new.held c.prepare.ensures.prepared.settled)
     c.client_save.ensures.stands.stand c.client_save.ensures.room c.in_ok-client_save.ensures.ok.0 c.in_ok-client_save.ensures.ok.1 in
     (outcome_saved c.client_save.new.self p (sym c.saves_one.ensures ∙ c.if-saves_one.true) (slice_bytes c.args.bytes.now c.type_inv.bytes) saved
-    (sent_before c.in_ok-prepare.ensures.asks) c.prepare.ensures.still c.in_ok-client_save.ensures.asks c.in_ok-client_save.ensures.ok.0.last_is).carries
+    c.in_ok-prepare.ensures.sends.before c.prepare.ensures.still c.in_ok-client_save.ensures.asks c.in_ok-client_save.ensures.ok.0.last_is).carries
 
 -- ---- where all is at hand
 
