@@ -1,7 +1,7 @@
 //! Tests of the program's one call, `tabrmd`, over a device, an input, an output and connections in
-//! memory, some of which fail; and of the words that it takes. They cross nearly all crates, and
-//! stand apart so that these are proved while the tests are. What scripts, workloads and refused
-//! words come to where nothing fails is shown by the cases in tools/cases.
+//! memory, some of which fail. They cross nearly all crates, and stand apart so that these are
+//! proved while the tests are. What scripts, workloads and refused words come to where nothing
+//! fails is shown by the cases in tools/cases.
 #![tactic(auto)]
 
 #[cfg(test)]
@@ -18,5 +18,3 @@ mod runs;
 mod sent;
 #[cfg(test)]
 mod serving;
-#[cfg(test)]
-mod words;

@@ -39,8 +39,8 @@ const NO_HANDLES: [u8; 19] = [
     0x80, 0x01, 0, 0, 0, 19, 0, 0, 0, 0, 0, 0, 0, 0, 1, 0, 0, 0, 0,
 ];
 
-// A device that tells nothing. It answers Startup, holds nothing, and then answers each command with
-// the same response.
+// A device that tells nothing. It answers Startup, holds nothing, and then answers each command
+// with the same response.
 #[derive(Drop)]
 pub(crate) struct Mute {
     startup: Buffer,
@@ -91,7 +91,8 @@ impl Device for Mute {
     }
 }
 
-// A device that tells nothing, with these responses to Startup and to each command behind the lists.
+// A device that tells nothing, with these responses to Startup and to each command behind the
+// lists.
 pub(crate) fn mute_device(alloc: Global, startup: &[u8], later: &[u8]) -> Result<Mute, Fail> {
     let mut device = Mute {
         startup: Buffer::new(alloc)?,

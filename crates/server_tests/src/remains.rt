@@ -102,8 +102,8 @@ fn what_was_left_is_flushed(rt: HostRuntime) -> Result<(), Fail> {
     let objects: &[&[u8]] = &[STARTUP, CREATE, CREATE, CREATE];
     let sessions: &[&[u8]] = &[STARTUP, START, START, SAVE];
     let both: &[&[u8]] = &[STARTUP, START, CREATE];
-    // what was sent before, the transmission that fails, the status and the detail, what is written,
-    // and how many commands are sent in all
+    // what was sent before, the transmission that fails, the status and the detail, what is
+    // written, and how many commands are sent in all
     let cases: [(&[&[u8]], u64, (u8, u64), &[u8], u64); 7] = [
         // Startup, three lists, three flushes, and the command
         (objects, u64::MAX, (0, 0), FIRST, 12),

@@ -1,5 +1,5 @@
-//! How many commands the device is sent for those of clients: the four of the start and the closes at
-//! the end are among them.
+//! How many commands the device is sent for those of clients: the four of the start and the closes
+//! at the end are among them.
 use crate::faults::{WELL, over};
 use crate::runs::RUN;
 use std::test::Fail;

@@ -6,9 +6,9 @@ use Rattle.std.specs.Option.{ok_or}
 use Rattle.device_spec.specs.Slots.{SlotState}
 use Rattle.history_spec.specs.Entry.{Entry}
 use Rattle.device_port.specs.Device.{asked_of, last_of}
-use Rattle.tab_server.specs.declared.words.Verb.{Verb}
-use Rattle.tab_server.specs.declared.words.Verb.TheVariants.{Run, Workload, Serve}
-use Rattle.tab_server.specs.declared.words.Plan.{Plan}
+use Rattle.command_line.specs.declared.words.Verb.{Verb}
+use Rattle.command_line.specs.declared.words.Verb.TheVariants.{Run, Workload, Serve}
+use Rattle.command_line.specs.declared.words.Plan.{Plan}
 use Rattle.tab_server.specs.Status.{HasCause}
 use Rattle.tab_server.specs.Run.{After, Before}
 use Rattle.tab_server.specs.Done.{LeavesBy, LeavesPlan}

@@ -3,13 +3,6 @@ pub mod BrokerCalls
 pub mod Causes
 pub mod Connecting
 pub mod Doing
-pub mod Gathering
 pub mod Leaving
-pub mod NumberLemmas
-pub mod PathLemmas
-pub mod Planning
-pub mod SeedLemmas
 pub mod Summing
 pub mod ToEnd
-pub mod WordLemmas
-pub mod WordLimits

@@ -1,10 +1,10 @@
 -- What a plan leaves that was carried out, by its command.
 use Rattle.std.specs.Prelude.{ℕ, IsTrue, List, Option}
 use Rattle.history_spec.specs.Entry.{Entry}
-use Rattle.tab_server.specs.declared.words.Verb.{Verb}
-use Rattle.tab_server.specs.declared.words.Verb.TheVariants.{Run, Workload, Serve}
-use Rattle.tab_server.specs.declared.words.Plan.{Plan}
-use Rattle.tab_server.specs.Words.{is_serve}
+use Rattle.command_line.specs.declared.words.Verb.{Verb}
+use Rattle.command_line.specs.declared.words.Verb.TheVariants.{Run, Workload, Serve}
+use Rattle.command_line.specs.declared.words.Plan.{Plan}
+use Rattle.command_line.specs.Words.{is_serve}
 use Rattle.tab_server.specs.Run.{Before, After, Leaves}
 use Rattle.tab_server.specs.Workload.{LeavesWorkload}
 

@@ -22,10 +22,10 @@ use crate::ended_broker::end_broker;
 use crate::script::{Played, begin_broker};
 use crate::server::Ran;
 use crate::status::{ACCEPTOR_FAILED, DONE, NO_MEMORY, OUTPUT_FAILED, REFUSED, WRONG_ANSWER};
-use crate::words::{LINKS_MOST, Plan};
 use accept_loop::{AcceptError, LinkDone, Served, serve};
 use audit_journal::Journal;
 use broker_core::Broker;
+use command_line::Plan;
 use device_port::Device;
 use link_pool::{ServedAll, Services, lacks_memory, serve_all};
 use link_port::{Acceptor, Failed, Gate, Sink, push_all};
@@ -33,6 +33,10 @@ use std::alloc::Global;
 use std::snapshot::Snapshot;
 use std::sync::Wait;
 use std::thread::Threads;
+
+/// The most connections that `serve` serves at once. Where it accepts no more than these in all,
+/// what came of each is kept. This project's own.
+pub const LINKS_MOST: u32 = 256;
 
 // Writes the audit text of the journal where it is asked for, and else the line of its counts.
 fn write_text<O: Sink>(

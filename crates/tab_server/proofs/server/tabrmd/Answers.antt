@@ -1,7 +1,7 @@
 use Rattle.std.proofs.Common.{◌≡◌, ◌∙◌, Some, map, refl, sym, true≢false}
 use Rattle.std.specs.String.{string_bytes}
-use Rattle.tab_server.specs.declared.words.WordsError.TheVariants.{Refused}
-use Rattle.tab_server.specs.Words.{accepted}
+use Rattle.command_line.specs.declared.words.WordsError.TheVariants.{Refused}
+use Rattle.command_line.specs.Words.{accepted}
 use Rattle.tab_server.proofs.Doing.{if_taken, never_refused, not_none, taken}
 use Rattle.tab_server.proofs.server.tabrmd.Goals as goal
 

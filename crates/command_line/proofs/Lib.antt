@@ -1,0 +1,7 @@
+pub mod Gathering
+pub mod NumberLemmas
+pub mod PathLemmas
+pub mod Planning
+pub mod SeedLemmas
+pub mod WordLemmas
+pub mod WordLimits

@@ -1,0 +1,57 @@
+//! Worked examples: which devices words name, and which they don't.
+
+ghost use Rattle.std.specs.Prelude.{◌≡◌, [], ◌∷◌, ◌++◌, codes, length, replicate, List, ℕ, Some};
+ghost use Rattle.std.specs.Prelude.{None};
+ghost use Rattle.std.specs.Option.{option_map};
+ghost use Rattle.command_line.specs.Words.{accepted, device_of, settings_of};
+ghost use Rattle.command_line.specs.declared.words.DeviceWord.TheVariants.{Memory, Unix};
+ghost use Rattle.command_line.specs.declared.words.Setting.TheVariants.{Device};
+
+// The seed of a device in memory is 64 hexadecimal digits, in either case.
+#[tactic(auto, unfolding(hex::specs::Hex::decode_pairs))]
+fn a_device_in_memory_has_a_seed()
+    ensures seed { device_of (codes
+        "memory:00000000000000000000000000000000000000000000000000000000000000aF")
+        ≡ Some (Memory (replicate 31 0 ++ 175 ∷ [])) }
+    ensures short { device_of (codes "memory:00") ≡ None }
+    ensures empty { device_of (codes "memory:") ≡ None }
+    ensures no_digit { device_of (codes
+        "memory:000000000000000000000000000000000000000000000000000000000000000g") ≡ None }
+    ensures other_case { device_of (codes
+        "Memory:0000000000000000000000000000000000000000000000000000000000000000") ≡ None }
+{}
+
+// The path of a socket is 1 to 100 bytes, `:` and `=` among them.
+fn a_device_behind_a_socket_has_a_path()
+    ensures one { device_of (codes "unix:/a") ≡ Some (Unix (codes "/a")) }
+    ensures colon { device_of (codes "unix::") ≡ Some (Unix (codes ":")) }
+    ensures empty { device_of (codes "unix:") ≡ None }
+    ensures no_colon { device_of (codes "unix") ≡ None }
+    ensures other_case { device_of (codes "Unix:/a") ≡ None }
+    ensures other_kind { device_of (codes "tcp:/a") ≡ None }
+    ensures longest { (path : List ℕ) → length path ≡ 100
+        → device_of (codes "unix:" ++ path) ≡ Some (Unix path) }
+    ensures too_long { (path : List ℕ) → length path ≡ 101
+        → device_of (codes "unix:" ++ path) ≡ None }
+{}
+
+// The device stands behind `=` or in the next word.
+fn an_option_names_the_device()
+    ensures behind { settings_of (codes "--device=unix:/a=b" ∷ [])
+        ≡ Some (Device (Unix (codes "/a=b")) ∷ []) }
+    ensures next { settings_of (codes "--device" ∷ codes "unix:/a" ∷ [])
+        ≡ Some (Device (Unix (codes "/a")) ∷ []) }
+    ensures nothing { settings_of (codes "--device=unix:" ∷ []) ≡ None }
+{}
+
+// Each command takes either kind.
+fn a_command_takes_the_device()
+    ensures run { option_map (λ plan. plan.device)
+        (accepted (codes "run" ∷ codes "--device=unix:/a" ∷ [])) ≡ Some (Unix (codes "/a")) }
+    ensures serve { option_map (λ plan. plan.device) (accepted (codes "serve"
+        ∷ codes "--device=unix:/a" ∷ codes "--socket=/b" ∷ codes "--connections=4" ∷ []))
+        ≡ Some (Unix (codes "/a")) }
+    ensures workload { option_map (λ plan. plan.device) (accepted (codes "workload"
+        ∷ codes "--device=unix:/a" ∷ codes "--start=7" ∷ codes "--lines=20" ∷ []))
+        ≡ Some (Unix (codes "/a")) }
+{}
