@@ -1,0 +1,3 @@
+pub mod Link
+pub mod Receive
+pub mod Watched
