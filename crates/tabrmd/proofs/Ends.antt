@@ -1,9 +1,9 @@
 -- A run over a device that shows its state ends with no wrong answer.
 use Rattle.std.proofs.Common.{◌≡◌, ◌≤◌, ◌<◌, ℕ, zero, suc, true, false, Option, Some, None, inl, inr, ⊎_elim, refl, arith}
 use Rattle.std.specs.Prelude.{◌≢◌, ◌↔◌, ◌⊎◌, IfSome, IsNone}
-use Rattle.tab_server.specs.declared.words.Verb.{Verb}
-use Rattle.tab_server.specs.declared.words.Verb.TheVariants.{Run, Serve, Workload}
-use Rattle.tab_server.specs.declared.words.Plan.{Plan}
+use Rattle.command_line.specs.declared.words.Verb.{Verb}
+use Rattle.command_line.specs.declared.words.Verb.TheVariants.{Run, Serve, Workload}
+use Rattle.command_line.specs.declared.words.Plan.{Plan}
 use Rattle.tab_server.specs.Done.{IsServe}
 
 -- by the command, of which each is served or played

@@ -1,2 +1,2 @@
-pub mod Seed
+pub mod Found
 pub mod Stop

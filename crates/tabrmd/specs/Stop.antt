@@ -1,7 +1,7 @@
 -- The words by which a daemon is asked to stop.
 use Rattle.std.specs.Prelude.{ℕ, ◌==◌, List, [], ◌∷◌, codes, Option, None, if◌then◌else◌}
 use Rattle.std.specs.List.{starts_with, list_any, before_first, after_first}
-use Rattle.tab_server.specs.Words.{is_equals, is_text, path_of}
+use Rattle.command_line.specs.Words.{is_equals, is_text, path_of}
 
 -- the path in the option of this name with this value
 abbrev pub path_given : List ℕ → List ℕ → Option (List ℕ)

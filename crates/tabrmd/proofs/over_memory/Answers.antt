@@ -1,18 +1,18 @@
-use Rattle.std.proofs.Common.{Some, [], map, refl, subst}
+use Rattle.std.proofs.Common.{Some, [], map, subst}
 use Rattle.std.specs.Prelude.{◌≡◌, ◌≤◌, ◌<◌, IfSome}
 use Rattle.std.specs.Option.{option_map}
 use Rattle.std.specs.String.{string_bytes}
 use Rattle.audit_journal.specs.Journal.{JournalView}
 use Rattle.device_memory.specs.Memory.{DeviceInMemory, told_by}
 use Rattle.link_pool.specs.Services.{IsServed, client_of, given_of}
+use Rattle.command_line.specs.Words.{accepted}
 use Rattle.tab_server.specs.Done.{IsServe, LeavesPlan}
 use Rattle.tab_server.specs.Run.{after_of, before_of}
 use Rattle.tab_server.specs.Serving.{IsLinkDone, LeavesPool, LeavesServe}
-use Rattle.tab_server.specs.declared.words.TheConstants.{LINKS_MOST}
-use Rattle.tab_server.specs.Words.{accepted}
+use Rattle.tab_server.specs.declared.serving.TheConstants.{LINKS_MOST}
 use Rattle.tab_server.proofs.Doing.{cause_by}
 use Rattle.tabrmd.proofs.Ends.{never_lacks, never_seven}
-use Rattle.tabrmd.proofs.run.Goals as goal
+use Rattle.tabrmd.proofs.over_memory.Goals as goal
 
 -- the device that was made is the one that the words name
 pub returns-clause-leaves : goal.returns-clause-leaves

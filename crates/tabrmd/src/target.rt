@@ -1,0 +1,37 @@
+// Where the device is that the words name.
+ghost use Rattle.std.specs.Prelude.{◌≡◌, List, ℕ, IsTrue};
+ghost use Rattle.tabrmd.specs.declared.target.Target.TheVariants as targets;
+
+use link_port::{Sink, Source};
+
+// Where the device is that the words name.
+#[derive(Drop)]
+pub(crate) enum Target<S: Source, K: Sink> {
+    // In memory, of this seed.
+    Memory([u8; 32]),
+    // Behind these two ends of a connection.
+    Link(S, K),
+    // Nowhere: nobody takes a connection to it.
+    Unreachable,
+}
+
+impl<S: Source + Drop, K: Sink + Drop> Target<S, K> {
+    // Whether there is a device.
+    pub(crate) fn is_there(&self) -> bool {
+        match self {
+            Target::Memory(_) | Target::Link(_, _) => true,
+            Target::Unreachable => false,
+        }
+    }
+
+    // The device, if it is used. Else a TPM is let alone, and a device in memory stands for it.
+    pub(crate) fn used_where(self, is_used: bool) -> Target<S, K>
+        ensures used { IsTrue is_used → result ≡ self }
+        ensures memory { (seed : List ℕ) → self ≡ targets.Memory seed → result ≡ self }
+    {
+        match self {
+            Target::Link(_, _) if !is_used => Target::Memory([0; 32]),
+            target => target,
+        }
+    }
+}
