@@ -1,8 +1,6 @@
 """The program crates/fault_runs, which plays scripts over a device in memory that fails at listed transmissions: what it
 is given, what it tells of each run, and what is wrong with a run."""
 
-import importlib.machinery
-import importlib.util
 import os
 import pathlib
 import subprocess
@@ -10,6 +8,7 @@ import sys
 from collections import namedtuple
 
 import audit_text
+from other_tools import load_tool
 
 TOOLS = pathlib.Path(__file__).resolve().parent
 CRATES = TOOLS.parent / "crates"
@@ -31,15 +30,7 @@ class Wrong(Exception):
     """The program didn't tell of its runs as it should. Its one argument says how."""
 
 
-def load_judge():
-    """The tool judge_audit as a module."""
-    loader = importlib.machinery.SourceFileLoader("judge_audit", str(TOOLS / "judge_audit"))
-    made = importlib.util.module_from_spec(importlib.util.spec_from_loader("judge_audit", loader))
-    loader.exec_module(made)
-    return made
-
-
-judge_audit = load_judge()
+judge_audit = load_tool("judge_audit")
 FAULT_REPLY = judge_audit.FAULT_REPLY
 
 

@@ -26,14 +26,14 @@ def is_listening(path):
 
 
 class Daemon:
-    """A daemon of so many connections. It listens when this is made, or it has ended. The end of a `with` kills it if it
-    still runs."""
+    """A daemon of so many connections, over a device in memory of this seed, or over the one that a word names. It
+    listens when this is made, or it has ended. The end of a `with` kills it if it still runs."""
 
-    def __init__(self, path, connections, *words, seed="0" * 64, program=PROGRAM, output=subprocess.PIPE,
+    def __init__(self, path, connections, *words, seed="0" * 64, device=None, program=PROGRAM, output=subprocess.PIPE,
                  umask=-1, preexec_fn=None):
         self.path = pathlib.Path(path)
         self.process = subprocess.Popen(
-            [program, "serve", "--device", f"memory:{seed}", "--socket", str(path), "--connections",
+            [program, "serve", "--device", device or f"memory:{seed}", "--socket", str(path), "--connections",
              str(connections), *words],
             stdin=subprocess.DEVNULL, stdout=output, stderr=subprocess.PIPE, umask=umask, preexec_fn=preexec_fn)
         until = time.monotonic() + SECONDS

@@ -170,7 +170,7 @@ class Sources:
     @functools.cached_property
     def options(self):
         """The program's options."""
-        text = (self.top / "crates/tab_server/specs/Words.antt").read_text()
+        text = (self.top / "crates/command_line/specs/Words.antt").read_text()
         return set(re.findall(r'codes "(--[a-z-]+)"', text))
 
     @functools.cached_property
