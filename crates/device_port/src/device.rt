@@ -5,7 +5,8 @@ ghost use Rattle.device_port.specs.Device.{Seen, Transmits, profile_numbers, sen
 use crate::numbers::Numbers;
 use tab_bytes::Buffer;
 
-/// A transmission to the device failed. Its fault count rose, and the command was not run.
+/// A transmission to the device failed: its fault count rose, and no response came. A device that
+/// shows its state didn't run the command. A TPM at the other end of a link may have run it.
 #[derive(Clone, Copy, Debug, PartialEq, Eq)]
 pub struct DeviceFailed;
 
@@ -15,7 +16,7 @@ pub trait Device {
     ghost seen: { Self → Seen };
 
     /// Sends one whole command, and writes the response over whatever `reply` holds. `DeviceFailed`
-    /// comes only where the fault count rose; the state then stays, and `reply` is empty.
+    /// comes only where the fault count rose. Then `reply` is empty, and a state that is shown stays.
     fn transmit(&mut self, command: &[u8], reply: &mut Buffer) -> Result<(), DeviceFailed>
         requires { IsTrue (is_frame command.now) }
         ensures { Transmits (seen self.old) command.now result reply.new (seen self.new) };

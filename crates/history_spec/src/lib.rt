@@ -46,7 +46,8 @@ pub enum EntryKind {
     /// The client's command was canceled before it ran. The word that covered it: the number up to
     /// which commands were canceled.
     Canceled(u64),
-    /// A transmission to the device failed, and the command was not run.
+    /// A transmission to the device failed, and no response came. To the history the command has no
+    /// effect.
     Fault,
     /// A client was closed.
     Close,

@@ -19,6 +19,10 @@ pub trait Gate: Sync {
     /// The journal had no room for a command, whose client was told so, or for a client. By default
     /// nothing is done.
     fn journal_full(&self) {}
+
+    /// The device gave a wrong answer, here or before: a command's client was told so, or a client
+    /// wasn't opened. By default nothing is done.
+    fn wrong_answer(&self) {}
 }
 
 /// The gate that is always open: it does nothing.
