@@ -39,7 +39,7 @@ pub one_more : (items new_items : List Item) → list_any is_vacant items ≡ fa
 one_more items new_items full room (inl same) = absurd (let no = ap (list_any is_vacant) same in cc)
 one_more items new_items full room (inr more) = more.1
 
-full_at : (items : List Item) (at : ℕ) → list_any is_vacant items ≡ false → at < length items → is_vacant (item_at items at) ≡ false
+pub full_at : (items : List Item) (at : ℕ) → list_any is_vacant items ≡ false → at < length items → is_vacant (item_at items at) ≡ false
 full_at [] at full inside = absurd (omega arith)
 full_at (x ∷ items) zero full inside = (or_parts (is_vacant x) (list_any is_vacant items) full).0
 full_at (x ∷ items) (suc at) full inside = full_at items at (or_parts (is_vacant x) (list_any is_vacant items) full).1 (omega arith)

@@ -149,6 +149,16 @@ fn need(objects: &mut Objects, device: &mut Silent, needed: &[u32], reply: &mut 
     objects.make_objects(device, needed, 0, reply).is_ok()
 }
 
+// Whether this object is dropped.
+fn drop_one(objects: &mut Objects, device: &mut Silent, item: u32, reply: &mut Buffer) -> bool
+    requires left { objects.old.left ≡ [] }
+    requires slots { objects.old.slots ≡ 3 }
+    requires inside { item < length objects.old.items }
+    requires full { list_any is_vacant objects.old.items ≡ false }
+{
+    objects.drop_object(device, item, reply).is_ok()
+}
+
 // How many commands were sent when all were held, when each of them had been in a slot once more,
 // when one of two was needed with another, and when one was dropped.
 fn run(alloc: Global) -> Result<[u64; 5], Fail> {
@@ -185,7 +195,7 @@ fn run(alloc: Global) -> Result<[u64; 5], Fail> {
         return Ok(counts);
     }
     counts[3] = device.sent_count();
-    if objects.drop_object(&mut device, 4, &mut reply).is_ok() {
+    if drop_one(&mut objects, &mut device, 4, &mut reply) {
         counts[4] = device.sent_count();
     }
     Ok(counts)

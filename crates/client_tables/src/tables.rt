@@ -3,10 +3,12 @@ ghost use Rattle.std.specs.Prelude.{OnOk, OnErr, get_or, length, set};
 ghost use Rattle.std.specs.Borrow.{sem};
 ghost use Rattle.history_spec.specs.declared.TheConstants.{MOST_CLIENTS};
 ghost use Rattle.history_spec.specs.Entry.{without};
-ghost use Rattle.client_tables.specs.Kept.{Rise, is_among};
+ghost use Rattle.client_tables.specs.Kept.{is_among};
 ghost use Rattle.client_tables.specs.Lent.{LendsTable};
 
+use crate::open_client::OpenClient;
 use std::alloc::{AllocError, Global};
+use std::collections::HashMap;
 use std::marker::Model;
 use virtual_handles::ClientTable;
 
@@ -14,47 +16,26 @@ use virtual_handles::ClientTable;
 /// the list that the client's objects stand in. Both are taken out when the client is closed, and
 /// nothing is kept of it then.
 ///
-/// A table is found by binary search over the numbers of the open clients. A close moves the tables
-/// of the clients that were opened later. Memory is taken by `reserve` alone, for as many clients
-/// as are open at once.
+/// A client is found by the hash of its number, so that no call but `reserve` goes over the others.
+/// Memory is taken by `reserve` alone, which then moves all that is kept.
 #[derive(Drop)]
 pub struct ClientTables {
-    // The numbers of the open clients, which rise.
-    numbers: Vec<u32>,
-    // The table of each of them, and the number of its list.
-    tables: Vec<ClientTable>,
-    lists: Vec<u32>,
+    // The open clients, by number.
+    clients: HashMap<u32, OpenClient>,
     // How many clients were opened.
     opened: u32,
     alloc: Global,
 }
 
 impl Model for ClientTables {
-    ghost use Rattle.std.specs.Prelude.{◌-◌, vec_len, vec_capacity, min};
+    ghost use Rattle.std.specs.Prelude.{nat_eq};
+    ghost use Rattle.std.specs.HashMap.{get, spare as room};
     ghost use Rattle.client_tables.specs.View.{TablesView};
-    ghost use Rattle.client_tables.specs.Kept.{Kept, all_items, all_lists};
+    ghost use Rattle.client_tables.specs.Kept.{view_of};
 
     ghost Value = { TablesView };
 
-    ghost view = { λ t. record {
-      items = all_items t.numbers.items t.tables.items t.opened;
-      lists = all_lists t.numbers.items t.lists.items t.opened;
-      present = t.numbers.items;
-      spare = min (min (vec_capacity t.numbers) (vec_capacity t.tables)) (vec_capacity t.lists)
-          - vec_len t.numbers;
-    } };
-
-    ghost invariant = { λ t. Kept t.numbers.items t.tables.items t.lists.items t.opened };
-}
-
-// The place of a number among rising numbers.
-fn place_of(numbers: &[u32], number: u32) -> usize
-    requires rise { Rise numbers.now }
-    requires among { IsTrue (is_among number numbers.now) }
-    ensures within { result < length numbers.now }
-    ensures place { get_or numbers.now result 0 ≡ number }
-{
-    numbers.binary_search(&number).unwrap()
+    ghost view = { λ t. view_of (get nat_eq t.clients) t.opened (room t.clients) };
 }
 
 impl ClientTables {
@@ -65,9 +46,7 @@ impl ClientTables {
         ensures present { result.present ≡ [] }
     {
         ClientTables {
-            numbers: Vec::new(alloc),
-            tables: Vec::new(alloc),
-            lists: Vec::new(alloc),
+            clients: HashMap::new(alloc),
             opened: 0,
             alloc,
         }
@@ -93,9 +72,7 @@ impl ClientTables {
         ensures present { self.new.present ≡ self.old.present }
         ensures spare { self.old.spare ≤ self.new.spare }
     {
-        self.numbers.reserve(1)?;
-        self.tables.reserve(1)?;
-        self.lists.reserve(1)
+        self.clients.reserve(1)
     }
 
     /// Opens the next client, which holds nothing and has the list of this number, and gives the
@@ -107,12 +84,13 @@ impl ClientTables {
         ensures items { self.new.items ≡ self.old.items ++ [] ∷ [] }
         ensures lists { self.new.lists ≡ self.old.lists ++ list ∷ [] }
         ensures present { self.new.present ≡ self.old.present ++ result ∷ [] }
-        ensures spare { self.old.spare ≡ self.new.spare + 1 }
+        ensures spare { self.old.spare ≤ self.new.spare + 1 }
     {
         let number = self.opened;
-        self.numbers.push_reserved(number);
-        self.tables.push_reserved(ClientTable::new(self.alloc));
-        self.lists.push_reserved(list);
+        let table = ClientTable::new(self.alloc);
+        // This can't fail where there is room.
+        let put: Result<_, _> = self.clients.insert(number, OpenClient { table, list });
+        put.unwrap();
         self.opened += 1;
         number
     }
@@ -122,8 +100,7 @@ impl ClientTables {
         requires { IsTrue (is_among client self.now.present) }
         ensures { result.now.items ≡ get_or self.now.items client [] }
     {
-        let place = place_of(&self.numbers, client);
-        &self.tables[place]
+        &self.clients[&client].table
     }
 
     /// The table of an open client, to change it.
@@ -132,8 +109,8 @@ impl ClientTables {
         ensures* writes_back { sem 𝓛 (LendsTable self.entry client result) }
         ensures value { result.now.items ≡ get_or self.old.items client [] }
     {
-        let place = place_of(&self.numbers, client);
-        &mut self.tables[place]
+        let kept = self.clients.get_mut(&client).unwrap();
+        &mut kept.table
     }
 
     /// The number of the list of an open client.
@@ -141,23 +118,19 @@ impl ClientTables {
         requires { IsTrue (is_among client self.now.present) }
         ensures { result ≡ get_or self.now.lists client 0 }
     {
-        let place = place_of(&self.numbers, client);
-        self.lists[place]
+        self.clients[&client].list
     }
 
     /// Closes an open client, which holds nothing afterwards, and gives the number of the list that
-    /// it had. Its room is there for another client.
+    /// it had. There is no less room than before.
     pub fn close(&mut self, client: u32) -> u32
         requires { IsTrue (is_among client self.old.present) }
         ensures list { result ≡ get_or self.old.lists client 0 }
         ensures items { self.new.items ≡ set self.old.items client [] }
         ensures lists { self.new.lists ≡ set self.old.lists client 0 }
         ensures present { self.new.present ≡ without client self.old.present }
-        ensures spare { self.new.spare ≡ self.old.spare + 1 }
+        ensures spare { self.old.spare ≤ self.new.spare }
     {
-        let place = place_of(&self.numbers, client);
-        self.numbers.remove(place);
-        self.tables.remove(place);
-        self.lists.remove(place)
+        self.clients.remove(&client).unwrap().list
     }
 }

@@ -31,6 +31,10 @@ count_cons p x xs = sum_by-cons (λ y. number (p y)) x xs
 pub count_append : {X : Type 0} (p : X → Bool) (xs ys : List X) → count_by p (xs ++ ys) ≡ count_by p xs + count_by p ys
 count_append p xs ys = sum_by-append (λ x. number (p x)) xs ys
 
+pub count_map : {X : Type 0} (p : X → Bool) (xs : List X) → count_by (λ flag. flag) (map p xs) ≡ count_by p xs
+count_map p [] = refl
+count_map p (x ∷ xs) = omega (arith, count_cons (λ (flag : Bool). flag) (p x) (map p xs), count_cons p x xs, count_map p xs)
+
 pub count_set : {X : Type 0} (p : X → Bool) (xs : List X) (i : ℕ) (y d : X) → i < length xs
     → count_by p (set xs i y) + number (p (get_or xs i d)) ≡ count_by p xs + number (p y)
 count_set p xs i y d inside = sum_by-set (λ x. number (p x)) xs i y d inside

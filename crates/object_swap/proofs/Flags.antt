@@ -1,9 +1,11 @@
 -- Lists of the indices of true flags.
-use Rattle.std.proofs.Common.{◌≡◌, ◌≢◌, ◌+◌, ◌<◌, ◌≤◌, inl, inr, ℕ, zero, suc, Bool, true, false, List, [], ◌∷◌, ◌++◌, length, get_or, set, refl, ap, subst, sym, ◌∙◌, arith, length-set, length-append, set-set}
+use Rattle.std.proofs.Common.{◌≡◌, ◌≢◌, ◌+◌, ◌<◌, ◌≤◌, inl, inr, ℕ, zero, suc, Bool, true, false, List, [], ◌∷◌, ◌++◌, length, get_or, set, take, refl, ap, subst, sym, ◌∙◌, arith, length-set, length-append, set-set}
 use Rattle.std.specs.Prelude.{◌==◌, ◌||◌}
 use Rattle.std.specs.List.{count_by, remove}
+use Rattle.std.proofs.Math.ListN.{drop_of_length-le}
+use Rattle.std.proofs.Math.Seq.{take-append_seam}
 use Rattle.std.proofs.lemmas.Bool.{eq-eqb, eqb-true, ne_eqb, cases_eq, cases_lt}
-use Rattle.std.proofs.lemmas.List.{get_or-set_same, get_or-set_other, get_or_past, set-get_or, set_past}
+use Rattle.std.proofs.lemmas.List.{append-nil, get_or-set_same, get_or-set_other, get_or_past, get_or_push, set-get_or, set_past}
 use Rattle.std.proofs.lemmas.List.Edits.{length-remove}
 use Rattle.std.proofs.lemmas.List.Sums.{count_by-le-length, sum_by-remove, sum_by_push}
 use Rattle.device_port.specs.Use.{is_among}
@@ -119,6 +121,19 @@ lists_removed flags indices at d lists inside =
         number_true (get_or flags index false) was.flag,
       );
     }
+
+-- the last index goes
+pub lists_popped : (flags : List Bool) (indices : List ℕ) (index : ℕ) → ListsFlags flags (indices ++ index ∷ [])
+    → ListsFlags (set flags index false) indices
+lists_popped flags indices index lists =
+    let all = indices ++ index ∷ [] in
+    let last = length indices in
+    let more = length-append indices (index ∷ []) in
+    let rest : remove all last ≡ indices =
+    ap (λ (l : List ℕ). take last all ++ l) (drop_of_length-le all {i = suc last} (omega (arith, more))) ∙ append-nil (take last all) ∙ take-append_seam indices (index ∷ []) in
+    subst (λ (l : List ℕ). ListsFlags (set flags index false) l) rest
+    (subst (λ (n : ℕ). ListsFlags (set flags n false) (remove all last)) (get_or_push indices index 0 last refl)
+    (lists_removed flags all last 0 lists (omega (arith, more))))
 
 -- an index that goes to the end
 pub lists_moved : (flags : List Bool) (indices : List ℕ) (at : ℕ) → ListsFlags flags indices → at < length indices

@@ -2,6 +2,7 @@ mod Commands
 mod Costs
 pub mod Counts
 mod Flags
+mod FreeLists
 mod Listed
 mod Making
 mod Missing

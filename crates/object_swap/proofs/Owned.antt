@@ -1,18 +1,16 @@
 -- What holds of the lists of the clients, and what the calls make of it.
-use Rattle.std.proofs.Common.{◌≡◌, ◌≢◌, ◌+◌, ◌-◌, ◌<◌, ◌≤◌, inl, inr, ℕ, zero, suc, Bool, true, false, List, [], ◌∷◌, ◌++◌, length, get_or, set, map, refl, ap, subst, sym, ◌∙◌, arith, length-append, length-set}
-use Rattle.std.specs.Prelude.{◌==◌, not, Option, Some, None, is_some, MatchOption}
+use Rattle.std.proofs.Common.{◌≡◌, ◌≢◌, ◌+◌, ◌-◌, ◌<◌, ◌≤◌, inl, inr, ℕ, zero, suc, Bool, true, false, List, [], ◌∷◌, ◌++◌, length, get_or, set, refl, ap, subst, sym, ◌∙◌, arith, length-append, length-set}
+use Rattle.std.specs.Prelude.{◌==◌, Option, Some, None, MatchOption}
 use Rattle.std.specs.List.{count_by, list_any}
 use Rattle.std.proofs.lemmas.List.{get_or-map, get_or-set_other, get_or-set_same, get_or_past, get_or_push, length-map}
-use Rattle.std.proofs.lemmas.List.Elements.{All-from_get_or}
-use Rattle.std.proofs.lemmas.List.Folds.{list_any_none}
 use Rattle.std.proofs.lemmas.List.Sums.{sum_by-set, sum_by_push}
 use Rattle.std.proofs.lemmas.Bool.{cases_eq, cases_lt, eq-eqb}
 use Rattle.linked_records.specs.View.{IsListed, RecordsView, first_index, put_back, record_count, taken_out}
 use Rattle.object_swap.specs.declared.TheConstants.{PLACES_MOST}
 use Rattle.object_swap.specs.Items as shown
-use Rattle.object_swap.specs.Items.{HasNone, Item, Names, has_free_list, has_list, is_client, is_nobodys, is_vacant, item_at, no_item, owner_at}
+use Rattle.object_swap.specs.Items.{HasNone, Item, Names, has_list, is_client, is_nobodys, is_vacant, item_at, no_item, owner_at}
 use Rattle.object_swap.specs.Records.{AreSomebodys, AreThreaded, IsOwnedBy, Threads, number, stands_in}
-use Rattle.object_swap.proofs.Counts.{count_append, count_cons, count_set, count_some, is_false, is_true, list_none, list_some, number_false, number_true}
+use Rattle.object_swap.proofs.Counts.{count_append, count_cons, count_map, count_set, count_some, is_false, is_true, list_none, list_some, number_false, number_true}
 use Rattle.object_swap.proofs.Listed.{same_vacancy}
 use Rattle.object_swap.proofs.Threaded.{Entry, listed_client, owner_inside, owner_is, somewhere, threaded_again, threaded_ended, threaded_given, threaded_out, threaded_put, vacant_client, whose_true}
 
@@ -61,11 +59,6 @@ somebodys_set items index item all inside is n =
     ]
 
 -- ---- counts
-
-counted_vacant : (items : List Item) → count_by (λ flag. flag) (map is_vacant items) ≡ count_by is_vacant items
-counted_vacant [] = refl
-counted_vacant (item ∷ items) =
-    omega (arith, count_cons (λ (flag : Bool). flag) (is_vacant item) (map is_vacant items), count_cons is_vacant item items, counted_vacant items)
 
 put_count : (lists : Threads) (list : ℕ) (p : Entry) → list < length lists → record_count (put_back lists list p) ≡ record_count lists + 1
 put_count lists list p inside =
@@ -145,7 +138,7 @@ module _ (items : List Item) (view : View) (owners : List (Option ℕ)) (vacant 
     somebodys = λ n. ap (λ (p : Option ℕ × Bool). p.1) (owner_again items new same n) ∙ has.somebodys n
         ∙ ap (λ (p : Option ℕ × Bool). is_nobodys p.0) (sym (owner_again items new same n));
     counted =
-        let vacant_same = sym (counted_vacant new) ∙ ap (count_by (λ (flag : Bool). flag)) (same_vacancy items new same) ∙ counted_vacant items in
+        let vacant_same = sym (count_map is_vacant new) ∙ ap (count_by (λ (flag : Bool). flag)) (same_vacancy items new same) ∙ count_map is_vacant items in
         record {
           vacant_is = has.counted.vacant_is ∙ sym vacant_same;
           all = has.counted.all ∙ sym count;
@@ -321,8 +314,3 @@ module _ (items : List Item) (view : View) (owners : List (Option ℕ)) (vacant 
   fewer_vacant index there =
       let at = item_listed index there in
       omega (arith, has.counted.all, out_count view.lists index at)
-
--- where each list is somebody's, none is free
-pub all_owned : (owners : List (Option ℕ)) → ((k : ℕ) → k < length owners → is_some (get_or owners k None) ≡ true) → has_free_list owners ≡ false
-all_owned owners all =
-    list_any_none is_nobodys owners (All-from_get_or (λ (o : Option ℕ). is_nobodys o ≡ false) owners None (λ k inside. ap not (all k inside)))

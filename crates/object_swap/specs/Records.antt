@@ -67,6 +67,16 @@ pub record ListsResidents (records : List Record) (indices : List ℕ) (room : �
   pub lists : ListsFlags (residency records) indices
   pub most : length records ≤ room
 
+-- whose each list is, if anybody's, and how many more find room without memory being taken
+pub record OwnersView : Type 0 where
+  pub owners : List (Option ℕ)
+  pub spare : ℕ
+
+-- a list of the lists that are nobody's, with room for the number of every list
+pub record ListsFree (owners : List (Option ℕ)) (free : List ℕ) (room : ℕ) : Type 0 where
+  pub lists : ListsFlags (map is_nobodys owners) free
+  pub most : length owners ≤ room
+
 abbrev pub AreAmong : List ℕ → List ℕ → Type 0
 AreAmong needed indices = AllByRecursion (λ index. is_among needed index ≡ true) indices
 

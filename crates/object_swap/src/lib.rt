@@ -7,6 +7,7 @@ mod items;
 mod laws;
 mod lists;
 mod moves;
+mod owners;
 mod record;
 mod residents;
 mod swapper;

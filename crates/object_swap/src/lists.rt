@@ -1,12 +1,10 @@
 //! Lists of the objects of each client: the index of each, so that no call walks the records.
 ghost use Rattle.std.specs.Prelude.{◌≡◌, ◌≤◌, ◌<◌, ◌+◌, ◌^◌, ℕ, List, [], length, get_or, set};
-ghost use Rattle.std.specs.Prelude.{Option, None, MatchOption, false};
+ghost use Rattle.std.specs.Prelude.{Option, MatchOption};
 ghost use Rattle.linked_records.specs.View.{IsListed, first_index, taken_out};
-ghost use Rattle.object_swap.specs.Items.{Names, has_free_list, no_item, owner_at};
+ghost use Rattle.object_swap.specs.Items.{Names, no_item};
 ghost use Rattle.object_swap.specs.Records.{AreRecords, IsOwnedBy, items_of};
-ghost use Rattle.object_swap.specs.declared.TheConstants.{PLACES_MOST};
 
-use crate::PLACES_MOST;
 use crate::record::Record;
 use crate::vacant::forget;
 use linked_records::{Records, Steps};
@@ -84,20 +82,6 @@ impl Visits for Uncounted {
     fn remove(&mut self, lists: &mut Records<()>, item: u32) {
         lists.remove(item);
     }
-}
-
-/// A list that is nobody's.
-pub fn free_list(owners: &[Option<u32>]) -> Option<u32>
-    requires few { length owners.now ≤ PLACES_MOST }
-    ensures { MatchOption result (has_free_list owners.now ≡ false)
-        (λ list. (list < length owners.now) × (owner_at owners.now list ≡ None)) }
-{
-    for (list, owner) in owners.iter().enumerate() {
-        if owner.is_none() {
-            return Some(list as u32);
-        }
-    }
-    None
 }
 
 /// Takes an object out of the list of its client. Its record is a place for another one.

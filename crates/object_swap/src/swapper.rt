@@ -15,8 +15,9 @@ ghost use Rattle.object_swap.specs.Items.{new_item, no_item, owner_at, residents
 ghost use Rattle.object_swap.specs.declared.TheConstants.{PLACES_MOST};
 
 use crate::PLACES_MOST;
-use crate::lists::{Uncounted, Visits, free_list, release};
+use crate::lists::{Uncounted, Visits, release};
 use crate::moves::flush;
+use crate::owners::Owners;
 use crate::record::Record;
 use crate::residents::{any_keeps, swap_objects};
 use crate::vacant::{list_last, unlist};
@@ -40,7 +41,7 @@ pub struct Objects {
     vacant: u32,
     // The indices of the records of each client, and whose each of these lists is, if anybody's.
     lists: Records<()>,
-    owners: Vec<Option<u32>>,
+    owners: Owners,
     // The indices of the records that are in a slot, the least recently used first.
     loaded: Vec<u32>,
     // The device's handles of the objects of nobody.
@@ -56,9 +57,9 @@ impl Model for Objects {
     ghost Value = { ObjectsView };
 
     ghost view = { λ o. view_with o.records.items o.loaded.items o.slots
-        o.owners.items o.left.items };
+        o.owners.owners o.left.items };
 
-    ghost invariant = { λ o. Holds o.records.items o.lists o.owners.items o.vacant
+    ghost invariant = { λ o. Holds o.records.items o.lists o.owners.owners o.vacant
         o.loaded.items o.left.items (vec_capacity o.loaded) (vec_capacity o.left) o.slots };
 }
 
@@ -75,7 +76,7 @@ impl Objects {
             records: Vec::new(alloc),
             vacant: 0,
             lists,
-            owners: Vec::new(alloc),
+            owners: Owners::new(alloc),
             loaded: Vec::new(alloc),
             left,
             slots,
@@ -98,16 +99,15 @@ impl Objects {
         ensures err { OnErr result (self.new ≡ self.old) }
         ensures none { OnErr result (has_free_list self.old.owners ≡ false) }
     {
-        if let Some(list) = free_list(&self.owners) {
-            self.owners[list as usize] = Some(client);
+        if let Some(list) = self.owners.take_free(client) {
             return Ok(list);
         }
         if self.owners.len() >= PLACES_MOST as usize {
             return Err(AllocError);
         }
-        self.owners.reserve(1)?;
+        self.owners.reserve()?;
         let list = self.lists.add_list()?;
-        self.owners.push_reserved(Some(client));
+        self.owners.push(client);
         Ok(list)
     }
 
@@ -117,7 +117,7 @@ impl Objects {
             × HasNone self.old.items client }
         ensures { self.new ≡ record self.old { owners = set self.old.owners list None } }
     {
-        self.owners[list as usize] = None;
+        self.owners.end(list);
     }
 
     /// Takes memory for one more object, where it isn't there yet. It fails only for want of

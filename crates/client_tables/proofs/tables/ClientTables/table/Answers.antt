@@ -1,12 +1,8 @@
-use Rattle.std.proofs.Common.{ap}
-use Rattle.client_tables.specs.View.{TablesView}
-use Rattle.client_tables.proofs.Seen.{at_place, rise_kept, seen_table}
+use Rattle.client_tables.proofs.Seen.{seen_items, seen_open}
 use Rattle.client_tables.proofs.tables.ClientTables.table.Goals as goal
 
-pub returns : goal.returns
-returns c =
-    let p = at_place c.deref.result.now c.args.client c.place_of-place.result c.deref.ensures.value c.place_of-place.ensures.within c.place_of-place.ensures.place in
-    seen_table c.args.self.now.items c.args.client c.place_of-place.result c.index.result.now c.self.invariant p (ap (λ (v : TablesView). v.items) c.self.view_is) c.index.ensures
+pub index-requires : goal.index-requires
+index-requires c = (seen_open _ _ _ c.args.client c.args.self.now c.self.view_is c.requires).0
 
-pub place_of-place-requires-clause-rise : goal.place_of-place-requires-clause-rise
-place_of-place-requires-clause-rise c = rise_kept c.deref.result.now c.deref.ensures.value c.self.invariant
+pub returns : goal.returns
+returns c = seen_items _ _ _ c.args.client c.index.result.now c.args.self.now c.self.view_is c.requires c.index.ensures

@@ -1,21 +1,25 @@
-use Rattle.std.proofs.Common.{◌-◌, refl, ap}
-use Rattle.std.specs.Prelude.{min, vec_len, vec_capacity}
-use Rattle.client_tables.specs.View.{TablesView}
-use Rattle.client_tables.proofs.Seen.{at_place, rise_kept, seen_set, seen_table}
+use Rattle.std.proofs.Common.{◌≡◌, Option, Some, refl, sym, ap, ◌∙◌, nat_eq}
+use Rattle.std.specs.HashMap.{get}
+use Rattle.std.specs.Option.{option_copied_mut, is_some}
+use Rattle.client_tables.specs.declared.open_client.OpenClient.{OpenClient}
+use Rattle.client_tables.proofs.Seen.{lent, seen_changed, seen_items, seen_open}
 use Rattle.client_tables.proofs.tables.ClientTables.table_mut.Goals as goal
+
+pub unwrap-kept-requires : goal.unwrap-kept-requires
+unwrap-kept-requires c = lent c.get_mut.result (rw c.get_mut.ensures.value (seen_open _ _ _ c.args.client c.args.self.now c.self.view_is c.requires).0)
 
 pub returns : goal.returns
 returns c =
-    let p = at_place c.deref.result.now c.args.client c.place_of-place.result c.deref.ensures.value c.place_of-place.ensures.within c.place_of-place.ensures.place in (
+    let now : OpenClient = c.unwrap-kept.result.now in
+    let here : get nat_eq c.self.inside.clients c.args.client ≡ Some now = sym c.get_mut.ensures.value ∙ ap option_copied_mut c.unwrap-kept.ensures in (
       (
         refl,
-        λ w. seen_set c.args.self.now c.args.client c.place_of-place.result (min (min (vec_capacity c.self.inside.numbers) (vec_capacity c.self.inside.tables)) (vec_capacity c.self.inside.lists) - vec_len c.self.inside.numbers) w c.self.invariant p c.self.view_is,
+        λ w.
+            let held = c.get_mut.follows.holds (record now { table = w }) in
+            seen_changed _ _ _ _ _ c.args.client now w c.args.self.now c.self.view_is here (held.3 (ap (λ (o : Option OpenClient). is_some o) here)).0 held.6,
       ),
       record {
         writes_back = tt;
-        value = seen_table c.args.self.now.items c.args.client c.place_of-place.result c.index_mut.result.now c.self.invariant p (ap (λ (v : TablesView). v.items) c.self.view_is) c.index_mut.ensures.value;
+        value = seen_items _ _ _ c.args.client now c.args.self.now c.self.view_is c.requires here;
       },
     )
-
-pub place_of-place-requires-clause-rise : goal.place_of-place-requires-clause-rise
-place_of-place-requires-clause-rise c = rise_kept c.deref.result.now c.deref.ensures.value c.self.invariant

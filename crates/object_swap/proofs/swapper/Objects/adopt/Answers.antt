@@ -17,7 +17,7 @@ insert_back-item-requires-clause-room c =
     let items = ap (λ (v : ObjectsView). list_any is_vacant v.items) c.self.view_is in
     omega (
       arith,
-      some_vacant (items_of inside.records.items) inside.lists inside.owners.items inside.vacant c.self.invariant.owned (items ∙ c.requires.room),
+      some_vacant (items_of inside.records.items) inside.lists inside.owners.owners inside.vacant c.self.invariant.owned (items ∙ c.requires.room),
       c.self.invariant.owned.counted.spare,
     )
 
@@ -25,14 +25,14 @@ pub overflow_sub-self : goal.overflow_sub-self
 overflow_sub-self c =
     let inside = c.self.inside in
     let items = ap (λ (v : ObjectsView). list_any is_vacant v.items) c.self.view_is in
-    some_vacant (items_of inside.records.items) inside.lists inside.owners.items inside.vacant c.self.invariant.owned (items ∙ c.requires.room)
+    some_vacant (items_of inside.records.items) inside.lists inside.owners.owners inside.vacant c.self.invariant.owned (items ∙ c.requires.room)
 
 pub index_mut-record-requires : goal.index_mut-record-requires
 index_mut-record-requires c =
     let inside = c.self.inside in
     let room = ap (λ (v : ObjectsView). list_any is_vacant v.items) c.self.view_is ∙ c.requires.room in
     let left = c.insert_back-item.ensures in
-    let place = placed inside.records.items inside.lists inside.owners.items inside.vacant c.insert_back-item.result c.self.invariant.owned room
+    let place = placed inside.records.items inside.lists inside.owners.owners inside.vacant c.insert_back-item.result c.self.invariant.owned room
     left.fresh left.given.0 left.given.1 in
     omega (arith, place.inside)
 
@@ -41,7 +41,7 @@ list_last-requires c =
     let inside = c.self.inside in
     let room = ap (λ (v : ObjectsView). list_any is_vacant v.items) c.self.view_is ∙ c.requires.room in
     let left = c.insert_back-item.ensures in
-    let place = placed inside.records.items inside.lists inside.owners.items inside.vacant c.insert_back-item.result c.self.invariant.owned room
+    let place = placed inside.records.items inside.lists inside.owners.owners inside.vacant c.insert_back-item.result c.self.invariant.owned room
     left.fresh left.given.0 left.given.1 in
     omega (
       arith,
@@ -57,7 +57,7 @@ invariant_of-self c =
     let item = c.insert_back-item.result in
     let view = ap (λ (v : ObjectsView). v.items) c.self.view_is in
     let left = c.insert_back-item.ensures in
-    let place = placed records inside.lists inside.owners.items inside.vacant item c.self.invariant.owned (ap (list_any is_vacant) view ∙ c.requires.room)
+    let place = placed records inside.lists inside.owners.owners inside.vacant item c.self.invariant.owned (ap (list_any is_vacant) view ∙ c.requires.room)
     left.fresh left.given.0 left.given.1 in
     let d = c.index_mut-record.result.now in
     let n : Record = record { client = Some c.args.client; handle = Some c.args.handle; blob = d.blob; kept = d.kept } in
@@ -67,8 +67,8 @@ invariant_of-self c =
     let is = adopted_item n c.args.client c.args.handle refl refl d_kept in
     let owner = ap (λ (v : ObjectsView). owner_at v.owners c.args.list) c.self.view_is ∙ c.requires.list in
     record {
-      owned = subst (λ (l : List Item). IsOwnedBy l c.insert_back-item.new.self inside.owners.items (inside.vacant - 1)) (sym (map-set item_of records item n ∙ ap (set items item) is))
-          (owned_put items inside.lists inside.owners.items inside.vacant c.self.invariant.owned item left.fresh c.insert_back-item.new.self c.args.list
+      owned = subst (λ (l : List Item). IsOwnedBy l c.insert_back-item.new.self inside.owners.owners (inside.vacant - 1)) (sym (map-set item_of records item n ∙ ap (set items item) is))
+          (owned_put items inside.lists inside.owners.owners inside.vacant c.self.invariant.owned item left.fresh c.insert_back-item.new.self c.args.list
           c.args.client tt (new_item c.args.client (slot_of c.args.handle)) place.items_inside refl refl owner place.some left.lists left.spare
           (place.least c.insert_back-item.new.self.given left.given.2) (place.most c.insert_back-item.new.self.given left.given.2));
       held = subst (λ (l : List ℕ). HoldsResidents (set records item n) l inside.left.items (vec_capacity c.list_last.new.indices) (vec_capacity inside.left)
@@ -90,7 +90,7 @@ returns-clause-inside c =
     let inside = c.self.inside in
     let view = ap (λ (v : ObjectsView). v.items) c.self.view_is in
     let left = c.insert_back-item.ensures in
-    let place = placed inside.records.items inside.lists inside.owners.items inside.vacant c.insert_back-item.result c.self.invariant.owned
+    let place = placed inside.records.items inside.lists inside.owners.owners inside.vacant c.insert_back-item.result c.self.invariant.owned
     (ap (list_any is_vacant) view ∙ c.requires.room) left.fresh left.given.0 left.given.1 in
     omega (arith, place.items_inside, ap (λ (l : List Item). length l) view)
 
@@ -99,7 +99,7 @@ returns-clause-vacant c =
     let inside = c.self.inside in
     let view = ap (λ (v : ObjectsView). v.items) c.self.view_is in
     let left = c.insert_back-item.ensures in
-    let place = placed inside.records.items inside.lists inside.owners.items inside.vacant c.insert_back-item.result c.self.invariant.owned
+    let place = placed inside.records.items inside.lists inside.owners.owners inside.vacant c.insert_back-item.result c.self.invariant.owned
     (ap (list_any is_vacant) view ∙ c.requires.room) left.fresh left.given.0 left.given.1 in
     ap (λ (l : List Item). is_vacant (item_at l c.insert_back-item.result)) (sym view) ∙ place.vacant
 
@@ -110,7 +110,7 @@ returns-clause-held c =
     let item = c.insert_back-item.result in
     let view = ap (λ (v : ObjectsView). v.items) c.self.view_is in
     let left = c.insert_back-item.ensures in
-    let place = placed records inside.lists inside.owners.items inside.vacant item c.self.invariant.owned (ap (list_any is_vacant) view ∙ c.requires.room)
+    let place = placed records inside.lists inside.owners.owners inside.vacant item c.self.invariant.owned (ap (list_any is_vacant) view ∙ c.requires.room)
     left.fresh left.given.0 left.given.1 in
     let d = c.index_mut-record.result.now in
     let n : Record = record { client = Some c.args.client; handle = Some c.args.handle; blob = d.blob; kept = d.kept } in

@@ -29,7 +29,7 @@ invariant_of-self g c =
     let out = met_out inside.records.items c.args.self.now.items c.args.item c.look_up.result.now view c.requires.named is c.in_default.is in
     let left = c.release.ensures in
     record {
-      owned = left.owned inside.owners.items c.self.invariant.owned;
+      owned = left.owned inside.owners.owners c.self.invariant.owned;
       held = held_out inside.records.items c.release.new.records.items inside.loaded.items inside.left.items _ _ inside.slots c.args.item c.self.invariant.held
           left.items left.sound left.count (ap (λ (l : List Item). is_resident (item_at l c.args.item)) view ∙ ap (λ (s : Option ℕ). is_some s) out);
     }
@@ -93,7 +93,7 @@ invariant_of-self-2 g c =
     let met = met records c.args.self.now.items c.args.item c.in-Some.handle c.look_up.result.now c.self.invariant.held.sound view c.requires.named is c.in-Some.is in
     let left = c.release-2.ensures in
     record {
-      owned = left.owned inside.owners.items c.self.invariant.owned;
+      owned = left.owned inside.owners.owners c.self.invariant.owned;
       held = held_flushed records c.release-2.new.records.items inside.loaded.items inside.left.items (vec_capacity inside.loaded) (vec_capacity inside.left)
           inside.slots c.args.item c.self.invariant.held left.items left.sound left.count c.unlist.new.indices.items (vec_capacity c.unlist.new.indices)
           (named_inside records c.args.item (subst (λ (l : List Item). Names l c.args.item) (sym view) c.requires.named))

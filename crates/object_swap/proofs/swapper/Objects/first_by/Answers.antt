@@ -11,5 +11,5 @@ returns-clause-first g c client owner =
     let owner_is = ap (λ (v : ObjectsView). owner_at v.owners c.args.list) c.self.view_is ∙ owner in
     subst (λ (l : List Item). MatchOption c.first.result (HasNone l client) (λ item. Names l item × ((item_at l item).client ≡ Some client)))
     (ap (λ (v : ObjectsView). v.items) c.self.view_is)
-    (first_found (items_of inside.records.items) inside.lists inside.owners.items inside.vacant c.self.invariant.owned c.args.list client owner_is
+    (first_found (items_of inside.records.items) inside.lists inside.owners.owners inside.vacant c.self.invariant.owned c.args.list client owner_is
     c.first.result c.first.ensures.first)

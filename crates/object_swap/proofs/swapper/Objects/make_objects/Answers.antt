@@ -61,10 +61,10 @@ invariant_of-self g c =
     let whole = written_back records c.deref_mut.result.now new inside.records.len old (omega arith) same in
     let again = same ∙ ap (λ (l : List Record). owners (items_of l)) old in
     let none = no_handles inside.left.items (ap (λ (v : ObjectsView). v.left) c.self.view_is ∙ c.requires.nobodys) in
-    subst (λ (l : List Record). Holds l inside.lists inside.owners.items inside.vacant c.swap_objects.new.loaded.items inside.left.items
+    subst (λ (l : List Record). Holds l inside.lists inside.owners.owners inside.vacant c.swap_objects.new.loaded.items inside.left.items
     (vec_capacity c.swap_objects.new.loaded) (vec_capacity inside.left) inside.slots) (sym whole)
     (record {
-      owned = owned_again (items_of records) inside.lists inside.owners.items inside.vacant c.self.invariant.owned (items_of new) again
+      owned = owned_again (items_of records) inside.lists inside.owners.owners inside.vacant c.self.invariant.owned (items_of new) again
           (same_items records new again);
       held = swapped_held records new inside.loaded.items c.swap_objects.new.loaded.items inside.left.items (vec_capacity inside.loaded)
           (vec_capacity c.swap_objects.new.loaded) (vec_capacity inside.left) inside.slots c.self.invariant.held again left.swaps.sound left.listed.0
@@ -89,7 +89,7 @@ returns-clause-room g c =
     let new = c.swap_objects.new.records in
     let loaded = inside.loaded.items in
     let slots = inside.slots in
-    let owners = inside.owners.items in
+    let owners = inside.owners.owners in
     let nobodys = inside.left.items in
     let left = c.swap_objects.ensures in
     let old = c.deref_mut.ensures.value in

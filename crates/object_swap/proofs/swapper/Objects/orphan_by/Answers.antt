@@ -41,7 +41,7 @@ invariant_of-self g c =
     let met : Met c.args.self.now.items c.args.item handle =
     met records c.args.self.now.items c.args.item handle c.index.result.now c.self.invariant.held.sound view c.requires.named c.index.ensures c.unwrap-handle.ensures in
     record {
-      owned = left.owned inside.owners.items c.self.invariant.owned;
+      owned = left.owned inside.owners.owners c.self.invariant.owned;
       held = subst (λ (l : List ℕ). HoldsResidents c.release.new.records.items c.unlist.new.indices.items l (vec_capacity c.unlist.new.indices)
           (vec_capacity c.list_last.new.indices) inside.slots) (sym {A = List ℕ} c.list_last.ensures.last)
           (held_orphaned records c.release.new.records.items inside.loaded.items inside.left.items (vec_capacity inside.loaded) (vec_capacity inside.left)

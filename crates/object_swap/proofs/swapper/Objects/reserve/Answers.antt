@@ -14,7 +14,7 @@ pub returns-then-self-gt0-clause-ok : goal.returns-then-self-gt0-clause-ok
 returns-then-self-gt0-clause-ok c =
     let inside = c.self.inside in
     ap (λ (v : ObjectsView). list_any is_vacant v.items) (sym c.self.view_is)
-    ∙ vacant_some (items_of inside.records.items) inside.lists inside.owners.items inside.vacant c.self.invariant.owned (omega (arith, c.if-self-gt0.true))
+    ∙ vacant_some (items_of inside.records.items) inside.lists inside.owners.owners inside.vacant c.self.invariant.owned (omega (arith, c.if-self-gt0.true))
 
 pub invariant_of-self-2 : goal.invariant_of-self-2
 invariant_of-self-2 c =
@@ -26,12 +26,12 @@ invariant_of-self-2 c =
     let sound : IsRecord n = record { handle = tt; room = omega (arith, c.in_ok-blob.ensures.exact); context = λ kept. absurd (false≢true kept) } in
     let room : length records + 1 ≤ vec_capacity c.reserve-2.new.self = omega (arith, c.in_ok-reserve-2.ensures.ok) in
     let left = c.in_ok-reserve.ensures in
-    let more = owned_more items inside.lists inside.owners.items inside.vacant c.self.invariant.owned c.reserve.new.self (omega (arith, c.if-self-gt0.false))
+    let more = owned_more items inside.lists inside.owners.owners inside.vacant c.self.invariant.owned c.reserve.new.self (omega (arith, c.if-self-gt0.false))
     left.lists left.ok left.spare.1 in
     let held = held_more records inside.loaded.items inside.left.items (vec_capacity inside.loaded) (vec_capacity c.reserve-2.new.self) (vec_capacity inside.left)
     inside.slots n c.self.invariant.held sound refl room few in
     record {
-      owned = subst (λ (l : List Item). IsOwnedBy l c.reserve.new.self inside.owners.items 1)
+      owned = subst (λ (l : List Item). IsOwnedBy l c.reserve.new.self inside.owners.owners 1)
           (sym (ap items_of c.in_ok-push.ensures.items ∙ map_push item_of records n)) more;
       held = subst (λ (l : List Record). HoldsResidents l c.reserve-2.new.self.items inside.left.items (vec_capacity c.reserve-2.new.self)
           (vec_capacity inside.left) inside.slots) (sym c.in_ok-push.ensures.items)
@@ -47,7 +47,7 @@ returns-clause-same c =
     let n : Record = record { client = None; handle = None; blob = c.in_ok-blob.blob; kept = false } in
     inr (
       ap (list_any is_vacant) (sym view)
-          ∙ none_vacant (items_of records) inside.lists inside.owners.items inside.vacant c.self.invariant.owned (omega (arith, c.if-self-gt0.false)),
+          ∙ none_vacant (items_of records) inside.lists inside.owners.owners inside.vacant c.self.invariant.owned (omega (arith, c.if-self-gt0.false)),
       ap items_of c.in_ok-push.ensures.items ∙ map_push item_of records n ∙ ap (λ (l : List Item). l ++ no_item ∷ []) view,
     )
 
@@ -59,28 +59,28 @@ pub returns-then-len-clause-grows : goal.returns-then-len-clause-grows
 returns-then-len-clause-grows c =
     let inside = c.self.inside in
     (ap (λ (v : ObjectsView). list_any is_vacant v.items) (sym c.self.view_is)
-    ∙ none_vacant (items_of inside.records.items) inside.lists inside.owners.items inside.vacant c.self.invariant.owned (omega (arith, c.if-self-gt0.false)))
+    ∙ none_vacant (items_of inside.records.items) inside.lists inside.owners.owners inside.vacant c.self.invariant.owned (omega (arith, c.if-self-gt0.false)))
 
 pub returns-in_err-reserve-clause-grows : goal.returns-in_err-reserve-clause-grows
 returns-in_err-reserve-clause-grows c =
     let inside = c.self.inside in
     of_error _ (ap (λ (v : ObjectsView). list_any is_vacant v.items) (sym c.self.view_is)
-    ∙ none_vacant (items_of inside.records.items) inside.lists inside.owners.items inside.vacant c.self.invariant.owned (omega (arith, c.if-self-gt0.false)))
+    ∙ none_vacant (items_of inside.records.items) inside.lists inside.owners.owners inside.vacant c.self.invariant.owned (omega (arith, c.if-self-gt0.false)))
 
 pub returns-in_err-reserve-2-clause-grows : goal.returns-in_err-reserve-2-clause-grows
 returns-in_err-reserve-2-clause-grows c =
     let inside = c.self.inside in
     of_error _ (ap (λ (v : ObjectsView). list_any is_vacant v.items) (sym c.self.view_is)
-    ∙ none_vacant (items_of inside.records.items) inside.lists inside.owners.items inside.vacant c.self.invariant.owned (omega (arith, c.if-self-gt0.false)))
+    ∙ none_vacant (items_of inside.records.items) inside.lists inside.owners.owners inside.vacant c.self.invariant.owned (omega (arith, c.if-self-gt0.false)))
 
 pub returns-in_err-blob-clause-grows : goal.returns-in_err-blob-clause-grows
 returns-in_err-blob-clause-grows c =
     let inside = c.self.inside in
     of_error _ (ap (λ (v : ObjectsView). list_any is_vacant v.items) (sym c.self.view_is)
-    ∙ none_vacant (items_of inside.records.items) inside.lists inside.owners.items inside.vacant c.self.invariant.owned (omega (arith, c.if-self-gt0.false)))
+    ∙ none_vacant (items_of inside.records.items) inside.lists inside.owners.owners inside.vacant c.self.invariant.owned (omega (arith, c.if-self-gt0.false)))
 
 pub returns-in_err-push-clause-grows : goal.returns-in_err-push-clause-grows
 returns-in_err-push-clause-grows c =
     let inside = c.self.inside in
     of_error _ (ap (λ (v : ObjectsView). list_any is_vacant v.items) (sym c.self.view_is)
-    ∙ none_vacant (items_of inside.records.items) inside.lists inside.owners.items inside.vacant c.self.invariant.owned (omega (arith, c.if-self-gt0.false)))
+    ∙ none_vacant (items_of inside.records.items) inside.lists inside.owners.owners inside.vacant c.self.invariant.owned (omega (arith, c.if-self-gt0.false)))
