@@ -16,7 +16,7 @@ use Rattle.client_machine.specs.Moves.{FailsAtLast, FlushesSome, IsSent, MakesRe
 pub flushes_none : {D : Type 0} (seen : D → Seen) (device : D) → FlushesSome seen 0 device device
 flushes_none seen device = record { sent = []; trace_is = refl; each = tt; count_is = refl }
 
-flush_code : (handle : ℕ) → code_of (flush_context_command handle) ≡ CC_FLUSH_CONTEXT
+pub flush_code : (handle : ℕ) → code_of (flush_context_command handle) ≡ CC_FLUSH_CONTEXT
 flush_code handle = refl
 
 -- one more was answered

@@ -1,7 +1,7 @@
 -- A client's object is flushed, or left to nobody since its flush failed: every other item as it was, and the client's table without
 -- its handle. What is dropped one after another is dropped in one.
 use Rattle.std.proofs.Common.{◌≡◌, ◌≢◌, ◌⊎◌, ◌+◌, ◌≤◌, ◌<◌, ◌++◌, ◌∷◌, inl, inr, ℕ, suc, Bool, true, false, List, [], length, get_or, set, map, refl, ap, sym, ◌∙◌, subst, append-nil, append_assoc, arith}
-use Rattle.std.specs.Prelude.{◌==◌, ◌&&◌, nat_lt, not, Option, Some, None, is_some, Result, Ok, Err, OnErr, if◌then◌else◌}
+use Rattle.std.specs.Prelude.{◌==◌, ◌&&◌, nat_lt, not, Option, Some, None, is_some, Result, Ok, Err, is_err, OnErr, if◌then◌else◌}
 use Rattle.std.specs.List.{AllByRecursion}
 use Rattle.std.proofs.lemmas.Bool.{cases_eq, eqb-false, false≢true, ne_eqb, eq-eqb}
 use Rattle.std.proofs.lemmas.List.{get_or-map, get_or-set_same, get_or-set_other, length-append, length-set}
@@ -24,7 +24,7 @@ use Rattle.history_laws.proofs.Counts.{one_false, one_if}
 use Rattle.history_laws.proofs.Tables.{held_all, named, without_by, without_count}
 use Rattle.client_machine.specs.declared.held.Held.{Held}
 use Rattle.client_machine.specs.Costs.{own_objects, own_residents}
-use Rattle.client_machine.specs.Dropping.{AreLeftByFaults, Disowns, Drops, LeavesMore}
+use Rattle.client_machine.specs.Dropping.{AreLeftByFaults, Disowns, Drops, LeavesMore, SendsFlushes}
 use Rattle.client_machine.specs.Moves.{GainsNone, KeepsObjectsOf, KeepsOwners, other_than}
 use Rattle.client_machine.specs.Settled.{Settled, sessions_in}
 use Rattle.client_machine.specs.Tables.{IsPlaceOf, IsTable, is_item, naming_in}
@@ -33,6 +33,7 @@ use Rattle.client_machine.proofs.Orphans.{answered_then, gains_then, keeps_same,
 use Rattle.client_machine.proofs.Prepared.{counts_same, counts_then}
 use Rattle.client_machine.proofs.Settling.{counter_over_objects, keeps_over_objects, persist_over_objects, rest_over_objects, settled_over_objects, some_same}
 use Rattle.client_machine.proofs.Staying.{set_at}
+use Rattle.client_machine.proofs.Tried.{none_tried, tried_then}
 
 -- ---- an object of a client
 
@@ -475,7 +476,7 @@ drops_ended seen client old new held new_held view list n drops view_is =
 
 pub disowns_none : {D : Type 0} (seen : D → Seen) (device : D) (held : Held) (n : ℕ) → Disowns seen device device held held (Ok n)
 disowns_none seen device held n =
-    record { keeps = keeps_same seen device; slots = refl; length_is = refl; lists = tt; left = inl (omega arith); err = tt }
+    record { keeps = keeps_same seen device; slots = refl; length_is = refl; lists = tt; left = inl (omega arith); err = tt; sent = none_tried seen device }
 
 lists_after : {B : Type 0} (result : Result B ℕ) (owners between after : List (Option ℕ)) → between ≡ owners → OnErr result (after ≡ between)
     → OnErr result (after ≡ owners)
@@ -492,6 +493,7 @@ disowns_then seen old middle new held between new_held x result lists first seco
   lists = lists_after result held.objects.owners between.objects.owners new_held.objects.owners lists second.lists;
   left = left_then _ _ _ _ _ _ second.keeps.count first.left second.left;
   err = second.err;
+  sent = tried_then seen old middle new (is_err result) first.sent second.sent;
 }
 
 left_once : (nobodys new_nobodys faults new_faults : ℕ) → new_nobodys ≡ nobodys + 1 → Rose faults new_faults
@@ -504,22 +506,23 @@ left_once nobodys new_nobodys faults new_faults more rose =
 
 -- one object whose flush failed
 pub disowns_left : {D A : Type 0} (seen : D → Seen) (old new : D) (held : Held) (new_view : ObjectsView) (item slot : ℕ) (x : A)
-    → new_view ≡ orphaned held.objects item slot → KeepsRest seen old new → Rose (seen old).faults (seen new).faults
+    → new_view ≡ orphaned held.objects item slot → KeepsRest seen old new → Rose (seen old).faults (seen new).faults → SendsFlushes seen old new false
     → Disowns seen old new held (with_objects held new_view) (Ok x)
-disowns_left seen old new held new_view item slot x view_is rest rose = record {
+disowns_left seen old new held new_view item slot x view_is rest rose sent = record {
   keeps = keeps_over_objects seen old new rest;
   slots = ap (λ (v : ObjectsView). v.slots) view_is;
   length_is = ap (λ (v : ObjectsView). length v.items) view_is ∙ length-set held.objects.items item no_item;
   lists = tt;
   left = left_once _ _ _ _ (omega (arith, ap (λ (v : ObjectsView). length v.left) view_is, length-append held.objects.left (slot ∷ []))) rose;
   err = tt;
+  sent = sent;
 }
 
 -- a call that returned where the last one succeeded, and where it failed
 pub disowns_ok : {D A B : Type 0} (seen : D → Seen) (old new : D) (held new_held : Held) (x : A) (y : B)
     → Disowns seen old new held new_held (Ok x) → Disowns seen old new held new_held (Ok y)
 disowns_ok seen old new held new_held x y done =
-    record { keeps = done.keeps; slots = done.slots; length_is = done.length_is; lists = tt; left = done.left; err = tt }
+    record { keeps = done.keeps; slots = done.slots; length_is = done.length_is; lists = tt; left = done.left; err = tt; sent = done.sent }
 
 -- and where its client's list is nobody's then
 pub disowns_ended : {D A B : Type 0} (seen : D → Seen) (old new : D) (held new_held : Held) (view : ObjectsView) (list : ℕ) (x : A) (y : B)
@@ -527,7 +530,7 @@ pub disowns_ended : {D A B : Type 0} (seen : D → Seen) (old new : D) (held new
     → Disowns seen old new held (with_objects new_held view) (Ok y)
 disowns_ended {B = B} seen old new held new_held view list x y done view_is =
     subst (λ (v : ObjectsView). Disowns {A = B} seen old new held (with_objects new_held v) (Ok y)) (sym view_is)
-    (record { keeps = done.keeps; slots = done.slots; length_is = done.length_is; lists = tt; left = done.left; err = tt })
+    (record { keeps = done.keeps; slots = done.slots; length_is = done.length_is; lists = tt; left = done.left; err = tt; sent = done.sent })
 
 pub disowns_failed : {D A B : Type 0} (seen : D → Seen) (old new : D) (held new_held : Held) (code : ℕ) (result : Result B ℕ)
     → (other : ℕ) × (result ≡ Err other) × (other ≡ code) → Disowns {A = A} seen old new held new_held (Err code)
@@ -536,4 +539,4 @@ disowns_failed {A = A} {B = B} seen old new held new_held code result (other, is
     let failed : Disowns {A = A} seen old new held new_held (Err other) =
     subst (λ (code : ℕ). Disowns {A = A} seen old new held new_held (Err code)) (sym same) done in
     subst (λ (r : Result B ℕ). Disowns seen old new held new_held r) (sym is)
-    (record { keeps = failed.keeps; slots = failed.slots; length_is = failed.length_is; lists = failed.lists; left = failed.left; err = failed.err })
+    (record { keeps = failed.keeps; slots = failed.slots; length_is = failed.length_is; lists = failed.lists; left = failed.left; err = failed.err; sent = failed.sent })

@@ -1,5 +1,5 @@
 -- A client's session is flushed, or left to nobody since its flush failed: what that leaves.
-use Rattle.std.proofs.Common.{◌≡◌, inl, inr, ℕ, List, [], set, refl, ap, sym, subst, arith}
+use Rattle.std.proofs.Common.{◌≡◌, ◌≤◌, inl, inr, ℕ, List, [], set, refl, ap, sym, subst, arith}
 use Rattle.std.specs.Prelude.{Option, Some, None}
 use Rattle.std.specs.List.{count_by}
 use Rattle.tab_spec.specs.Count.{Rose}
@@ -10,11 +10,13 @@ use Rattle.device_port.specs.Own.{IsAnswered}
 use Rattle.object_swap.specs.Items as objects
 use Rattle.session_swap.specs.Items as sessions
 use Rattle.session_swap.specs.Items.{HasGapRoom, KeepsRest, Names, SessionsView, Stand, counter_of, disowned, is_orphan, item_at, sessions_of, without_session}
+use Rattle.session_swap.proofs.Among.{named_inside}
+use Rattle.session_swap.proofs.Counts.{count_set, flag_false, flag_most}
 use Rattle.session_swap.proofs.Standing.{stands_disowned}
 use Rattle.client_machine.specs.declared.held.Held.{Held}
-use Rattle.client_machine.specs.Dropping.{Drops}
+use Rattle.client_machine.specs.Dropping.{AreLeftByFaults, Drops}
 use Rattle.client_machine.specs.Moves.{other_than}
-use Rattle.client_machine.specs.Settled.{Settled}
+use Rattle.client_machine.specs.Settled.{Settled, orphan_count}
 use Rattle.client_machine.specs.Tables.{AreOpenOwners}
 use Rattle.client_machine.proofs.Disowning.{IsOwnAt, ended_orphans, ended_others, ended_owners, left_orphans, left_others, left_owners}
 use Rattle.client_machine.proofs.Dropping.{leaves_same}
@@ -120,3 +122,32 @@ left seen client old new held new_view handle view_is same rest rose none names 
       slots = refl;
       length_is = refl;
     }
+
+-- ---- how many are nobody's then
+
+pub none_left : (faults new_faults : ℕ) (held : Held) (new_view : SessionsView) (handle : ℕ) → Names held.sessions.items handle
+    → new_view.items ≡ set held.sessions.items (number_of_session handle) None → faults ≤ new_faults
+    → AreLeftByFaults (orphan_count held) faults (orphan_count (with_sessions held new_view)) new_faults
+none_left faults new_faults held new_view handle names is rose =
+    let items = held.sessions.items in
+    inl (omega (
+      arith,
+      ap (λ (l : List (Option sessions.Item)). count_by is_orphan l) is,
+      count_set is_orphan items (number_of_session handle) None None (named_inside items handle names),
+      flag_false (is_orphan None) refl,
+      rose,
+    ))
+
+pub one_left : (faults new_faults : ℕ) (held : Held) (new_view : SessionsView) (handle : ℕ) → Names held.sessions.items handle
+    → new_view.items ≡ set held.sessions.items (number_of_session handle) (disowned (item_at held.sessions.items (number_of_session handle)))
+    → Rose faults new_faults → AreLeftByFaults (orphan_count held) faults (orphan_count (with_sessions held new_view)) new_faults
+one_left faults new_faults held new_view handle names is rose =
+    let items = held.sessions.items in
+    let n = number_of_session handle in
+    let left_item = disowned (item_at items n) in
+    let count = ap (λ (l : List (Option sessions.Item)). count_by is_orphan l) is in
+    let one = count_set is_orphan items n left_item None (named_inside items handle names) in
+    elim (counted_once faults new_faults rose) [
+      | inl once ↦ inl (omega (arith, count, one, flag_most (is_orphan left_item), once))
+      | inr most ↦ inr most
+    ]

@@ -32,3 +32,4 @@ pub mod Replying
 pub mod Flushing
 pub mod FlushingSessions
 pub mod Before
+pub mod Tried

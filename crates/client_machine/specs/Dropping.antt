@@ -1,9 +1,13 @@
 -- What each step leaves while what a client has is dropped.
-use Rattle.std.specs.Prelude.{◌≡◌, ◌≤◌, ◌⊎◌, ℕ, ◌+◌, false, List, ◌++◌, length, Option, Some, None, Result, IfErr, OnErr}
+use Rattle.std.specs.Prelude.{◌≡◌, ◌≤◌, ◌⊎◌, ℕ, ◌+◌, Bool, true, false, List, [], ◌∷◌, ◌++◌, length, Option, Some, None, Result, is_err, IfErr, OnErr}
 use Rattle.tab_spec.specs.Count.{largest_count}
 use Rattle.device_spec.specs.Answers.{IsRight, IsWrongAnswer}
 use Rattle.device_spec.specs.Slots.{SlotState}
-use Rattle.device_port.specs.Device.{Seen, asked_of, last_of, sent_of}
+use Rattle.std.specs.List.{AllByRecursion}
+use Rattle.tab_spec.specs.declared.TheConstants.{CC_FLUSH_CONTEXT}
+use Rattle.tab_spec.specs.Frame.{code_of}
+use Rattle.device_port.specs.Device.{Seen, Transmission, asked_of, last_of, sent_of}
+use Rattle.device_port.specs.Own.{WasTaken}
 use Rattle.session_swap.specs.Items.{Item, is_owned, item_at}
 use Rattle.world_spec.specs.World.{without_owner}
 use Rattle.client_machine.specs.declared.held.Held.{Held}
@@ -20,6 +24,22 @@ AreLeftByFaults nobodys faults new_nobodys new_faults = (new_nobodys + faults �
 abbrev pub KeepsOthers : ℕ → (items new_items : List (Option Item)) → Type 0
 KeepsOthers client items new_items = (number : ℕ) → is_owned client (item_at items number) ≡ false → item_at new_items number ≡ item_at items number
 
+-- a flush that was answered, or whose transmission failed
+abbrev pub WasTried : Transmission → Type 0
+WasTried one = (code_of one.command ≡ CC_FLUSH_CONTEXT) × ((one.response ≡ None) ⊎ WasTaken one)
+
+-- each of these was; or each but the newest, which is a flush that met a wrong answer
+abbrev pub WereTried : (wrong : Bool) → List Transmission → Type 0
+WereTried false sent = AllByRecursion WasTried sent
+WereTried true [] = Unit {0}
+WereTried true (newest ∷ earlier) = (code_of newest.command ≡ CC_FLUSH_CONTEXT) × AllByRecursion WasTried earlier
+
+-- nothing was sent but flushes, the newest first, and each was answered or failed, unless the newest met a wrong answer
+pub record SendsFlushes {D : Type 0} (seen : D → Seen) (old new : D) (wrong : Bool) : Type 0 where
+  pub sent : List Transmission
+  pub trace_is : (seen new).trace ≡ sent ++ (seen old).trace
+  pub each : WereTried wrong sent
+
 -- What can't be flushed is nobody's then. This holds of each step, also of one that met a wrong answer: its code is the error, and no list of
 -- objects gets another owner
 pub record Disowns {D A : Type 0} (seen : D → Seen) (old new : D) (held new_held : Held) (result : Result A ℕ) : Type 0 where
@@ -29,6 +49,8 @@ pub record Disowns {D A : Type 0} (seen : D → Seen) (old new : D) (held new_he
   pub lists : OnErr result (new_held.objects.owners ≡ held.objects.owners)
   pub left : AreLeftByFaults (orphan_count held) (seen old).faults (orphan_count new_held) (seen new).faults
   pub err : IfErr result (λ code. IsWrongAnswer (asked_of (seen new)) (last_of (seen new)) code × ((seen new).state ≡ None))
+  -- no wrong answer is passed over
+  pub sent : SendsFlushes seen old new (is_err result)
 
 -- the slots of what closed clients left: those before, and so many more at most
 abbrev pub LeavesMore : ℕ → (left new_left : List ℕ) → Type 0

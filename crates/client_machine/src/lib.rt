@@ -2,12 +2,15 @@
 //! that a client has goes.
 #![tactic(auto)]
 
+mod client_view;
+mod closing;
 mod held;
 mod machine;
 mod preparing;
 mod replies;
-mod seen;
+mod responses;
 
+pub use client_view::ClientView;
 pub use held::Held;
-pub use machine::{Machine, pick_of};
-pub use seen::Seen;
+pub use machine::Machine;
+pub use responses::pick_of;

@@ -11,7 +11,7 @@ ghost use Rattle.client_machine.specs.Replies.{StandsOn, given_back, handle_told
 ghost use Rattle.client_machine.specs.Replies.{own_answer, own_capability, reply_of};
 ghost use Rattle.client_machine.specs.Replies.{sessions_given, with_given};
 
-use crate::seen::Seen;
+use crate::client_view::ClientView;
 use fx_capability::{Viewed, client_capability};
 use session_swap::Sessions;
 use tab_bytes::{Buffer, Reader};
@@ -41,7 +41,7 @@ fn refuse_surplus(params: &[u8], reply: &mut Buffer) -> bool
 
 // Takes back the context of a session that the client saved. It returns the session's handle; an
 // error is the code of the first fault, and changes nothing.
-fn give_back(sessions: &mut Sessions, client: u32, params: &[u8]) -> Result<u32, u32>
+fn take_back_context(sessions: &mut Sessions, client: u32, params: &[u8]) -> Result<u32, u32>
     ensures given { MatchResult result (λ handle.
         given_back client sessions.old.items params.now (load_parameters params.now) ≡ Ok handle)
         (λ code.
@@ -76,7 +76,7 @@ fn load_context(sessions: &mut Sessions, client: u32, params: &[u8], reply: &mut
     } }
     ensures standing { StandsOn sessions.old sessions.new }
 {
-    match give_back(sessions, client, params) {
+    match take_back_context(sessions, client, params) {
         Ok(handle) => {
             start_response(ST_NO_SESSIONS, RC_SUCCESS, reply);
             reply.put_u32(handle).unwrap();
@@ -87,7 +87,7 @@ fn load_context(sessions: &mut Sessions, client: u32, params: &[u8], reply: &mut
 }
 
 // GetCapability of what is the client's own. Whether it is.
-fn tell_capability(seen: &Seen<'_>, params: &[u8], reply: &mut Buffer) -> bool
+fn tell_capability(seen: &ClientView<'_>, params: &[u8], reply: &mut Buffer) -> bool
     ensures told { MatchBool result
         ((is_of_device params.now ≡ false) × ((persist : Persist) → reply.new ≡ reply_of
         (own_capability persist seen.now.client seen.now.table.now.items seen.now.sessions.now.items
@@ -142,7 +142,7 @@ pub(crate) fn answer_alone(
             true
         }
         CC_GET_CAPABILITY => {
-            let seen = Seen {
+            let seen = ClientView {
                 client,
                 table,
                 sessions,

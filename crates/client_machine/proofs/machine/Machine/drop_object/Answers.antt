@@ -1,10 +1,11 @@
-use Rattle.std.proofs.Common.{◌≡◌, Ok, Err, refl, ap, ◌∙◌, arith}
+use Rattle.std.proofs.Common.{◌≡◌, Ok, Err, refl, ap, ◌∙◌, arith, rules}
 use Rattle.object_swap.specs.Items.{ObjectsView, item_at}
 use Rattle.client_machine.proofs.Costs.{sent_slot}
 use Rattle.client_machine.proofs.Disowning.{is_in_slot}
 use Rattle.client_machine.proofs.Dropping.{IsNamed, among_residents, disowns_left, dropped, fewer_objects, fewer_residents, left, orphaned}
 use Rattle.client_machine.proofs.Keeping.{failed_cause}
 use Rattle.client_machine.proofs.Settling.{objects_settled}
+use Rattle.client_machine.proofs.Tried.{slot_failed, slot_ok, slot_wrong}
 use Rattle.client_machine.proofs.machine.Machine.drop_object.Goals as goal
 
 pub drop_by-requires-clause-stand : goal.drop_by-requires-clause-stand
@@ -39,6 +40,17 @@ returns-in-Ok-clause-ok g c =
         fewer_residents held.objects.items c.drop_by.new.self.items client item at done.ok.0.items,
       );
     }
+
+pub returns-in-Ok-clause-disowns : goal.returns-in-Ok-clause-disowns
+returns-in-Ok-clause-disowns g c = record {
+  keeps = search rules;
+  slots = search rules;
+  length_is = search rules;
+  lists = tt;
+  left = search rules;
+  err = tt;
+  sent = slot_ok g.D.Device.seen (item_at c.args.self.now.held.objects.items c.args.item).slot tt tt _ _ c.in-Ok.ensures.sent;
+}
 
 pub returns-in-Ok-clause-costs : goal.returns-in-Ok-clause-costs
 returns-in-Ok-clause-costs g c =
@@ -96,6 +108,7 @@ returns-in-Err-Failed-clause-disowns g c =
     (c.orphan_by.ensures.left slot.0 (ap (λ (v : ObjectsView). (item_at v.items item).slot) failed.err.0 ∙ slot.1)
     ∙ ap (λ (v : ObjectsView). orphaned v item slot.0) failed.err.0)
     failed.dropped.rest cause.0
+    (slot_failed g.D.Device.seen (item_at held.objects.items item).slot tt _ _ c.in-Err-Failed.field-0 cause.1 failed.sent)
 
 pub returns-in-Err-Failed-clause-costs : goal.returns-in-Err-Failed-clause-costs
 returns-in-Err-Failed-clause-costs g c =
@@ -107,6 +120,17 @@ returns-in-Err-Failed-clause-costs g c =
       sent_slot g.D.Device.seen (item_at items item).slot tt _ _ (Err _) c.in-Err-Failed.ensures.sent,
       among_residents items client item (record { names = c.requires.named; own = own }),
     )
+
+pub returns-in-Err-Answer-clause-disowns : goal.returns-in-Err-Answer-clause-disowns
+returns-in-Err-Answer-clause-disowns g c = record {
+  keeps = search rules;
+  slots = search rules;
+  length_is = search rules;
+  lists = search rules;
+  left = search rules;
+  err = search rules;
+  sent = slot_wrong g.D.Device.seen (item_at c.args.self.now.held.objects.items c.args.item).slot tt _ _ _ c.in-Err-Answer.ensures.sent;
+}
 
 -- the object stands as it did
 pub returns-in-Err-Answer-clause-costs : goal.returns-in-Err-Answer-clause-costs

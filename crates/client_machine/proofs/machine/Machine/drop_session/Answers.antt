@@ -1,12 +1,13 @@
-use Rattle.std.proofs.Common.{[], Ok, Err, set, ap, arith, ◌∙◌}
+use Rattle.std.proofs.Common.{[], Ok, Err, set, ap, arith, rules, ◌∙◌}
 use Rattle.std.specs.List.{count_by}
 use Rattle.tab_spec.specs.Shape.{number_of_session}
 use Rattle.session_swap.specs.Items.{SessionsView, disowned, is_owned, item_at}
 use Rattle.client_machine.proofs.Costs.{sent_one}
 use Rattle.client_machine.proofs.Disowning.{ended_owned, own_at}
-use Rattle.client_machine.proofs.DroppingSessions.{ended, left}
+use Rattle.client_machine.proofs.DroppingSessions.{ended, left, none_left, one_left}
 use Rattle.client_machine.proofs.Keeping.{failed_cause}
 use Rattle.client_machine.proofs.Settling.{gap_settled, sessions_settled}
+use Rattle.client_machine.proofs.Tried.{tried_failed, tried_ok, tried_wrong}
 use Rattle.client_machine.proofs.machine.Machine.drop_session.Goals as goal
 
 pub returns-in-Ok-clause-ok : goal.returns-in-Ok-clause-ok
@@ -54,3 +55,44 @@ returns-in-Err-Failed-clause-costs g c = sent_one g.D.Device.seen _ _ _ (Err _) 
 
 pub returns-in-Err-Answer-clause-costs : goal.returns-in-Err-Answer-clause-costs
 returns-in-Err-Answer-clause-costs g c = sent_one g.D.Device.seen _ _ _ (Err _) c.in-Err-Answer.ensures.asks
+
+pub returns-in-Ok-clause-disowns : goal.returns-in-Ok-clause-disowns
+returns-in-Ok-clause-disowns g c = record {
+  keeps = search rules;
+  slots = search rules;
+  length_is = search rules;
+  lists = tt;
+  left = none_left _ _ c.args.self.now.held c.drop_session.new.self c.args.handle c.requires.named
+      (ap (λ (v : SessionsView). v.items) c.in-Ok.ensures.ok.view_is) c.in-Ok.ensures.asks.count;
+  err = tt;
+  sent = tried_ok g.D.Device.seen _ _ c.args.handle tt c.in-Ok.ensures.asks;
+}
+
+pub returns-in-Err-Failed-clause-disowns : goal.returns-in-Err-Failed-clause-disowns
+returns-in-Err-Failed-clause-disowns g c =
+    let failed = c.in-Err-Failed.ensures in
+    let n = number_of_session c.args.handle in
+    let cause = failed_cause g.D.Device.seen _ c.in-Err-Failed.field-0-0 _ _ c.in-Err-Failed.field-0-is failed.asks.cause in
+    record {
+      keeps = search rules;
+      slots = search rules;
+      length_is = search rules;
+      lists = tt;
+      left = one_left _ _ c.args.self.now.held c.orphan_session.new.self c.args.handle c.requires.named
+          (ap (λ (v : SessionsView). v.items) c.orphan_session.ensures
+          ∙ ap (λ (v : SessionsView). set v.items n (disowned (item_at v.items n))) failed.err)
+          cause.0;
+      err = tt;
+      sent = tried_failed g.D.Device.seen _ _ c.args.handle _ cause.1 failed.asks;
+    }
+
+pub returns-in-Err-Answer-clause-disowns : goal.returns-in-Err-Answer-clause-disowns
+returns-in-Err-Answer-clause-disowns g c = record {
+  keeps = search rules;
+  slots = search rules;
+  length_is = search rules;
+  lists = search rules;
+  left = search rules;
+  err = search rules;
+  sent = tried_wrong g.D.Device.seen _ _ c.args.handle _ c.in-Err-Answer.ensures.asks;
+}

@@ -2,7 +2,7 @@ use Rattle.std.proofs.Common.{◌-◌, ℕ, List, set, ap, ◌∙◌}
 use Rattle.tab_spec.specs.declared.TheConstants.{TRANSIENT_FIRST}
 use Rattle.object_swap.specs.Items.{ObjectsView, new_item}
 use Rattle.client_machine.specs.Moves.{told_handle}
-use Rattle.client_machine.proofs.machine.adopt.Goals as goal
+use Rattle.client_machine.proofs.responses.adopt.Goals as goal
 
 pub returns-clause-adopted : goal.returns-clause-adopted
 returns-clause-adopted c =

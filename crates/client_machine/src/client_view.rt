@@ -14,7 +14,7 @@ use virtual_handles::ClientTable;
 
 /// What a client with this table has: its own objects, and its sessions, in use and saved.
 #[derive(Clone, Copy)]
-pub struct Seen<'a> {
+pub struct ClientView<'a> {
     pub client: u32,
     pub table: &'a ClientTable,
     /// The sessions of all clients.
@@ -22,7 +22,7 @@ pub struct Seen<'a> {
     ghost short: { length table.now.items ≤ CLIENT_OBJECTS },
 }
 
-impl Seen<'_> {
+impl ClientView<'_> {
     // Whether the client has a session, in use or saved.
     pub(crate) fn owns_session(&self, handle: u32) -> bool
         ensures { result ≡ is_owner self.now.client (owner_in self.now.sessions.now.items handle) }
@@ -47,7 +47,7 @@ impl Seen<'_> {
 }
 
 // What it may name: its objects, and its sessions in use.
-impl Tables for Seen<'_> {
+impl Tables for ClientView<'_> {
     ghost tables = { λ s. tables_seen s.client s.table.now.items s.sessions.now.items };
 
     fn has_object(&self, handle: u32) -> bool {
@@ -64,7 +64,7 @@ impl Tables for Seen<'_> {
 }
 
 // What is listed for it. The laws are stated of all values, also of those that are no table's.
-impl Holdings for Seen<'_> {
+impl Holdings for ClientView<'_> {
     ghost objects = { λ s. objects_had s.table.now.items };
 
     ghost sessions = { λ s. sessions_had s.client s.sessions.now.items };

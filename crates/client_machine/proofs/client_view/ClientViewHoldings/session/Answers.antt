@@ -1,6 +1,6 @@
 use Rattle.std.proofs.Common.{sym}
 use Rattle.client_machine.proofs.Having.{hmac_had, policy_had}
-use Rattle.client_machine.proofs.seen.SeenHoldings.session.Goals as goal
+use Rattle.client_machine.proofs.client_view.ClientViewHoldings.session.Goals as goal
 
 pub returns-then-is_some : goal.returns-then-is_some
 returns-then-is_some c =

@@ -1,0 +1,240 @@
+//! What becomes of a client's sessions and objects when it is closed.
+ghost use Rattle.std.specs.Prelude.{◌≡◌, ◌==◌, ◌≤◌, ◌+◌, ◌*◌, ℕ, true, false};
+ghost use Rattle.std.specs.Prelude.{Some, None, set, IfOk, OnOk};
+ghost use Rattle.std.specs.List.{count_by, list_any};
+ghost use Rattle.tab_spec.specs.declared.TheConstants.{ACTIVE_SESSIONS};
+ghost use Rattle.tab_spec.specs.declared.TheConstants.{OBJECT_SLOTS};
+ghost use Rattle.tab_spec.specs.Shape.{number_of_session};
+ghost use Rattle.object_swap.specs.Items as objects;
+ghost use Rattle.object_swap.specs.Items.{HasNone, owner_at};
+ghost use Rattle.session_swap.specs.Items.{Names, is_owned, is_owner, item_at, owner_in};
+ghost use Rattle.client_machine.specs.Moves.{MayMove};
+ghost use Rattle.client_machine.specs.Costs.{SendsUpTo, close_bound, own_objects, own_residents};
+ghost use Rattle.client_machine.specs.Dropping.{Disowns, Drops, DropsOne, KeepsOthers};
+ghost use Rattle.client_machine.specs.Settled.{Settled, call_contexts};
+
+use crate::machine::Machine;
+use device_port::{Device, SwapError};
+use linked_records::Steps;
+use object_swap::{Uncounted, Visits};
+use std::sync::ledger::Ledger;
+
+impl<D: Device> Machine<D> {
+    /// Drops all that the client of a list has: each session, and each object that is in a slot, is
+    /// flushed (Part 3, "TPM2_FlushContext"). What can't be flushed is nobody's then; how much that
+    /// is. Its list is nobody's too. An error is the code of a wrong answer.
+    pub fn drop_all(&mut self, client: u32, list: u32) -> Result<u32, u32>
+        requires list { owner_at self.old.held.objects.owners list ≡ Some client }
+        requires may { MayMove call_contexts D.seen self.old.device self.old.held }
+        ensures ok { IfOk result (λ failed. Drops D.seen client self.old.device self.new.device
+            self.old.held self.new.held (set self.old.held.objects.owners list None) failed) }
+        ensures none { OnOk result (HasNone self.new.held.objects.items client
+            × (list_any (is_owned client) self.new.held.sessions.items ≡ false)) }
+        ensures others { KeepsOthers client self.old.held.sessions.items
+            self.new.held.sessions.items }
+        // Each that is left has a failed transmission of its own, also after a wrong answer.
+        ensures disowns { Disowns D.seen self.old.device self.new.device self.old.held
+            self.new.held result }
+        ensures costs { SendsUpTo D.seen (close_bound client self.old.held)
+            self.old.device self.new.device }
+    {
+        self.drop_all_by(client, list, &mut Uncounted)
+    }
+
+    /// `drop_all`, which visits three to six records for each object of the client; no more than six
+    /// where it fails.
+    pub fn drop_all_counted<L: Ledger>(
+        &mut self,
+        client: u32,
+        list: u32,
+        steps: &mut Steps<L>,
+    ) -> Result<u32, u32>
+        requires list { owner_at self.old.held.objects.owners list ≡ Some client }
+        requires may { MayMove call_contexts D.seen self.old.device self.old.held }
+        ensures ok { IfOk result (λ failed. Drops D.seen client self.old.device self.new.device
+            self.old.held self.new.held (set self.old.held.objects.owners list None) failed) }
+        ensures none { OnOk result (HasNone self.new.held.objects.items client
+            × (list_any (is_owned client) self.new.held.sessions.items ≡ false)) }
+        ensures others { KeepsOthers client self.old.held.sessions.items
+            self.new.held.sessions.items }
+        // Each that is left has a failed transmission of its own, also after a wrong answer.
+        ensures disowns { Disowns D.seen self.old.device self.new.device self.old.held
+            self.new.held result }
+        ensures costs { SendsUpTo D.seen (close_bound client self.old.held)
+            self.old.device self.new.device }
+        ensures steps { steps.new
+            ≤ steps.old + 6 * own_objects client self.old.held.objects.items }
+        ensures counted { OnOk result
+            (steps.old + 3 * own_objects client self.old.held.objects.items ≤ steps.new) }
+    {
+        self.drop_all_by(client, list, steps)
+    }
+}
+
+impl<D: Device> Machine<D> {
+    /// `drop_all`, which tells what it visits.
+    pub fn drop_all_by<C: Visits>(
+        &mut self,
+        client: u32,
+        list: u32,
+        steps: &mut C,
+    ) -> Result<u32, u32>
+        requires list { owner_at self.old.held.objects.owners list ≡ Some client }
+        requires may { MayMove call_contexts D.seen self.old.device self.old.held }
+        ensures ok { IfOk result (λ failed. Drops D.seen client self.old.device self.new.device
+            self.old.held self.new.held (set self.old.held.objects.owners list None) failed) }
+        ensures none { OnOk result (HasNone self.new.held.objects.items client
+            × (list_any (is_owned client) self.new.held.sessions.items ≡ false)) }
+        ensures others { KeepsOthers client self.old.held.sessions.items
+            self.new.held.sessions.items }
+        ensures disowns { Disowns D.seen self.old.device self.new.device self.old.held
+            self.new.held result }
+        ensures costs { SendsUpTo D.seen (close_bound client self.old.held)
+            self.old.device self.new.device }
+        ensures steps { C.count steps.new
+            ≤ C.count steps.old + 6 * own_objects client self.old.held.objects.items }
+        ensures counted { OnOk result (C.count steps.old
+            + 3 * (C.weight * own_objects client self.old.held.objects.items)
+            ≤ C.count steps.new) }
+    {
+        let of_sessions = self.drop_sessions(client)?;
+        let of_objects = self.drop_objects(list, steps)?;
+        self.held.objects.end_client(list);
+        Ok(of_sessions + u32::from(of_objects))
+    }
+
+    // The sessions of a client.
+    fn drop_sessions(&mut self, client: u32) -> Result<u32, u32>
+        requires may { MayMove call_contexts D.seen self.old.device self.old.held }
+        ensures ok { IfOk result (λ failed. Drops D.seen client self.old.device self.new.device
+            self.old.held self.new.held self.old.held.objects.owners failed) }
+        ensures none { OnOk result
+            (list_any (is_owned client) self.new.held.sessions.items ≡ false) }
+        ensures few { IfOk result (λ failed. failed ≤ ACTIVE_SESSIONS) }
+        ensures rest { self.new.held.objects ≡ self.old.held.objects }
+        ensures others { KeepsOthers client self.old.held.sessions.items
+            self.new.held.sessions.items }
+        // Each that is left has a failed transmission of its own, also after a wrong answer.
+        ensures disowns { Disowns D.seen self.old.device self.new.device self.old.held
+            self.new.held result }
+        ensures costs { SendsUpTo D.seen (count_by (is_owned client) self.old.held.sessions.items)
+            self.old.device self.new.device }
+    {
+        let mut failed = 0;
+        for _number in 0..self.held.sessions.active() {
+            let Some(handle) = self.held.sessions.of_client(client) else {
+                return Ok(failed);
+            };
+            failed += self.drop_session(handle)?;
+        }
+        Ok(failed)
+    }
+
+    // One session, which is a client's. It returns how many flushes failed, 0 or 1.
+    fn drop_session(&mut self, handle: u32) -> Result<u32, u32>
+        requires named { Names self.old.held.sessions.items handle }
+        requires slots { self.old.held.objects.slots ≡ OBJECT_SLOTS }
+        requires settled { Settled (D.seen self.old.device).state self.old.held }
+        ensures ok { IfOk result (λ failed. (client : ℕ)
+            → is_owner client (owner_in self.old.held.sessions.items handle) ≡ true
+            → Drops D.seen client self.old.device self.new.device self.old.held self.new.held
+            self.old.held.objects.owners failed) }
+        ensures count { OnOk result
+            ((client : ℕ) → is_owner client (owner_in self.old.held.sessions.items handle) ≡ true
+            → count_by (is_owned client) self.new.held.sessions.items + 1
+            ≡ count_by (is_owned client) self.old.held.sessions.items) }
+        ensures few { IfOk result (λ failed. failed ≤ 1) }
+        ensures rest { self.new.held.objects ≡ self.old.held.objects }
+        ensures others { (number : ℕ) → (number == number_of_session handle) ≡ false
+            → item_at self.new.held.sessions.items number
+            ≡ item_at self.old.held.sessions.items number }
+        // Each that is left has a failed transmission of its own, also after a wrong answer.
+        ensures disowns { Disowns D.seen self.old.device self.new.device self.old.held
+            self.new.held result }
+        ensures costs { SendsUpTo D.seen 1 self.old.device self.new.device }
+    {
+        match self
+            .held
+            .sessions
+            .drop_session(&mut self.device, handle, &mut self.scratch)
+        {
+            Ok(()) => Ok(0),
+            Err(SwapError::Failed(_)) => {
+                self.held.sessions.orphan_session(handle);
+                Ok(1)
+            }
+            Err(SwapError::Answer(code)) => Err(code),
+        }
+    }
+
+    // The objects of the client of a list. It returns how many flushes failed.
+    fn drop_objects<C: Visits>(&mut self, list: u32, steps: &mut C) -> Result<u8, u32>
+        requires list { (client : ℕ) × (owner_at self.old.held.objects.owners list ≡ Some client) }
+        requires slots { self.old.held.objects.slots ≡ OBJECT_SLOTS }
+        requires settled { Settled (D.seen self.old.device).state self.old.held }
+        ensures ok { IfOk result (λ failed. (client : ℕ)
+            → owner_at self.old.held.objects.owners list ≡ Some client
+            → Drops D.seen client self.old.device self.new.device self.old.held self.new.held
+            self.old.held.objects.owners failed) }
+        ensures none { OnOk result ((client : ℕ)
+            → owner_at self.old.held.objects.owners list ≡ Some client
+            → HasNone self.new.held.objects.items client) }
+        ensures rest { (self.new.held.sessions ≡ self.old.held.sessions)
+            × (self.new.held.objects.owners ≡ self.old.held.objects.owners) }
+        // Each that is left has a failed transmission of its own, also after a wrong answer.
+        ensures disowns { Disowns D.seen self.old.device self.new.device self.old.held
+            self.new.held result }
+        ensures costs { (client : ℕ) → owner_at self.old.held.objects.owners list ≡ Some client
+            → SendsUpTo D.seen (own_residents client self.old.held.objects.items)
+            self.old.device self.new.device }
+        ensures steps { (client : ℕ) → owner_at self.old.held.objects.owners list ≡ Some client
+            → C.count steps.new
+            ≤ C.count steps.old + 6 * own_objects client self.old.held.objects.items }
+        ensures counted { OnOk result ((client : ℕ)
+            → owner_at self.old.held.objects.owners list ≡ Some client
+            → C.count steps.old
+            + 3 * (C.weight * own_objects client self.old.held.objects.items)
+            ≤ C.count steps.new) }
+    {
+        let before = self.held.objects.orphans();
+        while let Some(item) = self.held.objects.first_by(list, steps) {
+            self.drop_object(item, steps)?;
+        }
+        Ok(self.held.objects.orphans() - before)
+    }
+
+    // One object, which is a client's. Where its flush failed it is nobody's.
+    fn drop_object<C: Visits>(&mut self, item: u32, steps: &mut C) -> Result<(), u32>
+        requires named { objects.Names self.old.held.objects.items item }
+        requires slots { self.old.held.objects.slots ≡ OBJECT_SLOTS }
+        requires settled { Settled (D.seen self.old.device).state self.old.held }
+        ensures ok { OnOk result ((client : ℕ)
+            → (objects.item_at self.old.held.objects.items item).client ≡ Some client
+            → DropsOne D.seen client self.old.device self.new.device
+            self.old.held self.new.held) }
+        ensures rest { (self.new.held.sessions ≡ self.old.held.sessions)
+            × (self.new.held.objects.owners ≡ self.old.held.objects.owners) }
+        // Each that is left has a failed transmission of its own, also after a wrong answer.
+        ensures disowns { Disowns D.seen self.old.device self.new.device self.old.held
+            self.new.held result }
+        ensures costs { (client : ℕ)
+            → (objects.item_at self.old.held.objects.items item).client ≡ Some client
+            → SendsUpTo D.seen (own_residents client self.old.held.objects.items)
+            self.old.device self.new.device }
+        ensures steps { (C.count steps.new ≤ C.count steps.old + 5)
+            × OnOk result (C.count steps.old + 2 * C.weight ≤ C.count steps.new) }
+    {
+        match self
+            .held
+            .objects
+            .drop_by(&mut self.device, item, &mut self.scratch, steps)
+        {
+            Ok(()) => Ok(()),
+            Err(SwapError::Failed(_)) => {
+                self.held.objects.orphan_by(item, steps);
+                Ok(())
+            }
+            Err(SwapError::Answer(code)) => Err(code),
+        }
+    }
+}
