@@ -1,5 +1,5 @@
 -- What a pass that has served all connections tells once the lock is closed.
-use Rattle.std.proofs.Common.{◌≡◌, ◌≤◌, ◌+◌, ℕ, Bool, true, false, true≢false, List, [], ◌∷◌, ◌++◌, Option, Some, None, Result, Ok, Err, refl, sym, ap, subst, ◌∙◌, inl, inr, arith}
+use Rattle.std.proofs.Common.{◌≡◌, ◌≤◌, ◌+◌, ℕ, Bool, true, false, true≢false, List, [], ◌∷◌, ◌++◌, Option, Some, None, Result, Ok, Err, refl, sym, ap, subst, ◌∙◌, inl, inr, append-nil, arith}
 use Rattle.std.specs.Prelude.{◌⊎◌, IsErrAnd, MatchResult, OnErr, OnOk}
 use Rattle.std.specs.List.{AllZip}
 use Rattle.std.proofs.lemmas.Bool.{eqb-true}
@@ -17,7 +17,7 @@ use Rattle.broker_lock.specs.Serves.{IsAnswered, IsFailed}
 use Rattle.connection_core.specs.Links.{AreEntriesFrom, IsCanceledUpTo, IsEntryOf}
 use Rattle.accept_loop.specs.Connections.{AreEnough, AreServed, Ends, HasClient, HasPerhapsClient, IsLink, is_of, links_of}
 use Rattle.accept_loop.specs.Passes.{ServesAll}
-use Rattle.accept_loop.proofs.Linking.{as_count, first_same, is_linked, links-cons}
+use Rattle.accept_loop.proofs.Linking.{as_count, each_stays, first_same, is_linked, links-cons}
 use Rattle.accept_loop.proofs.Present.{nobody_left, times_after, times_by, times_of}
 
 -- ---- a client that was served is closed
@@ -41,9 +41,9 @@ entries_keep fixed history client number (command ∷ commands) entries (inr are
     ∙ ap (λ (n : ℕ). times_after n (are.1 ++ more)) (entry_keeps fixed history client number command are.0 are.3 count)
     ∙ entries_keep fixed history client (number + 1) commands are.1 are.4 count more
 
-pub client_left : (fixed : Fixed) (history : List Entry) (given left : Ends) (client done : ℕ) (ending : Ending) (word : Option WordView) → HasClient fixed history given left client done ending word
+pub client_left : (fixed : Fixed) (wrong : Bool) (history : List Entry) (given left : Ends) (client done : ℕ) (ending : Ending) (word : Option WordView) → HasClient fixed wrong history given left client done ending word
     → times_after 0 (own history client) ≡ 0
-client_left fixed history given left client done ending word is =
+client_left fixed wrong history given left client done ending word is =
     ap (λ (l : List Entry). times_after 0 l) is.own_is
     ∙ entries_keep fixed history client 1 _ is.entries is.ran.entries_are 1 (close_entry client ∷ [])
 
@@ -52,52 +52,65 @@ is_this client None is = absurd (true≢false (sym is))
 is_this client (Some other) is = ap Some (eqb-true other client is)
 
 module _ {L M : Type 0} (g : L → Ends) (k : M → Ends) (client_of : M → Option ℕ) (done_of : M → ℕ) (ending_of : M → Ending) (word_of : M → Option WordView) where
-  abbrev is_link_of : Fixed → List Entry → L → M → Type 0
-  is_link_of fixed history given link = IsLink fixed history (g given) (k link) (client_of link) (done_of link) (ending_of link) (word_of link)
+  abbrev is_link_of : Fixed → (wrong : Bool) → List Entry → L → M → Type 0
+  is_link_of fixed wrong history given link = IsLink fixed wrong history (g given) (k link) (client_of link) (done_of link) (ending_of link) (word_of link)
 
-  link_left : (fixed : Fixed) (history : List Entry) (client : ℕ) (accepted : List L) (links : List M) → AllZip (is_link_of fixed history) accepted links
+  link_left : (fixed : Fixed) (wrong : Bool) (history : List Entry) (client : ℕ) (accepted : List L) (links : List M) → AllZip (is_link_of fixed wrong history) accepted links
       → 1 ≤ links_of client_of client links → times_after 0 (own history client) ≡ 0
-  link_left fixed history client [] [] each some = absurd (omega (arith, some))
-  link_left fixed history client [] (link ∷ links) each some = absurd each
-  link_left fixed history client (given ∷ accepted) [] each some = absurd each
-  link_left fixed history client (given ∷ accepted) (link ∷ links) each some =
-      by_this (is_of client (client_of link)) refl (link_left fixed history client accepted links each.1)
+  link_left fixed wrong history client [] [] each some = absurd (omega (arith, some))
+  link_left fixed wrong history client [] (link ∷ links) each some = absurd each
+  link_left fixed wrong history client (given ∷ accepted) [] each some = absurd each
+  link_left fixed wrong history client (given ∷ accepted) (link ∷ links) each some =
+      by_this (is_of client (client_of link)) refl (link_left fixed wrong history client accepted links each.1)
     where
       by_this : (b : Bool) → is_of client (client_of link) ≡ b → (1 ≤ links_of client_of client links → times_after 0 (own history client) ≡ 0)
           → times_after 0 (own history client) ≡ 0
-      by_this true is rest = client_left fixed history (g given) (k link) client (done_of link) (ending_of link) (word_of link)
-          (subst (λ (c : Option ℕ). HasPerhapsClient c fixed history (g given) (k link) (done_of link) (ending_of link) (word_of link)) (is_this client (client_of link) is) each.0.ended)
+      by_this true is rest = client_left fixed wrong history (g given) (k link) client (done_of link) (ending_of link) (word_of link)
+          (subst (λ (c : Option ℕ). HasPerhapsClient c fixed wrong history (g given) (k link) (done_of link) (ending_of link) (word_of link)) (is_this client (client_of link) is) each.0.ended)
       by_this false is rest =
           rest (let none : as_count (is_of client (client_of link)) ≡ 0 = ap as_count is in omega (arith, some, links-cons client_of client link links, none))
 
   -- all clients are closed
-  pub all_closed : (fixed : Fixed) (history : List Entry) (coming coming_new : Option (List L)) (most : ℕ) (links : List M)
-      → AreServed (is_link_of fixed history) client_of history coming coming_new most links → (clients_of history).present ≡ []
-  all_closed fixed history coming coming_new most links served = nobody_left (clients_of history).present (λ client. times_of client history ∙ by_known client (knows history client) refl)
+  pub all_closed : (fixed : Fixed) (wrong : Bool) (history : List Entry) (coming coming_new : Option (List L)) (most : ℕ) (links : List M)
+      → AreServed (is_link_of fixed wrong history) client_of history coming coming_new most links → (clients_of history).present ≡ []
+  all_closed fixed wrong history coming coming_new most links served = nobody_left (clients_of history).present (λ client. times_of client history ∙ by_known client (knows history client) refl)
     where
       by_known : (client : ℕ) (b : Bool) → knows history client ≡ b → times_after 0 (own history client) ≡ 0
-      by_known client true known = link_left fixed history client served.accepted links served.each
+      by_known client true known = link_left fixed wrong history client served.accepted links served.each
           (let one : as_count (knows history client) ≡ 1 = ap as_count known in omega (arith, served.clients client, one))
       by_known client false known = ap (λ (l : List Entry). times_after 0 l) (own_none client history known)
 
-  -- what was served by the last pass was served by the history
-  pub served_by : (pass : PassView) (fixed : Fixed) (history : List Entry) (coming coming_new : Option (List L)) (most : ℕ) (links : List M)
-      → pass.fixed ≡ fixed → history ≡ pass.front → history ≡ pass.known
-      → AreServed (is_linked g k client_of done_of ending_of word_of pass) client_of pass.known coming coming_new most links
-      → AreServed (is_link_of fixed history) client_of history coming coming_new most links
-  served_by pass fixed history coming coming_new most links same front known served =
-      subst (λ (f : Fixed). AreServed (is_link_of f history) client_of history coming coming_new most links) same
-      (subst (λ (h : List Entry). AreServed (is_link_of pass.fixed h) client_of history coming coming_new most links) (sym front)
-      (subst (λ (h : List Entry). AreServed (is_link_of pass.fixed pass.front) client_of h coming coming_new most links) (sym known) served))
+  -- what was served where a wrong answer may have come was served where one may have come since
+  rises_all : (fixed : Fixed) (wrong new_wrong : Bool) (history known : List Entry) (coming coming_new : Option (List L)) (most : ℕ) (links : List M) → (wrong ≡ true → new_wrong ≡ true)
+      → AreServed (is_link_of fixed wrong history) client_of known coming coming_new most links → AreServed (is_link_of fixed new_wrong history) client_of known coming coming_new most links
+  rises_all fixed wrong new_wrong history known coming coming_new most links rises served = record {
+    accepted = served.accepted;
+    first = served.first;
+    within = served.within;
+    each = subst (λ (h : List Entry). AllZip (is_link_of fixed new_wrong h) served.accepted links) (append-nil history)
+        (each_stays g k client_of done_of ending_of word_of fixed wrong new_wrong history [] served.accepted links rises (λ c some. refl) served.each);
+    clients = served.clients;
+  }
 
-  pub served_at_end : {X E : Type 0} {legal : Persist → List Entry → Type 0} (first last : PassView) (fixed fixed_new : Fixed) (history : List Entry) (coming coming_new coming_given : Option (List L)) (faults faults_new most : ℕ) (accepted : Result X E)
+  -- what was served by the last pass was served by the history
+  pub served_by : (pass : PassView) (fixed : Fixed) (wrong : Bool) (history : List Entry) (coming coming_new : Option (List L)) (most : ℕ) (links : List M)
+      → pass.fixed ≡ fixed → (pass.wrong ≡ true → wrong ≡ true) → history ≡ pass.front → history ≡ pass.known
+      → AreServed (is_linked g k client_of done_of ending_of word_of pass) client_of pass.known coming coming_new most links
+      → AreServed (is_link_of fixed wrong history) client_of history coming coming_new most links
+  served_by pass fixed wrong history coming coming_new most links same rises front known served =
+      rises_all fixed pass.wrong wrong history history coming coming_new most links rises
+      (subst (λ (f : Fixed). AreServed (is_link_of f pass.wrong history) client_of history coming coming_new most links) same
+      (subst (λ (h : List Entry). AreServed (is_link_of pass.fixed pass.wrong h) client_of history coming coming_new most links) (sym front)
+      (subst (λ (h : List Entry). AreServed (is_link_of pass.fixed pass.wrong pass.front) client_of h coming coming_new most links) (sym known) served)))
+
+  pub served_at_end : {X E : Type 0} {legal : Persist → List Entry → Type 0} (first last : PassView) (fixed fixed_new : Fixed) (wrong : Bool) (history : List Entry) (coming coming_new coming_given : Option (List L)) (faults faults_new most : ℕ) (accepted : Result X E)
       (links links_given : List M) → first.fixed ≡ fixed → coming_new ≡ coming_given → links_given ≡ links
-      → ServesAll legal (is_linked g k client_of done_of ending_of word_of) client_of first last coming coming_new faults faults_new most accepted links → EndsLock last history fixed_new
-      → AreServed (is_link_of fixed history) client_of history coming coming_given most links_given
-  served_at_end first last fixed fixed_new history coming coming_new coming_given faults faults_new most accepted links links_given same given_is links_are all ends =
-      subst (λ (l : List M). AreServed (is_link_of fixed history) client_of history coming coming_given most l) (sym links_are)
-      (subst (λ (c : Option (List L)). AreServed (is_link_of fixed history) client_of history coming c most links) given_is
-      (served_by last fixed history coming coming_new most links (all.goes_on.fixed ∙ same) ends.front ends.known all.served))
+      → ServesAll legal (is_linked g k client_of done_of ending_of word_of) client_of first last coming coming_new faults faults_new most accepted links → EndsLock last history fixed_new wrong
+      → AreServed (is_link_of fixed wrong history) client_of history coming coming_given most links_given
+  served_at_end first last fixed fixed_new wrong history coming coming_new coming_given faults faults_new most accepted links links_given same given_is links_are all ends =
+      subst (λ (l : List M). AreServed (is_link_of fixed wrong history) client_of history coming coming_given most l) (sym links_are)
+      (subst (λ (c : Option (List L)). AreServed (is_link_of fixed wrong history) client_of history coming c most links) given_is
+      (served_by last fixed wrong history coming coming_new most links (all.goes_on.fixed ∙ same) ends.told ends.front ends.known all.served))
 
 -- the history is legal at the end where it was so at the start
 pub legal_at_end : (legal : Persist → List Entry → Type 0) (first last : PassView) (fixed : Fixed) (before history : List Entry) → first.fixed ≡ fixed → first.front ≡ [] → before ≡ []
@@ -154,8 +167,9 @@ module _ {X E F : Type 0} (P : E → F → Type 0) (one : Result X E) (other : R
 -- ---- a value in a box
 
 -- what was served, where the journal and what it stands on are told in other words
-pub served_as : {L M : Type 0} (is_link : Fixed → List Entry → L → M → Type 0) (client_of : M → Option ℕ) (fixed other : Fixed) (history told : List Entry) (coming coming_new : Option (List L)) (most : ℕ) (links : List M)
-    → fixed ≡ other → history ≡ told → AreServed (is_link fixed history) client_of history coming coming_new most links → AreServed (is_link other told) client_of told coming coming_new most links
-served_as is_link client_of fixed other history told coming coming_new most links same words served =
-    subst (λ (f : Fixed). AreServed (is_link f told) client_of told coming coming_new most links) same
-    (subst (λ (h : List Entry). AreServed (is_link fixed h) client_of h coming coming_new most links) words served)
+pub served_as : {L M : Type 0} (is_link : Fixed → Bool → List Entry → L → M → Type 0) (client_of : M → Option ℕ) (fixed other : Fixed) (wrong other_wrong : Bool) (history told : List Entry) (coming coming_new : Option (List L)) (most : ℕ) (links : List M)
+    → fixed ≡ other → wrong ≡ other_wrong → history ≡ told → AreServed (is_link fixed wrong history) client_of history coming coming_new most links → AreServed (is_link other other_wrong told) client_of told coming coming_new most links
+served_as is_link client_of fixed other wrong other_wrong history told coming coming_new most links same same_wrong words served =
+    subst (λ (f : Fixed). AreServed (is_link f other_wrong told) client_of told coming coming_new most links) same
+    (subst (λ (w : Bool). AreServed (is_link fixed w told) client_of told coming coming_new most links) same_wrong
+    (subst (λ (h : List Entry). AreServed (is_link fixed wrong h) client_of h coming coming_new most links) words served))

@@ -46,9 +46,9 @@ longer_legal legal base one other longer (inr is) first second = subst (IsLegalO
 
 -- ---- a connection by a front of the history is one by all of it
 
-client_stays : (fixed : Fixed) (front more : List Entry) (given left : Ends) (client done : ℕ) (ending : Ending) (word : Option WordView) → own more client ≡ [] → HasClient fixed front given left client done ending word
-    → HasClient fixed (front ++ more) given left client done ending word
-client_stays fixed front more given left client done ending word none is =
+client_stays : (fixed : Fixed) (wrong new_wrong : Bool) (front more : List Entry) (given left : Ends) (client done : ℕ) (ending : Ending) (word : Option WordView) → (wrong ≡ true → new_wrong ≡ true) → own more client ≡ []
+    → HasClient fixed wrong front given left client done ending word → HasClient fixed new_wrong (front ++ more) given left client done ending word
+client_stays fixed wrong new_wrong front more given left client done ending word rises none is =
     let seat_stays : IsSeatOf (front ++ more) client done is.ran.taken is.seat = record {
       both = is.ran.word.both;
       raised_is = is.ran.word.raised_is;
@@ -68,7 +68,7 @@ client_stays fixed front more given left client done ending word none is =
         within = is.ran.within;
         entries_are = entries_on fixed front more client 1 (take done (commands is.ran.taken)) is.entries is.ran.entries_are;
         written_is = is.ran.written_is;
-        ends = ends_stay ending fixed front more client done given.left is.ran.taken is.ran.output
+        ends = ends_stay ending fixed wrong new_wrong front more client done given.left is.ran.taken is.ran.output rises
             (λ upto number low high. ap (λ (l : List Entry). find (λ (e : Entry). e.number == number) l) none) is.ran.ends;
         word = seat_stays;
         canceled = canceled_by (front ++ more) client done is.ran.taken is.seat seat_stays;
@@ -98,24 +98,24 @@ room_before limit front more room =
       number = omega (arith, room.number, opened_least (clients_of front) more, then);
     }
 
-lacks_stays : (ending : Ending) (fixed : Fixed) (front more : List Entry) → Lacks ending fixed front → Lacks ending fixed (front ++ more)
-lacks_stays endings.EndOfInput fixed front more is = absurd is
-lacks_stays (endings.BadFrame size) fixed front more is = absurd is
-lacks_stays endings.ReadFault fixed front more is = absurd is
-lacks_stays endings.WriteFault fixed front more is = absurd is
-lacks_stays endings.Memory fixed front more is = is
-lacks_stays (endings.JournalFull count limit) fixed front more is =
+lacks_stays : (ending : Ending) (fixed : Fixed) (wrong new_wrong : Bool) (front more : List Entry) → (wrong ≡ true → new_wrong ≡ true) → Lacks ending fixed wrong front → Lacks ending fixed new_wrong (front ++ more)
+lacks_stays endings.EndOfInput fixed wrong new_wrong front more rises is = absurd is
+lacks_stays (endings.BadFrame size) fixed wrong new_wrong front more rises is = absurd is
+lacks_stays endings.ReadFault fixed wrong new_wrong front more rises is = absurd is
+lacks_stays endings.WriteFault fixed wrong new_wrong front more rises is = absurd is
+lacks_stays endings.Memory fixed wrong new_wrong front more rises is = is
+lacks_stays (endings.JournalFull count limit) fixed wrong new_wrong front more rises is =
     (λ room. is.0 (room_before fixed.limit front more room), omega (arith, is.1, sum_by-append kept_by front more), is.2)
-lacks_stays endings.Answer fixed front more is = is
+lacks_stays endings.Answer fixed wrong new_wrong front more rises is = (is.0, rises is.1)
 
-pub link_stays : (fixed : Fixed) (front more : List Entry) (given left : Ends) (client : Option ℕ) (done : ℕ) (ending : Ending) (word : Option WordView) → ((c : ℕ) → client ≡ Some c → own more c ≡ [])
-    → IsLink fixed front given left client done ending word → IsLink fixed (front ++ more) given left client done ending word
-link_stays fixed front more given left None done ending word none is = record {
-  ended = record { done_is = is.ended.done_is; same = is.ended.same; no_word = is.ended.no_word; cause = lacks_stays ending fixed front more is.ended.cause };
+pub link_stays : (fixed : Fixed) (wrong new_wrong : Bool) (front more : List Entry) (given left : Ends) (client : Option ℕ) (done : ℕ) (ending : Ending) (word : Option WordView) → (wrong ≡ true → new_wrong ≡ true) → ((c : ℕ) → client ≡ Some c → own more c ≡ [])
+    → IsLink fixed wrong front given left client done ending word → IsLink fixed new_wrong (front ++ more) given left client done ending word
+link_stays fixed wrong new_wrong front more given left None done ending word rises none is = record {
+  ended = record { done_is = is.ended.done_is; same = is.ended.same; no_word = is.ended.no_word; cause = lacks_stays ending fixed wrong new_wrong front more rises is.ended.cause };
   cause = is.cause;
 }
-link_stays fixed front more given left (Some client) done ending word none is = record {
-  ended = client_stays fixed front more given left client done ending word (none client refl) is.ended;
+link_stays fixed wrong new_wrong front more given left (Some client) done ending word rises none is = record {
+  ended = client_stays fixed wrong new_wrong front more given left client done ending word rises (none client refl) is.ended;
   cause = is.cause;
 }
 
@@ -133,18 +133,18 @@ of_itself client found is = ap (is_of client) is ∙ eq-eqb client client refl
 
 module _ {L M : Type 0} (g : L → Ends) (k : M → Ends) (client_of : M → Option ℕ) (done_of : M → ℕ) (ending_of : M → Ending) (word_of : M → Option WordView) where
   abbrev pub is_linked : PassView → L → M → Type 0
-  is_linked pass given link = IsLink pass.fixed pass.front (g given) (k link) (client_of link) (done_of link) (ending_of link) (word_of link)
+  is_linked pass given link = IsLink pass.fixed pass.wrong pass.front (g given) (k link) (client_of link) (done_of link) (ending_of link) (word_of link)
 
-  each_stays : (fixed : Fixed) (front more : List Entry) (accepted : List L) (links : List M) → ((c : ℕ) → 1 ≤ links_of client_of c links → own more c ≡ [])
-      → AllZip (λ given link. IsLink fixed front (g given) (k link) (client_of link) (done_of link) (ending_of link) (word_of link)) accepted links
-      → AllZip (λ given link. IsLink fixed (front ++ more) (g given) (k link) (client_of link) (done_of link) (ending_of link) (word_of link)) accepted links
-  each_stays fixed front more [] [] none each = each
-  each_stays fixed front more [] (link ∷ links) none each = absurd each
-  each_stays fixed front more (given ∷ accepted) [] none each = absurd each
-  each_stays fixed front more (given ∷ accepted) (link ∷ links) none each = (
-    link_stays fixed front more (g given) (k link) (client_of link) (done_of link) (ending_of link) (word_of link)
+  pub each_stays : (fixed : Fixed) (wrong new_wrong : Bool) (front more : List Entry) (accepted : List L) (links : List M) → (wrong ≡ true → new_wrong ≡ true) → ((c : ℕ) → 1 ≤ links_of client_of c links → own more c ≡ [])
+      → AllZip (λ given link. IsLink fixed wrong front (g given) (k link) (client_of link) (done_of link) (ending_of link) (word_of link)) accepted links
+      → AllZip (λ given link. IsLink fixed new_wrong (front ++ more) (g given) (k link) (client_of link) (done_of link) (ending_of link) (word_of link)) accepted links
+  each_stays fixed wrong new_wrong front more [] [] rises none each = each
+  each_stays fixed wrong new_wrong front more [] (link ∷ links) rises none each = absurd each
+  each_stays fixed wrong new_wrong front more (given ∷ accepted) [] rises none each = absurd each
+  each_stays fixed wrong new_wrong front more (given ∷ accepted) (link ∷ links) rises none each = (
+    link_stays fixed wrong new_wrong front more (g given) (k link) (client_of link) (done_of link) (ending_of link) (word_of link) rises
         (λ c is. none c (let one : as_count (is_of c (client_of link)) ≡ 1 = ap as_count (of_itself c (client_of link) is) in omega (arith, links-cons client_of c link links, one))) each.0,
-    each_stays fixed front more accepted links (λ c some. none c (omega (arith, links-cons client_of c link links, some))) each.1,
+    each_stays fixed wrong new_wrong front more accepted links rises (λ c some. none c (omega (arith, links-cons client_of c link links, some))) each.1,
   )
 
 -- ---- what the pass of one connection knows
@@ -198,7 +198,7 @@ joined_known rest ended new client joins = known_count (knows rest.known client)
 
 -- ---- a connection by its own pass
 
-lacks_by : (ending : Ending) (pass : PassView) → Refuses ending pass → Lacks ending pass.fixed pass.front
+lacks_by : (ending : Ending) (pass : PassView) → Refuses ending pass → Lacks ending pass.fixed pass.wrong pass.front
 lacks_by endings.EndOfInput pass is = absurd is
 lacks_by (endings.BadFrame size) pass is = absurd is
 lacks_by endings.ReadFault pass is = absurd is
@@ -208,7 +208,7 @@ lacks_by (endings.JournalFull count limit) pass is = (is.0, omega (arith, is.1),
 lacks_by endings.Answer pass is = is
 
 pub ended_by : (legal : Persist → List Entry → Type 0) (client : Option ℕ) (pass : PassView) (given left : Ends) (done : ℕ) (ending : Ending) (word : Option WordView) → EndsWith legal client pass given left done ending word
-    → HasPerhapsClient client pass.fixed pass.front given left done ending word
+    → HasPerhapsClient client pass.fixed pass.wrong pass.front given left done ending word
 ended_by legal None pass given left done ending word is = record { done_is = is.0.done_is; same = is.1; no_word = is.2; cause = lacks_by ending pass is.0.refuses }
 ended_by legal (Some client) pass given left done ending word is = record { entries = is.entries; seat = is.seat; own_is = is.own_is ∙ is.known; opened = is.opened; word_is = is.word_is; ran = is.ran }
 
@@ -248,24 +248,33 @@ part_left pass = record pass { parts = pass.parts - 1 }
 abbrev pub one_part : PassView → PassView
 one_part pass = record pass { known = []; parts = 1 }
 
+pub or_left : (a b : Bool) → a ≡ true → (a || b) ≡ true
+or_left true b is = refl
+or_left false b is = absurd (true≢false (sym is))
+
+pub or_right : (a b : Bool) → b ≡ true → (a || b) ≡ true
+or_right true b is = refl
+or_right false b is = is
+
 joined_goes_on : {legal : Persist → List Entry → Type 0} (old rest ended new : PassView) → 0 < old.parts → GoesOn legal (part_left old) rest → GoesOn legal (one_part old) ended → Joins rest ended new → GoesOn legal old new
 joined_goes_on {legal = legal} old rest ended new some one other joins = record {
   lock = joins.lock ∙ one.lock;
   fixed = joins.fixed ∙ one.fixed;
   parts = omega (arith, joins.parts, one.parts, other.parts, some);
   seen = prefix_more old.front rest.front new.front one.seen (prefix_one rest.front ended.front new.front joins.front);
+  still = λ knew. joins.wrong ∙ or_left rest.wrong ended.wrong (one.still knew);
   stays_legal = λ was. longer_legal legal old.fixed.base rest.front ended.front new.front joins.front (one.stays_legal was) (other.stays_legal was);
 }
 
 module _ {L M : Type 0} (g : L → Ends) (k : M → Ends) (client_of : M → Option ℕ) (done_of : M → ℕ) (ending_of : M → Ending) (word_of : M → Option WordView) where
   -- connections by a pass that is joined with another
-  moved : (old new : PassView) (accepted : List L) (links : List M) → IsPrefix old.front new.front → new.fixed ≡ old.fixed → ((c : ℕ) → 1 ≤ links_of client_of c links → own new.front c ≡ own old.front c)
+  moved : (old new : PassView) (accepted : List L) (links : List M) → IsPrefix old.front new.front → new.fixed ≡ old.fixed → (old.wrong ≡ true → new.wrong ≡ true) → ((c : ℕ) → 1 ≤ links_of client_of c links → own new.front c ≡ own old.front c)
       → AllZip (is_linked g k client_of done_of ending_of word_of old) accepted links → AllZip (is_linked g k client_of done_of ending_of word_of new) accepted links
-  moved old new accepted links there same own_is each =
-      let stays = each_stays g k client_of done_of ending_of word_of old.fixed old.front there.0 accepted links
+  moved old new accepted links there same rises own_is each =
+      let stays = each_stays g k client_of done_of ending_of word_of old.fixed old.wrong new.wrong old.front there.0 accepted links rises
       (λ c some. own_rest c old.front there.0 (ap (λ (l : List Entry). own l c) there.1 ∙ own_is c some)) each in
-      subst (λ (f : Fixed). AllZip (λ given link. IsLink f new.front (g given) (k link) (client_of link) (done_of link) (ending_of link) (word_of link)) accepted links) (sym same)
-      (subst (λ (h : List Entry). AllZip (λ given link. IsLink old.fixed h (g given) (k link) (client_of link) (done_of link) (ending_of link) (word_of link)) accepted links) there.1 stays)
+      subst (λ (f : Fixed). AllZip (λ given link. IsLink f new.wrong new.front (g given) (k link) (client_of link) (done_of link) (ending_of link) (word_of link)) accepted links) (sym same)
+      (subst (λ (h : List Entry). AllZip (λ given link. IsLink old.fixed new.wrong h (g given) (k link) (client_of link) (done_of link) (ending_of link) (word_of link)) accepted links) there.1 stays)
 
   pub served_more : {X E : Type 0} {legal : Persist → List Entry → Type 0} (old rest ended new : PassView) (coming between coming_new : Option (List L)) (faults faults_new most : ℕ) (accepted : Result X E) (given : L) (link : M) (links : List M)
       → 0 < most → 0 < old.parts → Accepted coming between (Some given)
@@ -289,9 +298,10 @@ module _ {L M : Type 0} (g : L → Ends) (k : M → Ends) (client_of : M → Opt
           within = omega (arith, served.within, some);
           each = (
             (moved ended new (given ∷ []) (link ∷ []) (prefix_other rest.front ended.front new.front joins.front) (joins.fixed ∙ all.goes_on.fixed ∙ sym comes.goes_on.fixed)
+                (λ knew. joins.wrong ∙ or_right rest.wrong ended.wrong knew)
                 (λ c one. of_ended c (knows_ended c ∙ some_count (is_of c (client_of link)) (omega (arith, one, links-cons client_of c link []))))
                 (record { ended = ended_by legal (client_of link) ended (g given) (k link) (done_of link) (ending_of link) (word_of link) comes.ended; cause = comes.cause }, tt)).0,
-            moved rest new served.accepted links (prefix_one rest.front ended.front new.front joins.front) joins.fixed
+            moved rest new served.accepted links (prefix_one rest.front ended.front new.front joins.front) joins.fixed (λ knew. joins.wrong ∙ or_left rest.wrong ended.wrong knew)
                 (λ c one. of_rest c (some_count (knows rest.known c) (omega (arith, one, served.clients c)))) served.each,
           );
           clients = λ c. links-cons client_of c link links ∙ ap₂ ◌+◌ (ap as_count (sym (knows_ended c))) (served.clients c) ∙ joined_known rest ended new c joins;

@@ -1,5 +1,5 @@
 -- What comes of serving the connections that an acceptor hands out, by the journal at the end.
-use Rattle.std.specs.Prelude.{◌≡◌, ◌≤◌, ◌⊎◌, ℕ, ◌==◌, Bool, false, cond, List, [], ◌∷◌, ◌++◌, length, Option, Some, None}
+use Rattle.std.specs.Prelude.{◌≡◌, ◌≤◌, ◌⊎◌, ℕ, ◌==◌, Bool, true, false, cond, List, [], ◌∷◌, ◌++◌, length, Option, Some, None}
 use Rattle.std.specs.List.{AllZip, count_by}
 use Rattle.history_spec.specs.Entry.{Entry, HasRoomForClient, close_entry, kept, open_entry, own}
 use Rattle.broker_lock.specs.Known.{Fixed, IsUntold, knows}
@@ -23,39 +23,39 @@ ends_of left written source_faults sink_faults source sink =
 
 -- a connection that has a client: the journal has the client's opening, the entries of its commands and its close, and no
 -- other entry of it
-pub record HasClient (fixed : Fixed) (journal : List Entry) (given left : Ends) (client done : ℕ) (ending : Ending) (word : Option WordView) : Type 0 where
+pub record HasClient (fixed : Fixed) (wrong : Bool) (journal : List Entry) (given left : Ends) (client done : ℕ) (ending : Ending) (word : Option WordView) : Type 0 where
   pub entries : List Entry
   -- what the seat of its cancel word holds
   pub seat : WordView
   pub own_is : own journal client ≡ (open_entry client ∷ entries) ++ close_entry client ∷ []
   pub opened : IsOpenedIn fixed.limit journal client
   pub word_is : word ≡ Some seat
-  pub ran : Ran ending fixed journal client done entries given.left left.left given.written left.written seat
+  pub ran : Ran ending fixed wrong journal client done entries given.left left.left given.written left.written seat
 
 -- why a connection has no client
-abbrev pub Lacks : Ending → Fixed → List Entry → Type 0
-Lacks endings.EndOfInput fixed journal = ⊥
-Lacks (endings.BadFrame size) fixed journal = ⊥
-Lacks endings.ReadFault fixed journal = ⊥
-Lacks endings.WriteFault fixed journal = ⊥
-Lacks endings.Memory fixed journal = Unit {0}
-Lacks (endings.JournalFull count limit) fixed journal = (HasRoomForClient fixed.limit journal → ⊥) × (count ≤ kept journal) × (limit ≡ fixed.limit)
-Lacks endings.Answer fixed journal = IsUntold fixed
+abbrev pub Lacks : Ending → Fixed → (wrong : Bool) → List Entry → Type 0
+Lacks endings.EndOfInput fixed wrong journal = ⊥
+Lacks (endings.BadFrame size) fixed wrong journal = ⊥
+Lacks endings.ReadFault fixed wrong journal = ⊥
+Lacks endings.WriteFault fixed wrong journal = ⊥
+Lacks endings.Memory fixed wrong journal = Unit {0}
+Lacks (endings.JournalFull count limit) fixed wrong journal = (HasRoomForClient fixed.limit journal → ⊥) × (count ≤ kept journal) × (limit ≡ fixed.limit)
+Lacks endings.Answer fixed wrong journal = IsUntold fixed × (wrong ≡ true)
 
 -- one that has none: nothing was taken, run or written
-pub record HasNoClient (fixed : Fixed) (journal : List Entry) (given left : Ends) (done : ℕ) (ending : Ending) (word : Option WordView) : Type 0 where
+pub record HasNoClient (fixed : Fixed) (wrong : Bool) (journal : List Entry) (given left : Ends) (done : ℕ) (ending : Ending) (word : Option WordView) : Type 0 where
   pub done_is : done ≡ 0
   pub same : left ≡ given
   pub no_word : word ≡ None
-  pub cause : Lacks ending fixed journal
+  pub cause : Lacks ending fixed wrong journal
 
-abbrev pub HasPerhapsClient : Option ℕ → Fixed → List Entry → (given left : Ends) (done : ℕ) → Ending → Option WordView → Type 0
-HasPerhapsClient (Some client) fixed journal given left done ending word = HasClient fixed journal given left client done ending word
-HasPerhapsClient None fixed journal given left done ending word = HasNoClient fixed journal given left done ending word
+abbrev pub HasPerhapsClient : Option ℕ → Fixed → (wrong : Bool) → List Entry → (given left : Ends) (done : ℕ) → Ending → Option WordView → Type 0
+HasPerhapsClient (Some client) fixed wrong journal given left done ending word = HasClient fixed wrong journal given left client done ending word
+HasPerhapsClient None fixed wrong journal given left done ending word = HasNoClient fixed wrong journal given left done ending word
 
--- what became of a connection
-pub record IsLink (fixed : Fixed) (journal : List Entry) (given left : Ends) (client : Option ℕ) (done : ℕ) (ending : Ending) (word : Option WordView) : Type 0 where
-  pub ended : HasPerhapsClient client fixed journal given left done ending word
+-- what became of a connection. `wrong` is whether the device gave a wrong answer
+pub record IsLink (fixed : Fixed) (wrong : Bool) (journal : List Entry) (given left : Ends) (client : Option ℕ) (done : ℕ) (ending : Ending) (word : Option WordView) : Type 0 where
+  pub ended : HasPerhapsClient client fixed wrong journal given left done ending word
   pub cause : HasCause ending given.source_faults left.source_faults given.sink_faults left.sink_faults
 
 -- ---- all of them

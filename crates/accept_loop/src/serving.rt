@@ -107,7 +107,7 @@ fn serve_coming<B: Serves + Send, A: Passed, G: Gate, R: Threads + Wait + Sync>(
     requires room { most ≤ deque_capacity coming.links }
     ensures room { deque_capacity result.0.links ≡ deque_capacity coming.links }
     ensures name { A.name result.0.acceptor ≡ A.name coming.acceptor }
-    ensures served { ServesAll B.legal (λ pass given link. IsLink pass.fixed pass.front
+    ensures served { ServesAll B.legal (λ pass given link. IsLink pass.fixed pass.wrong pass.front
         (ends_of A.In.left A.Out.written A.In.faults A.Out.faults given.0 given.1)
         (ends_of A.In.left A.Out.written A.In.faults A.Out.faults link.source link.sink)
         link.client link.done link.ending link.word)
@@ -142,7 +142,7 @@ fn serve_coming<B: Serves + Send, A: Passed, G: Gate, R: Threads + Wait + Sync>(
                 × (rest ≤ deque_capacity coming.links) }
             ensures { (deque_capacity result.0.links ≡ deque_capacity coming.links)
                 × (A.name result.0.acceptor ≡ A.name coming.acceptor)
-                × ServesAll B.legal (λ pass given link. IsLink pass.fixed pass.front
+                × ServesAll B.legal (λ pass given link. IsLink pass.fixed pass.wrong pass.front
                 (ends_of A.In.left A.Out.written A.In.faults A.Out.faults given.0 given.1)
                 (ends_of A.In.left A.Out.written A.In.faults A.Out.faults link.source link.sink)
                 link.client link.done link.ending link.word)
@@ -186,7 +186,8 @@ fn serve_under_lock<B: Serves + Send, A: Acceptor, G: Gate, R: Threads + Wait + 
     requires most { connections < 1024 }
     ensures fixed { B.fixed result.value ≡ B.fixed value }
     ensures legal { IsLegalOver B.legal (B.fixed value).base (B.history result.value) }
-    ensures served { AreServed (λ given link. IsLink (B.fixed value) (B.history result.value)
+    ensures served { AreServed (λ given link. IsLink (B.fixed value) (B.wrong result.value)
+        (B.history result.value)
         (ends_of A.In.left A.Out.written A.In.faults A.Out.faults given.0 given.1)
         (ends_of A.In.left A.Out.written A.In.faults A.Out.faults link.source link.sink)
         link.client link.done link.ending link.word)
@@ -257,7 +258,8 @@ pub fn serve<B: Serves + Send, A: Acceptor, G: Gate, R: Threads + Wait + Sync>(
     ensures legal { IsLegalOver B.legal (B.fixed value).base (B.history result.value) }
     // Each connection that was accepted has its commands in the history once and in order, and was
     // written what they were told. The history has no other client.
-    ensures served { AreServed (λ given link. IsLink (B.fixed value) (B.history result.value)
+    ensures served { AreServed (λ given link. IsLink (B.fixed value) (B.wrong result.value)
+        (B.history result.value)
         (ends_of A.In.left A.Out.written A.In.faults A.Out.faults given.0 given.1)
         (ends_of A.In.left A.Out.written A.In.faults A.Out.faults link.source link.sink)
         link.client link.done link.ending link.word)

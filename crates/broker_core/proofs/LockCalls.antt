@@ -1,6 +1,6 @@
 -- What a broker's calls tell is what is told of a value under a lock.
-use Rattle.std.proofs.Common.{◌≡◌, ◌≤◌, ℕ, true, List, [], ◌∷◌, ◌++◌, Option, Some, None, Result, Ok, Err, refl, sym, ap, subst, arith, inl, inr}
-use Rattle.std.specs.Prelude.{◌⊎◌, is_some, IsSome, IfOk, OnErr}
+use Rattle.std.proofs.Common.{◌≡◌, ◌≤◌, ◌∙◌, ℕ, Bool, true, false, List, [], ◌∷◌, ◌++◌, Option, Some, None, Result, Ok, Err, refl, sym, ap, subst, arith, inl, inr}
+use Rattle.std.specs.Prelude.{◌⊎◌, ◌↔◌, is_some, IsSome, IfOk, OnErr}
 use Rattle.tab_spec.specs.declared.TheConstants.{RC_DEVICE_FAULT}
 use Rattle.tab_spec.specs.Count.{Rose, largest_count}
 use Rattle.tab_spec.specs.Persist.{Persist}
@@ -105,3 +105,57 @@ pub may_leave : (fixed : Fixed) (old new : Held) (closed : Closed) → TellsLeft
 may_leave fixed old new closes.Clean left none = tt
 may_leave fixed old new (closes.Orphans count) left none = omega (arith, left.0, left.1)
 may_leave fixed old new closes.Answer left none = none refl
+
+-- ---- wrong answers
+
+not_so : (b : Bool) → (b ≡ true → ⊥) → b ≡ false
+not_so true never = absurd (never refl)
+not_so false never = refl
+
+opening_is : (wrong : Option ℕ) (result : Result ℕ OpenClientError) → ((result ≡ Err open_errors.Answer) ↔ IsSome wrong) → is_some wrong ≡ lock.opens_wrong result
+opening_is wrong (Ok client) is = not_so (is_some wrong) (λ some. let no : ◌≡◌ {A = Result ℕ OpenClientError} (Ok client) (Err open_errors.Answer) = is.1 some in cc)
+opening_is wrong (Err open_errors.Memory) is =
+    not_so (is_some wrong) (λ some. let no : ◌≡◌ {A = Result ℕ OpenClientError} (Err open_errors.Memory) (Err open_errors.Answer) = is.1 some in cc)
+opening_is wrong (Err (open_errors.JournalFull count most)) is =
+    not_so (is_some wrong) (λ some. let no : ◌≡◌ {A = Result ℕ OpenClientError} (Err (open_errors.JournalFull count most)) (Err open_errors.Answer) = is.1 some in cc)
+opening_is wrong (Err open_errors.Answer) is = is.0 refl
+
+-- an opening leaves it as it was
+pub opens_same : {D : Type 0} (old new : BrokerView D) (result : Result ℕ OpenClientError)
+    → IfOk result (λ client. (client ≡ (clients_of old.journal).opened) × HasRoomForClient old.limit old.journal
+    × (new ≡ record old { journal = old.journal ++ open_entry client ∷ []; tables = old.tables ++ [] ∷ []; held = with_owners old.held new.held.objects.owners }))
+    → OnErr result (new ≡ old) → is_some new.wrong_code ≡ is_some old.wrong_code
+opens_same {D} old new (Ok client) ok err = ap (λ (b : BrokerView D). is_some b.wrong_code) ok.2
+opens_same {D} old new (Err e) ok err = ap (λ (b : BrokerView D). is_some b.wrong_code) err
+
+pub opens_right : {D : Type 0} (old new : BrokerView D) (result : Result ℕ OpenClientError)
+    → IfOk result (λ client. (client ≡ (clients_of old.journal).opened) × HasRoomForClient old.limit old.journal
+    × (new ≡ record old { journal = old.journal ++ open_entry client ∷ []; tables = old.tables ++ [] ∷ []; held = with_owners old.held new.held.objects.owners }))
+    → OnErr result (new ≡ old) → ((result ≡ Err open_errors.Answer) ↔ IsSome old.wrong_code)
+    → lock.TellsWrong (is_some old.wrong_code) (is_some new.wrong_code) (lock.opens_wrong result) × (is_some new.wrong_code ≡ is_some old.wrong_code)
+opens_right old new result ok err is =
+    let same = opens_same old new result ok err in ((same ∙ opening_is old.wrong_code result is, λ was. same ∙ was), same)
+
+command_is : (wrong : Option ℕ) (told : Told) → ((told ≡ tolds.Answer) ↔ IsSome wrong) → is_some wrong ≡ lock.tells_wrong told
+command_is wrong tolds.Entered is = not_so (is_some wrong) (λ some. let no : tolds.Entered ≡ tolds.Answer = is.1 some in cc)
+command_is wrong tolds.Memory is = not_so (is_some wrong) (λ some. let no : tolds.Memory ≡ tolds.Answer = is.1 some in cc)
+command_is wrong (tolds.JournalFull count most) is = not_so (is_some wrong) (λ some. let no : tolds.JournalFull count most ≡ tolds.Answer = is.1 some in cc)
+command_is wrong tolds.Answer is = is.0 refl
+
+-- a command leaves it where it was there
+pub tells_right : {D : Type 0} (old new : BrokerView D) (told : Told) → ((told ≡ tolds.Answer) ↔ IsSome new.wrong_code) → (IsSome old.wrong_code → new.wrong_code ≡ old.wrong_code)
+    → lock.TellsWrong (is_some old.wrong_code) (is_some new.wrong_code) (lock.tells_wrong told)
+tells_right old new told is stays = (command_is new.wrong_code told is, λ was. ap is_some (stays was) ∙ was)
+
+pub cancel_right : {D : Type 0} (old new : BrokerView D) (told : Told) → ((told ≡ tolds.Answer) ↔ IsSome old.wrong_code) → new.wrong_code ≡ old.wrong_code
+    → lock.TellsWrong (is_some old.wrong_code) (is_some new.wrong_code) (lock.tells_wrong told)
+cancel_right old new told is same = (ap is_some same ∙ command_is old.wrong_code told is, λ was. ap is_some same ∙ was)
+
+close_is : (wrong : Option ℕ) (closed : Closed) → ((closed ≡ closes.Answer) ↔ IsSome wrong) → is_some wrong ≡ lock.closes_wrong closed
+close_is wrong closes.Clean is = not_so (is_some wrong) (λ some. let no : closes.Clean ≡ closes.Answer = is.1 some in cc)
+close_is wrong (closes.Orphans count) is = not_so (is_some wrong) (λ some. let no : closes.Orphans count ≡ closes.Answer = is.1 some in cc)
+close_is wrong closes.Answer is = is.0 refl
+
+pub closes_right : {D : Type 0} (old new : BrokerView D) (closed : Closed) → ((closed ≡ closes.Answer) ↔ IsSome new.wrong_code) → (IsSome old.wrong_code → new.wrong_code ≡ old.wrong_code)
+    → lock.TellsWrong (is_some old.wrong_code) (is_some new.wrong_code) (lock.closes_wrong closed)
+closes_right old new closed is stays = (close_is new.wrong_code closed is, λ was. ap is_some (stays was) ∙ was)

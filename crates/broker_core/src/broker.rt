@@ -8,7 +8,7 @@ ghost use Rattle.device_spec.specs.Answers.{IsWrongAnswer};
 ghost use Rattle.device_port.specs.Device.{asked_of, last_of, sent_of};
 ghost use Rattle.device_start.specs.Start.{ClearedIf, HoldsNoMoreIf, IsStarted};
 ghost use Rattle.session_swap.specs.Items.{no_items};
-ghost use Rattle.client_machine.specs.Dropping.{AreLeftByFaults, KeepsOthers};
+ghost use Rattle.client_machine.specs.Dropping.{AreLeftByFaults, KeepsOthers, SendsFlushes};
 ghost use Rattle.client_machine.specs.Settled.{orphan_count};
 ghost use Rattle.device_spec.specs.Slots.{held};
 ghost use Rattle.history_spec.specs.declared.TheConstants.{ENTRY_BYTES, SILENT_LIMIT};
@@ -17,6 +17,7 @@ ghost use Rattle.history_spec.specs.Entry.{fault_entry, clients_of, HasRoom, Has
 ghost use Rattle.history_spec.specs.Entry.{IsLimit};
 ghost use Rattle.history_spec.specs.Entry.{kept, IsOpen, IsNextNumber};
 ghost use Rattle.history_spec.specs.declared.Pick.TheVariants.{Nothing};
+ghost use Rattle.broker_lock.specs.Serves.{closes_wrong};
 ghost use Rattle.broker_lock.specs.declared.calls.OpenClientError.TheVariants as open_errors;
 ghost use Rattle.broker_lock.specs.declared.calls.Told.TheVariants as tolds;
 ghost use Rattle.broker_lock.specs.declared.calls.Closed.TheVariants as closes;
@@ -31,7 +32,7 @@ ghost use Rattle.client_laws.specs.Ready.{tells_session};
 
 use audit_journal::{Entry, Journal};
 use broker_lock::{Closed, OpenClientError, Told};
-use client_machine::{Held, Machine, Seen, pick_of};
+use client_machine::{ClientView, Held, Machine, pick_of};
 use client_tables::ClientTables;
 use device_port::{Device, SwapError};
 use device_start::{Lists, start};
@@ -405,7 +406,7 @@ impl<D: Device> Broker<D> {
         if let Err(told) = find_room(&self.journal, self.present, bytes, reply) {
             return told;
         }
-        let seen = Seen {
+        let seen = ClientView {
             client,
             table: self.tables.table(client),
             sessions: &self.machine.held.sessions,
@@ -500,6 +501,8 @@ impl<D: Device> Broker<D> {
         ensures keeps { Keeps D.seen self.old.device self.new.device }
         ensures costs { SendsUpTo D.seen (close_bound client self.old.held)
             self.old.device self.new.device }
+        // Nothing is sent but flushes, and no wrong answer to one is passed over.
+        ensures sent { SendsFlushes D.seen self.old.device self.new.device (closes_wrong result) }
         ensures fixed { (self.new.began ≡ self.old.began) × (self.new.limit ≡ self.old.limit) }
     {
         self.close_by(client, &mut Uncounted)
@@ -528,6 +531,8 @@ impl<D: Device> Broker<D> {
             × (self.new.began ≡ self.old.began) × (self.new.limit ≡ self.old.limit) }
         ensures costs { SendsUpTo D.seen (close_bound client self.old.held)
             self.old.device self.new.device }
+        // Nothing is sent but flushes, and no wrong answer to one is passed over.
+        ensures sent { SendsFlushes D.seen self.old.device self.new.device (closes_wrong result) }
         ensures steps { (steps.new ≤ steps.old + 6 * own_objects client self.old.held.objects.items)
             × ((result ≡ closes.Answer → ⊥)
             → steps.old + 3 * own_objects client self.old.held.objects.items ≤ steps.new) }
@@ -616,6 +621,8 @@ impl<D: Device> Broker<D> {
             × (self.new.began ≡ self.old.began) × (self.new.limit ≡ self.old.limit) }
         ensures costs { SendsUpTo D.seen (close_bound client self.old.held)
             self.old.device self.new.device }
+        // Nothing is sent but flushes, and no wrong answer to one is passed over.
+        ensures sent { SendsFlushes D.seen self.old.device self.new.device (closes_wrong result) }
         ensures steps { (C.count steps.new
             ≤ C.count steps.old + 6 * own_objects client self.old.held.objects.items)
             × ((result ≡ closes.Answer → ⊥) → C.count steps.old

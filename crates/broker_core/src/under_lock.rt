@@ -1,5 +1,5 @@
 //! A broker under a lock: its history is its journal's.
-ghost use Rattle.std.specs.Prelude.{◌≡◌, ◌≤◌, None, IsSome};
+ghost use Rattle.std.specs.Prelude.{◌≡◌, ◌≤◌, None, IsSome, is_some};
 ghost use Rattle.tab_spec.specs.Count.{largest_count};
 ghost use Rattle.world_spec.specs.Legal.{Legal};
 ghost use Rattle.broker_lock.specs.Known.{IsLegalOver};
@@ -31,6 +31,8 @@ impl<D: Device> Recorded for Broker<D> {
 
     ghost fixed = { λ b.
         record { base = (D.seen b.device).base; limit = b.limit; began = b.began } };
+
+    ghost wrong = { λ b. is_some b.wrong_code };
 
     fn entries(&self) -> u64 {
         self.journal.len()

@@ -1,5 +1,5 @@
 -- What a pass knows after its turn.
-use Rattle.std.proofs.Common.{◌≡◌, ◌⊎◌, ℕ, ◌<◌, true, false, List, [], ◌∷◌, ◌++◌, length, drop, Option, Ok, Err, refl, sym, ap, ◌∙◌, subst, ⊎_elim, arith}
+use Rattle.std.proofs.Common.{◌≡◌, ◌⊎◌, ℕ, ◌<◌, Bool, true, false, List, [], ◌∷◌, ◌++◌, length, drop, Option, Ok, Err, refl, sym, ap, ◌∙◌, subst, ⊎_elim, arith}
 use Rattle.std.proofs.lemmas.List.{append-nil, append_cancel_left}
 use Rattle.tab_spec.specs.Persist.{Persist}
 use Rattle.atomic_table.specs.Seated.{TableId}
@@ -12,8 +12,8 @@ use Rattle.broker_lock.specs.declared.calls.Job.TheVariants as jobs
 use Rattle.broker_lock.specs.declared.calls.OpenClientError.TheVariants as open_errors
 use Rattle.broker_lock.specs.declared.calls.Told.TheVariants as tolds
 use Rattle.broker_lock.specs.Known.{Fixed, IsLegalOver, IsOwn, knows, of_known}
-use Rattle.broker_lock.specs.Pass.{Acts, Does, MayAsk, MayCall, PassView, pass_view}
-use Rattle.broker_lock.specs.Serves.{IsAnswered, IsFailed, IsOpened}
+use Rattle.broker_lock.specs.Pass.{Acts, Does, MayAsk, MayCall, PassView, done_wrong, pass_view}
+use Rattle.broker_lock.specs.Serves.{IsAnswered, IsFailed, IsOpened, TellsWrong}
 use Rattle.broker_lock.specs.Turn.{HasTurn, IsIdle, IsOrderly, MayAdd, MayEnterAs, MayGiveBack, no_entry, one_entry, raised, rested}
 use Rattle.broker_lock.specs.View.{SeatView}
 use Rattle.broker_lock.proofs.Adding.{order_more, own_more}
@@ -95,27 +95,28 @@ opens_one known before added after fixed (jobs.Close n) bytes done reply client 
 
 -- ---- the turn
 
-module _ {B : Type 0} (history : B → List Entry) (fixed : B → Fixed) where
-  pub may_call_now : (value : B) (v now : SeatView) (job : Job) → HasTurn history fixed value v now → MayAsk v.known job → MayCall (history value) job
+module _ {B : Type 0} (history : B → List Entry) (fixed : B → Fixed) (wrong : B → Bool) where
+  pub may_call_now : (value : B) (v now : SeatView) (job : Job) → HasTurn history fixed wrong value v now → MayAsk v.known job → MayCall (history value) job
   may_call_now value v now job turn may = may_call v.known (history value) job turn.orderly turn.own may
 
-  pub may_give_back : (value after : B) (v now : SeatView) (job : Job) (bytes : List ℕ) (done : Done) (reply : List ℕ) → IsIdle v → HasTurn history fixed value v now
-      → Does (fixed value) (history value) job bytes (history after) done reply → fixed after ≡ fixed value → MayAsk v.known job → MayGiveBack history fixed now after
-  may_give_back value after v now job bytes done reply idle turn does same may =
+  pub may_give_back : (value after : B) (v now : SeatView) (job : Job) (bytes : List ℕ) (done : Done) (reply : List ℕ) → IsIdle v → HasTurn history fixed wrong value v now
+      → Does (fixed value) (history value) job bytes (history after) done reply → fixed after ≡ fixed value → TellsWrong (wrong value) (wrong after) (done_wrong done) → MayAsk v.known job → MayGiveBack history fixed wrong now after
+  may_give_back value after v now job bytes done reply idle turn does same tells may =
       let a = adds v.known (history value) (history after) (fixed value) job bytes done reply does may in
-      subst (λ (u : SeatView). MayGiveBack history fixed u after) (sym turn.now) record {
+      subst (λ (u : SeatView). MayGiveBack history fixed wrong u after) (sym turn.now) record {
         some_part = idle.some_part;
         acting = refl;
         added = a.added;
         entered = a.entered;
         may = a.may;
         fixed_is = same ∙ turn.fixed_is;
+        told = tells.1;
       }
 
-  pub acted : (legal : Persist → List Entry → Type 0) (lock at : TableId) (value after : B) (v now : SeatView) (me : Me (Option B) SeatView) (old : PassView) (job : Job) (bytes : List ℕ) (done : Done) (reply : List ℕ) → IsIdle v → HasTurn history fixed value v now
-      → Does (fixed value) (history value) job bytes (history after) done reply → fixed after ≡ fixed value → IsLegalOver legal (fixed after).base (history after) → MayAsk v.known job
-      → me ≡ (rested (raised now (history after)), []) → pass_view lock v ≡ old → at ≡ lock → Acts legal old job bytes done reply (pass_view at me.0)
-  acted legal lock at value after v now me old job bytes done reply idle turn does same shown may back old_is same_lock =
+  pub acted : (legal : Persist → List Entry → Type 0) (lock at : TableId) (value after : B) (v now : SeatView) (me : Me (Option B) SeatView) (old : PassView) (job : Job) (bytes : List ℕ) (done : Done) (reply : List ℕ) → IsIdle v → HasTurn history fixed wrong value v now
+      → Does (fixed value) (history value) job bytes (history after) done reply → fixed after ≡ fixed value → TellsWrong (wrong value) (wrong after) (done_wrong done) → IsLegalOver legal (fixed after).base (history after) → MayAsk v.known job
+      → me ≡ (rested (raised now (history after) (wrong after)), []) → pass_view lock v ≡ old → at ≡ lock → Acts legal old job bytes done reply (pass_view at me.0)
+  acted legal lock at value after v now me old job bytes done reply idle turn does same tells shown may back old_is same_lock =
       subst (λ (p : PassView). Acts legal p job bytes done reply (pass_view at me.0)) old_is record {
         before = history value;
         added = a.added;
@@ -133,13 +134,15 @@ module _ {B : Type 0} (history : B → List Entry) (fixed : B → Fixed) where
         lock = same_lock;
         fixed = fixed_now;
         parts = parts_now;
+        wrong = wrong_now ∙ tells.0;
+        still = λ knew. wrong_now ∙ tells.1 (turn.told knew);
       }
     where
       a : Adds v.known (history value) (history after)
       a = adds v.known (history value) (history after) (fixed value) job bytes done reply does may
 
-      now_is : me.0 ≡ rested (raised (record v { front = history value; acting = true }) (history after))
-      now_is = ap (λ (m : Me (Option B) SeatView). m.0) back ∙ ap (λ (u : SeatView). rested (raised u (history after))) turn.now
+      now_is : me.0 ≡ rested (raised (record v { front = history value; acting = true; wrong = wrong value }) (history after) (wrong after))
+      now_is = ap (λ (m : Me (Option B) SeatView). m.0) back ∙ ap (λ (u : SeatView). rested (raised u (history after) (wrong after))) turn.now
 
       front : me.0.front ≡ history after
       front = ap (λ (u : SeatView). u.front) now_is
@@ -153,10 +156,13 @@ module _ {B : Type 0} (history : B → List Entry) (fixed : B → Fixed) where
       fixed_now : me.0.fixed ≡ v.fixed
       fixed_now = ap (λ (u : SeatView). u.fixed) now_is
 
+      wrong_now : me.0.wrong ≡ wrong after
+      wrong_now = ap (λ (u : SeatView). u.wrong) now_is
+
       parts_now : me.0.parts ≡ v.parts
       parts_now = ap (λ (u : SeatView). u.parts) now_is
 
-  pub idle_again : (value after : B) (v now : SeatView) (me : Me (Option B) SeatView) → IsIdle v → HasTurn history fixed value v now → me ≡ (rested (raised now (history after)), [])
+  pub idle_again : (value after : B) (v now : SeatView) (me : Me (Option B) SeatView) → IsIdle v → HasTurn history fixed wrong value v now → me ≡ (rested (raised now (history after) (wrong after)), [])
       → me.0.known ≡ of_known me.0.known me.0.front → IsIdle me.0 × (me.1 ≡ [])
   idle_again value after v now me idle turn back order = (
     record {
@@ -167,5 +173,5 @@ module _ {B : Type 0} (history : B → List Entry) (fixed : B → Fixed) where
     ap (λ (m : Me (Option B) SeatView). m.1) back,
   )
     where
-      now_is : me.0 ≡ rested (raised (record v { front = history value; acting = true }) (history after))
-      now_is = ap (λ (m : Me (Option B) SeatView). m.0) back ∙ ap (λ (u : SeatView). rested (raised u (history after))) turn.now
+      now_is : me.0 ≡ rested (raised (record v { front = history value; acting = true; wrong = wrong value }) (history after) (wrong after))
+      now_is = ap (λ (m : Me (Option B) SeatView). m.0) back ∙ ap (λ (u : SeatView). rested (raised u (history after) (wrong after))) turn.now

@@ -1,7 +1,7 @@
 -- Passes are cut in two and made one, and the lock begins and ends.
 use Rattle.std.proofs.Common.{◌≡◌, ◌≢◌, ◌⊎◌, ℕ, zero, suc, ◌<◌, ◌≤◌, Bool, true, false, cond, true≢false, List, [], ◌∷◌, ◌++◌, length, set, Option, Some, refl, sym, ap, ◌∙◌, subst, inl, inr, ⊎_elim, arith}
 use Rattle.std.specs.Prelude.{nat_lt}
-use Rattle.std.proofs.lemmas.Bool.{ltb-false, ltb-true}
+use Rattle.std.proofs.lemmas.Bool.{ltb-false, ltb-true, or_cases}
 use Rattle.std.proofs.lemmas.List.Sums.{sum_by_push}
 use mathlib.Core.List.{IsPrefix}
 use mathlib.Core.Option.{some, some-injective, some-ne-none}
@@ -33,18 +33,19 @@ each_both : {X : Type 0} (K : ℕ → X → Type 0) (xs : List X) (i k : ℕ) (w
 each_both {X} K xs i k w spent mine theirs others =
     each_set K (set xs i w) k spent theirs (λ j u apart there. each_set (λ (m : ℕ) (x : X). m ≢ k → K m x) xs i w (λ _. mine) (λ m x off at differs. others m x off differs at) j u there apart)
 
-module _ {B : Type 0} (history : B → List Entry) (fixed : B → Fixed) where
+module _ {B : Type 0} (history : B → List Entry) (fixed : B → Fixed) (wrong : B → Bool) where
   -- ---- a pass is split
 
-  pub splits_it : (id : ℕ) (v : SeatView) → 2 ≤ v.parts → v.acting ≡ false → Splits (Stands history fixed) id v (left_with v) (split_off v)
+  pub splits_it : (id : ℕ) (v : SeatView) → 2 ≤ v.parts → v.acting ≡ false → Splits (Stands history fixed wrong) id v (left_with v) (split_off v)
   splits_it id v two resting s r at = record {
     all = r.all;
     log = r.log;
+    came = r.came;
     orderly = r.orderly;
     turn = ⊎_elim (λ f. inl (free f)) (λ t. inr (taken t)) r.turn;
     parts = let sum = sum_at_set (λ (u : SeatView). u.parts) s.views id v (left_with v) at in
         let more = sum_by_push (λ (u : SeatView). u.parts) (set s.views id (left_with v)) (split_off v) in let whole = r.parts in omega arith;
-    each = each_more (λ j u. IsTrueOf r.all r.log u) s.views id (left_with v) (split_off v) mine (λ j. given) (λ j u apart there. r.each j u there);
+    each = each_more (λ j u. IsTrueOf r.all r.log r.came u) s.views id (left_with v) (split_off v) mine (λ j. given) (λ j u apart there. r.each j u there);
     owner = r.owner;
     owned = each_more (λ j u. (client : ℕ) → knows u.known client ≡ true → r.owner client ≡ j) s.views id (left_with v) (split_off v)
         (r.owned id v at) (λ j client k. absurd (true≢false (sym k))) (λ j u apart there. r.owned j u there);
@@ -55,10 +56,10 @@ module _ {B : Type 0} (history : B → List Entry) (fixed : B → Fixed) where
       views : List SeatView
       views = set s.views id (left_with v) ++ split_off v ∷ []
 
-      was : IsTrueOf r.all r.log v
+      was : IsTrueOf r.all r.log r.came v
       was = r.each id v at
 
-      mine : IsTrueOf r.all r.log (left_with v)
+      mine : IsTrueOf r.all r.log r.came (left_with v)
       mine = record {
         fixed_is = λ some_part. was.fixed_is (omega arith);
         front = was.front;
@@ -66,9 +67,10 @@ module _ {B : Type 0} (history : B → List Entry) (fixed : B → Fixed) where
         own_log = was.own_log;
         own_front = was.own_front;
         spent = λ none_left. absurd (omega arith);
+        told = was.told;
       }
 
-      given : IsTrueOf r.all r.log (split_off v)
+      given : IsTrueOf r.all r.log r.came (split_off v)
       given = record {
         fixed_is = λ some_part. was.fixed_is (omega arith);
         front = was.front;
@@ -76,6 +78,7 @@ module _ {B : Type 0} (history : B → List Entry) (fixed : B → Fixed) where
         own_log = λ client k. absurd (true≢false (sym k));
         own_front = λ client k. absurd (true≢false (sym k));
         spent = λ none_left. absurd (omega arith);
+        told = was.told;
       }
 
       here : get_elem? views id ≡ some (left_with v)
@@ -84,24 +87,25 @@ module _ {B : Type 0} (history : B → List Entry) (fixed : B → Fixed) where
       there : (j : ℕ) (u : SeatView) → j ≢ id → get_elem? s.views j ≡ some u → get_elem? views j ≡ some u
       there j u apart is = at_longer (set s.views id (left_with v)) (split_off v ∷ []) j u (set_else s.views id j (left_with v) apart ∙ is)
 
-      free : IsFree history fixed r.all r.log s → IsFree history fixed r.all r.log (after history fixed s.words s.homes views)
+      free : IsFree history fixed wrong r.all r.log r.came s → IsFree history fixed wrong r.all r.log r.came (after history fixed wrong s.words s.homes views)
       free f = record {
         value = f.value;
         words = f.words;
         home = f.home;
         history_is = f.history_is;
         fixed_is = f.fixed_is;
+        wrong_is = f.wrong_is;
         nobody = each_more (λ j u. u.acting ≡ false) s.views id (left_with v) (split_off v) resting (λ j. refl) (λ j u apart is. f.nobody j u is);
       }
 
-      taken : IsTaken r.log s → IsTaken r.log (after history fixed s.words s.homes views)
+      taken : IsTaken r.log r.came s → IsTaken r.log r.came (after history fixed wrong s.words s.homes views)
       taken t = record {
         seat = t.seat;
         words = t.words;
         out = t.out;
         actor = let apart : t.seat ≢ id = λ is. true≢false (sym t.actor.2 ∙ ap (λ (u : SeatView). u.acting) (same_at s.views id t.seat v t.actor.0 at t.actor.1 is) ∙ resting) in
             (t.actor.0, there t.seat t.actor.0 apart t.actor.1, t.actor.2);
-        alone = each_more (λ j u. u.acting ≡ true → (j ≡ t.seat) × (u.front ≡ r.log)) s.views id (left_with v) (split_off v)
+        alone = each_more (λ j u. u.acting ≡ true → (j ≡ t.seat) × (u.front ≡ r.log) × (u.wrong ≡ r.came)) s.views id (left_with v) (split_off v)
             (λ acts. absurd (true≢false (sym acts ∙ resting))) (λ j acts. absurd (true≢false (sym acts))) (λ j u apart is. t.alone j u is);
       }
 
@@ -146,18 +150,19 @@ shorter-le one other = by_test (nat_lt (length one) (length other)) refl
     by_test true test = let less = ltb-true (length one) (length other) test in omega arith
     by_test false test = let more = ltb-false (length one) (length other) test in more
 
-module _ {B : Type 0} (history : B → List Entry) (fixed : B → Fixed) where
+module _ {B : Type 0} (history : B → List Entry) (fixed : B → Fixed) (wrong : B → Bool) where
   -- ---- two passes are made one
 
-  pub joins_it : (id other : ℕ) (v w : SeatView) → 0 < v.parts → 0 < w.parts → v.acting ≡ false → w.acting ≡ false → Joins (Stands history fixed) id v other w (together v w) spent_view
+  pub joins_it : (id other : ℕ) (v w : SeatView) → 0 < v.parts → 0 < w.parts → v.acting ≡ false → w.acting ≡ false → Joins (Stands history fixed wrong) id v other w (together v w) spent_view
   joins_it id other v w some_part parts_left resting still s r at apart given = record {
     all = r.all;
     log = r.log;
+    came = r.came;
     orderly = r.orderly;
     turn = ⊎_elim (λ f. inl (free f)) (λ t. inr (taken t)) r.turn;
     parts = let one = sum_at_set (λ (u : SeatView). u.parts) s.views id v (together v w) at in
         let two = sum_at_set (λ (u : SeatView). u.parts) (set s.views id (together v w)) other w spent_view given in let whole = r.parts in omega arith;
-    each = each_both (λ j u. IsTrueOf r.all r.log u) s.views id other (together v w) spent_view mine gone (λ j u _ _ there. r.each j u there);
+    each = each_both (λ j u. IsTrueOf r.all r.log r.came u) s.views id other (together v w) spent_view mine gone (λ j u _ _ there. r.each j u there);
     owner = λ client. cond (knows w.known client) id (r.owner client);
     owned = each_both (λ j u. (client : ℕ) → knows u.known client ≡ true → cond (knows w.known client) id (r.owner client) ≡ j) s.views id other (together v w) spent_view
         (λ client k. is_mine client (decided (knows w.known client)) (knows_either client v.known w.known k)) (λ client k. absurd (true≢false (sym k)))
@@ -172,10 +177,10 @@ module _ {B : Type 0} (history : B → List Entry) (fixed : B → Fixed) where
       at_other : get_elem? s.views other ≡ some w
       at_other = sym (set_else s.views id other (together v w) apart) ∙ given
 
-      was : IsTrueOf r.all r.log v
+      was : IsTrueOf r.all r.log r.came v
       was = r.each id v at
 
-      theirs : IsTrueOf r.all r.log w
+      theirs : IsTrueOf r.all r.log r.came w
       theirs = r.each other w at_other
 
       begins : IsPrefix v.front (longer v.front w.front) × IsPrefix w.front (longer v.front w.front)
@@ -204,7 +209,7 @@ module _ {B : Type 0} (history : B → List Entry) (fixed : B → Fixed) where
           (λ (right : knows w.known client ≡ true). others client right ∙ sym (own_right client v.known w.known (not_ours client right)))
           (knows_either client v.known w.known k)
 
-      mine : IsTrueOf r.all r.log (together v w)
+      mine : IsTrueOf r.all r.log r.came (together v w)
       mine = record {
         fixed_is = λ _. was.fixed_is some_part;
         front = in_log;
@@ -214,9 +219,10 @@ module _ {B : Type 0} (history : B → List Entry) (fixed : B → Fixed) where
             (λ client k. own_between client v.front (longer v.front w.front) r.log begins.0 in_log (was.own_log client k ∙ sym (was.own_front client k)) ∙ was.own_front client k)
             (λ client k. own_between client w.front (longer v.front w.front) r.log begins.1 in_log (theirs.own_log client k ∙ sym (theirs.own_front client k)) ∙ theirs.own_front client k);
         spent = λ none_left. absurd (omega arith);
+        told = λ knew. ⊎_elim was.told theirs.told (or_cases v.wrong w.wrong knew);
       }
 
-      gone : IsTrueOf r.all r.log spent_view
+      gone : IsTrueOf r.all r.log r.came spent_view
       gone = record {
         fixed_is = λ some_left. absurd (omega arith);
         front = prefix_nil r.log;
@@ -224,6 +230,7 @@ module _ {B : Type 0} (history : B → List Entry) (fixed : B → Fixed) where
         own_log = λ client k. absurd (true≢false (sym k));
         own_front = λ client k. absurd (true≢false (sym k));
         spent = λ none_left. (refl, refl, refl);
+        told = λ knew. absurd (true≢false (sym knew));
       }
 
       here : get_elem? views id ≡ some (together v w)
@@ -267,35 +274,37 @@ module _ {B : Type 0} (history : B → List Entry) (fixed : B → Fixed) where
           (id, together v w, here, whole w.front (longer v.front w.front) r.log begins.1 in_log all)
       longest_one (no off) (no away) = (r.longest.0, r.longest.1, there r.longest.0 r.longest.1 off away r.longest.2, r.longest.3)
 
-      free : IsFree history fixed r.all r.log s → IsFree history fixed r.all r.log (after history fixed s.words s.homes views)
+      free : IsFree history fixed wrong r.all r.log r.came s → IsFree history fixed wrong r.all r.log r.came (after history fixed wrong s.words s.homes views)
       free f = record {
         value = f.value;
         words = f.words;
         home = f.home;
         history_is = f.history_is;
         fixed_is = f.fixed_is;
+        wrong_is = f.wrong_is;
         nobody = each_both (λ j u. u.acting ≡ false) s.views id other (together v w) spent_view resting refl (λ j u _ _ is. f.nobody j u is);
       }
 
-      quiet : (t : IsTaken r.log s) (j : ℕ) (u : SeatView) → get_elem? s.views j ≡ some u → u.acting ≡ false → t.seat ≢ j
+      quiet : (t : IsTaken r.log r.came s) (j : ℕ) (u : SeatView) → get_elem? s.views j ≡ some u → u.acting ≡ false → t.seat ≢ j
       quiet t j u is rests same = true≢false (sym t.actor.2 ∙ ap (λ (x : SeatView). x.acting) (same_at s.views j t.seat u t.actor.0 is t.actor.1 same) ∙ rests)
 
-      taken : IsTaken r.log s → IsTaken r.log (after history fixed s.words s.homes views)
+      taken : IsTaken r.log r.came s → IsTaken r.log r.came (after history fixed wrong s.words s.homes views)
       taken t = record {
         seat = t.seat;
         words = t.words;
         out = t.out;
         actor = (t.actor.0, there t.seat t.actor.0 (quiet t id v at resting) (quiet t other w at_other still) t.actor.1, t.actor.2);
-        alone = each_both (λ j u. u.acting ≡ true → (j ≡ t.seat) × (u.front ≡ r.log)) s.views id other (together v w) spent_view
+        alone = each_both (λ j u. u.acting ≡ true → (j ≡ t.seat) × (u.front ≡ r.log) × (u.wrong ≡ r.came)) s.views id other (together v w) spent_view
             (λ acts. absurd (true≢false (sym acts ∙ resting))) (λ acts. absurd (true≢false (sym acts))) (λ j u _ _ is. t.alone j u is);
       }
 
   -- ---- the lock begins
 
-  pub begins_it : (value : B) → history value ≡ [] → Stands history fixed (opening (0 ∷ 0 ∷ []) (Some value ∷ []) (first_view (fixed value)))
+  pub begins_it : (value : B) → history value ≡ [] → Stands history fixed wrong (opening (0 ∷ 0 ∷ []) (Some value ∷ []) (first_view (fixed value)))
   begins_it value empty = record {
     all = fixed value;
     log = [];
+    came = wrong value;
     orderly = orderly_at_first;
     turn = inl record {
       value = value;
@@ -303,16 +312,18 @@ module _ {B : Type 0} (history : B → List Entry) (fixed : B → Fixed) where
       home = refl;
       history_is = empty;
       fixed_is = refl;
+      wrong_is = refl;
       nobody = alone (λ j u. u.acting ≡ false) refl;
     };
     parts = refl;
-    each = alone (λ j u. IsTrueOf (fixed value) [] u) record {
+    each = alone (λ j u. IsTrueOf (fixed value) [] (wrong value) u) record {
       fixed_is = λ _. refl;
       front = prefix_nil [];
       met = prefix_nil [];
       own_log = λ client k. absurd (true≢false (sym k));
       own_front = λ client k. absurd (true≢false (sym k));
       spent = λ none_left. absurd (omega arith);
+      told = λ knew. absurd (true≢false (sym knew));
     };
     owner = λ client. 0;
     owned = alone (λ j u. (client : ℕ) → knows u.known client ≡ true → 0 ≡ j) (λ client k. absurd (true≢false (sym k)));
@@ -327,7 +338,7 @@ module _ {B : Type 0} (history : B → List Entry) (fixed : B → Fixed) where
   -- ---- the lock ends
 
   -- a seat with all parts is the only one that knows something
-  others_spent : (s : State (Option B) SeatView) (r : Stands history fixed s) (id : ℕ) (v : SeatView) → v.parts ≡ 1024 → get_elem? s.views id ≡ some v
+  others_spent : (s : State (Option B) SeatView) (r : Stands history fixed wrong s) (id : ℕ) (v : SeatView) → v.parts ≡ 1024 → get_elem? s.views id ≡ some v
       → (j : ℕ) (u : SeatView) → j ≢ id → get_elem? s.views j ≡ some u → u.parts ≡ 0
   others_spent s r id v all at j u apart there =
       let both = sum_at_two (λ (x : SeatView). x.parts) s.views id j v u (λ is. apart (sym is)) at there in let whole = r.parts in omega arith
@@ -339,14 +350,15 @@ module _ {B : Type 0} (history : B → List Entry) (fixed : B → Fixed) where
     pub front : history value ≡ v.front
     pub all : (client : ℕ) → knows (history value) client ≡ true → knows v.known client ≡ true
     pub fixed_is : fixed value ≡ v.fixed
+    pub told : v.wrong ≡ true → wrong value ≡ true
 
-  pub ends_it : (id : ℕ) (v : SeatView) (words : List ℕ) (xs : List (Option B)) → v.parts ≡ 1024 → v.acting ≡ false → Final (Seen (Stands history fixed) id v) words xs → IsAtEnd v xs
+  pub ends_it : (id : ℕ) (v : SeatView) (words : List ℕ) (xs : List (Option B)) → v.parts ≡ 1024 → v.acting ≡ false → Final (Seen (Stands history fixed wrong) id v) words xs → IsAtEnd v xs
   ends_it id v words xs parts resting (s, (r, at), _, _, home) = ⊎_elim free (λ t. absurd (taken t (ℕ_discrete t.seat id))) r.turn
     where
-      was : IsTrueOf r.all r.log v
+      was : IsTrueOf r.all r.log r.came v
       was = r.each id v at
 
-      taken : (t : IsTaken r.log s) → Dec (t.seat ≡ id) → ⊥
+      taken : (t : IsTaken r.log r.came s) → Dec (t.seat ≡ id) → ⊥
       taken t (yes is) = true≢false (sym t.actor.2 ∙ ap (λ (u : SeatView). u.acting) (same_at s.views id t.seat v t.actor.0 at t.actor.1 is) ∙ resting)
       taken t (no apart) =
           true≢false (sym t.actor.2 ∙ ((r.each t.seat t.actor.0 t.actor.1).spent (others_spent s r id v parts at t.seat t.actor.0 apart t.actor.1)).2)
@@ -363,17 +375,18 @@ module _ {B : Type 0} (history : B → List Entry) (fixed : B → Fixed) where
       known_all client there (no apart) = let o = r.owns client there in
           absurd (true≢false (sym o.2 ∙ ap (λ (l : List Entry). knows l client) ((r.each (r.owner client) o.0 o.1).spent (others_spent s r id v parts at (r.owner client) o.0 apart o.1)).1))
 
-      free : IsFree history fixed r.all r.log s → IsAtEnd v xs
+      free : IsFree history fixed wrong r.all r.log r.came s → IsAtEnd v xs
       free f = record {
         value = f.value;
         home = home 0 (Some f.value) (ap (λ hs. get_elem? hs 0) f.home);
         front = f.history_is ∙ sym (seen_all (ℕ_discrete r.longest.0 id));
         all = λ client there. known_all client (ap (λ (l : List Entry). knows l client) (sym f.history_is) ∙ there) (ℕ_discrete (r.owner client) id);
         fixed_is = f.fixed_is ∙ sym (was.fixed_is (omega arith));
+        told = λ knew. f.wrong_is ∙ was.told knew;
       }
 
   pub begins_at : (value about : B) (before slots : List (Option B)) → history value ≡ [] → about ≡ value → before ≡ [] → slots ≡ before ++ Some value ∷ []
-      → Stands history fixed (opening (0 ∷ 0 ∷ []) slots (first_view (fixed about)))
+      → Stands history fixed wrong (opening (0 ∷ 0 ∷ []) slots (first_view (fixed about)))
   begins_at value about before slots empty same nothing pushed =
       let first : slots ≡ Some value ∷ [] = pushed ∙ ap (λ (l : List (Option B)). l ++ Some value ∷ []) nothing in
-      subst (λ (t : List (Option B) × B). Stands history fixed (opening (0 ∷ 0 ∷ []) t.0 (first_view (fixed t.1)))) (λ i. (sym first i, sym same i)) (begins_it value empty)
+      subst (λ (t : List (Option B) × B). Stands history fixed wrong (opening (0 ∷ 0 ∷ []) t.0 (first_view (fixed t.1)))) (λ i. (sym first i, sym same i)) (begins_it value empty)

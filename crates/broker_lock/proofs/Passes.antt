@@ -71,6 +71,7 @@ joined_view lock other v w ours theirs told = record {
   lock = refl;
   fixed = refl;
   parts = refl;
+  wrong = refl;
 }
   where
     both : List Entry
@@ -104,29 +105,30 @@ joined_is_idle v w new ours theirs told =
     let some_part = ours.some_part in
     subst IsIdle (sym told.now) (settled_is_idle (together v w) (omega arith) ours.resting told.own)
 
-module _ {B : Type 0} (history : B → List Entry) (fixed : B → Fixed) where
+module _ {B : Type 0} (history : B → List Entry) (fixed : B → Fixed) (wrong : B → Bool) where
   pub settles_at : (slots id : ℕ) (v w : SeatView) (me : Me (Option B) SeatView) → me.0 ≡ together v w → IsIdle v
-      → Allows (Stands history fixed) slots id me 1 (λ n. n) (settles (any_step history fixed) me)
+      → Allows (Stands history fixed wrong) slots id me 1 (λ n. n) (settles (any_step history fixed wrong) me)
   settles_at slots id v w me is ours =
       let some_part = ours.some_part in
       let parts : me.0.parts ≡ v.parts + w.parts = ap (λ (u : SeatView). u.parts) is in
-      settles_it history fixed slots id me (omega arith)
+      settles_it history fixed wrong slots id me (omega arith)
       (subst (λ (u : SeatView). length u.met ≤ length u.front) (sym is) (shorter-le v.front w.front))
 
   -- ---- close
 
   -- the value is at home
-  pub value_is : (v : SeatView) (xs : List (Option B)) (found : Option B) → (e : IsAtEnd history fixed v xs) → get_elem? xs 0 ≡ some found → found ≡ Some e.value
+  pub value_is : (v : SeatView) (xs : List (Option B)) (found : Option B) → (e : IsAtEnd history fixed wrong v xs) → get_elem? xs 0 ≡ some found → found ≡ Some e.value
   value_is v xs found e there = some-injective found (Some e.value) (sym there ∙ e.home)
 
-  pub ends_at : (lock : TableId) (v : SeatView) (xs : List (Option B)) (value : B) (pass : PassView) → IsIdle v → IsAtEnd history fixed v xs → get_elem? xs 0 ≡ some (Some value)
-      → pass_view lock v ≡ pass → Ends pass (history value) (fixed value)
+  pub ends_at : (lock : TableId) (v : SeatView) (xs : List (Option B)) (value : B) (pass : PassView) → IsIdle v → IsAtEnd history fixed wrong v xs → get_elem? xs 0 ≡ some (Some value)
+      → pass_view lock v ≡ pass → Ends pass (history value) (fixed value) (wrong value)
   ends_at lock v xs value pass idle e there is =
       let same : value ≡ e.value = cc (value_is v xs (Some value) e there) in
-      subst (λ (p : PassView). Ends p (history value) (fixed value)) is
-      (subst (λ (x : B). Ends (pass_view lock v) (history x) (fixed x)) (sym same) record {
+      subst (λ (p : PassView). Ends p (history value) (fixed value) (wrong value)) is
+      (subst (λ (x : B). Ends (pass_view lock v) (history x) (fixed x) (wrong x)) (sym same) record {
         front = e.front;
         all = e.all;
         known = e.front ∙ sym (of_known_all v.known v.front (λ client k. e.all client (ap (λ (l : List Entry). knows l client) e.front ∙ k))) ∙ sym idle.order;
         fixed_is = e.fixed_is;
+        told = e.told;
       })

@@ -33,7 +33,7 @@ each_set {X} K xs i w mine others j u at =
     (λ (t : (j ≢ i) × (get_elem? xs j ≡ some u)). others j u t.0 t.1)
     (at_set xs i j w u at)
 
-module _ {B : Type 0} (history : B → List Entry) (fixed : B → Fixed) where
+module _ {B : Type 0} (history : B → List Entry) (fixed : B → Fixed) (wrong : B → Bool) where
   abbrev pub St : Type 0
   St = State (Option B) SeatView
 
@@ -44,22 +44,23 @@ module _ {B : Type 0} (history : B → List Entry) (fixed : B → Fixed) where
   after words homes views = record { words = words; homes = homes; views = views }
 
   -- who knew a client keeps it, or knows a new one
-  pub moved : (s : St) (r : Stands history fixed s) (id : ℕ) (v w : SeatView) (words : List ℕ) (homes : Homes) (log : List Entry)
+  pub moved : (s : St) (r : Stands history fixed wrong s) (id : ℕ) (v w : SeatView) (words : List ℕ) (homes : Homes) (log : List Entry) (came : Bool)
       → get_elem? s.views id ≡ some v → w.parts ≡ v.parts → IsOrderly log
-      → IsFree history fixed r.all log (after words homes (set s.views id w)) ⊎ IsTaken log (after words homes (set s.views id w))
-      → ((j : ℕ) (u : SeatView) → j ≢ id → get_elem? s.views j ≡ some u → IsTrueOf r.all log u) → IsTrueOf r.all log w
+      → IsFree history fixed wrong r.all log came (after words homes (set s.views id w)) ⊎ IsTaken log came (after words homes (set s.views id w))
+      → ((j : ℕ) (u : SeatView) → j ≢ id → get_elem? s.views j ≡ some u → IsTrueOf r.all log came u) → IsTrueOf r.all log came w
       → ((client : ℕ) → knows v.known client ≡ true → knows w.known client ≡ true)
       → ((client : ℕ) → knows w.known client ≡ true → knows v.known client ≡ false → knows r.log client ≡ false)
       → ((client : ℕ) → knows log client ≡ true → knows w.known client ≡ false → knows r.log client ≡ true)
       → (w.front ≡ log) ⊎ ((log ≡ r.log) × (w.front ≡ v.front))
-      → Stands history fixed (after words homes (set s.views id w))
-  moved s r id v w words homes log at parts orderly turn others mine kept new all longest = record {
+      → Stands history fixed wrong (after words homes (set s.views id w))
+  moved s r id v w words homes log came at parts orderly turn others mine kept new all longest = record {
     all = r.all;
     log = log;
+    came = came;
     orderly = orderly;
     turn = turn;
     parts = let sum = sum_at_set (λ (u : SeatView). u.parts) s.views id v w at in let whole = r.parts in omega arith;
-    each = each_set (λ j u. IsTrueOf r.all log u) s.views id w mine others;
+    each = each_set (λ j u. IsTrueOf r.all log came u) s.views id w mine others;
     owner = λ client. cond (knows w.known client) id (r.owner client);
     owned = each_set (λ j u. (client : ℕ) → knows u.known client ≡ true → cond (knows w.known client) id (r.owner client) ≡ j) s.views id w
         (λ client k. ap (λ (b : Bool). cond b id (r.owner client)) k)
@@ -93,32 +94,33 @@ module _ {B : Type 0} (history : B → List Entry) (fixed : B → Fixed) where
           (r.longest.0, r.longest.1, set_else s.views id r.longest.0 w apart ∙ r.longest.2, r.longest.3 ∙ sym same)
 
   -- the turn, where the history and the words stay, and the seat sees as much and acts as before
-  pub turn_stays : (s : St) (r : Stands history fixed s) (id : ℕ) (v w : SeatView) → get_elem? s.views id ≡ some v → w.acting ≡ v.acting → w.front ≡ v.front
-      → IsFree history fixed r.all r.log (after s.words s.homes (set s.views id w)) ⊎ IsTaken r.log (after s.words s.homes (set s.views id w))
-  turn_stays s r id v w at acts front = ⊎_elim (λ f. inl (free f)) (λ t. inr (taken t)) r.turn
+  pub turn_stays : (s : St) (r : Stands history fixed wrong s) (id : ℕ) (v w : SeatView) → get_elem? s.views id ≡ some v → w.acting ≡ v.acting → w.front ≡ v.front → w.wrong ≡ v.wrong
+      → IsFree history fixed wrong r.all r.log r.came (after s.words s.homes (set s.views id w)) ⊎ IsTaken r.log r.came (after s.words s.homes (set s.views id w))
+  turn_stays s r id v w at acts front came = ⊎_elim (λ f. inl (free f)) (λ t. inr (taken t)) r.turn
     where
-      free : IsFree history fixed r.all r.log s → IsFree history fixed r.all r.log (after s.words s.homes (set s.views id w))
+      free : IsFree history fixed wrong r.all r.log r.came s → IsFree history fixed wrong r.all r.log r.came (after s.words s.homes (set s.views id w))
       free f = record {
         value = f.value;
         words = f.words;
         home = f.home;
         history_is = f.history_is;
         fixed_is = f.fixed_is;
+        wrong_is = f.wrong_is;
         nobody = each_set (λ j u. u.acting ≡ false) s.views id w (acts ∙ f.nobody id v at) (λ j u apart there. f.nobody j u there);
       }
 
-      actor : (t : IsTaken r.log s) → Dec (t.seat ≡ id) → (u : SeatView) × (get_elem? (set s.views id w) t.seat ≡ some u) × (u.acting ≡ true)
+      actor : (t : IsTaken r.log r.came s) → Dec (t.seat ≡ id) → (u : SeatView) × (get_elem? (set s.views id w) t.seat ≡ some u) × (u.acting ≡ true)
       actor t (yes is) =
           (w, ap (get_elem? (set s.views id w)) is ∙ at_once s.views id v w at, acts ∙ ap (λ (u : SeatView). u.acting) (sym (same_at s.views id t.seat v t.actor.0 at t.actor.1 is)) ∙ t.actor.2)
       actor t (no apart) = (t.actor.0, set_else s.views id t.seat w apart ∙ t.actor.1, t.actor.2)
 
-      taken : IsTaken r.log s → IsTaken r.log (after s.words s.homes (set s.views id w))
+      taken : IsTaken r.log r.came s → IsTaken r.log r.came (after s.words s.homes (set s.views id w))
       taken t = record {
         seat = t.seat;
         words = t.words;
         out = t.out;
         actor = actor t (ℕ_discrete t.seat id);
-        alone = each_set (λ j u. u.acting ≡ true → (j ≡ t.seat) × (u.front ≡ r.log)) s.views id w
-            (λ now. let was = t.alone id v at (sym acts ∙ now) in (was.0, front ∙ was.1))
+        alone = each_set (λ j u. u.acting ≡ true → (j ≡ t.seat) × (u.front ≡ r.log) × (u.wrong ≡ r.came)) s.views id w
+            (λ now. let was = t.alone id v at (sym acts ∙ now) in (was.0, front ∙ was.1, came ∙ was.2))
             (λ j u apart there. t.alone j u there);
       }

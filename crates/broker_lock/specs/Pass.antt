@@ -1,5 +1,5 @@
 -- What a pass is seen as, and what each call of a lock makes of it.
-use Rattle.std.specs.Prelude.{◌≡◌, ◌≤◌, ◌⊎◌, ℕ, ◌+◌, true, false, List, ◌++◌, Ok}
+use Rattle.std.specs.Prelude.{◌≡◌, ◌≤◌, ◌⊎◌, ℕ, ◌+◌, ◌||◌, Bool, true, false, List, ◌++◌, Ok}
 use mathlib.Core.List.{IsPrefix}
 use Rattle.atomic_table.specs.Seated.{TableId}
 use Rattle.tab_spec.specs.Persist.{Persist}
@@ -9,7 +9,7 @@ use Rattle.broker_lock.specs.declared.calls.Done.TheVariants as dones
 use Rattle.broker_lock.specs.declared.calls.Job.{Job}
 use Rattle.broker_lock.specs.declared.calls.Job.TheVariants as jobs
 use Rattle.broker_lock.specs.Known.{Fixed, IsLegalOver, IsOwn, has_closed, knows, of_known}
-use Rattle.broker_lock.specs.Serves.{IsClosed, Opens, Tells, TellsCanceled}
+use Rattle.broker_lock.specs.Serves.{IsClosed, Opens, Tells, TellsCanceled, closes_wrong, opens_wrong, tells_wrong}
 use Rattle.broker_lock.specs.View.{SeatView}
 
 pub record PassView : Type 0 where
@@ -22,10 +22,12 @@ pub record PassView : Type 0 where
   pub known : List Entry
   -- how many of the lock's 1,024 parts it has
   pub parts : ℕ
+  -- whether it knows that a wrong answer came
+  pub wrong : Bool
 
 -- a pass whose seat is at this table and knows this
 abbrev pub pass_view : TableId → SeatView → PassView
-pass_view lock v = record { lock = lock; fixed = v.fixed; front = v.front; known = v.known; parts = v.parts }
+pass_view lock v = record { lock = lock; fixed = v.fixed; front = v.front; known = v.known; parts = v.parts; wrong = v.wrong }
 
 -- ---- a turn
 
@@ -62,6 +64,12 @@ Does fixed before (jobs.Cancel client number upto) bytes after (dones.Told told)
 Does fixed before (jobs.Close client) bytes after (dones.Closed closed) reply = IsClosed fixed before after client closed
 Does fixed before _ bytes after _ reply = ⊥
 
+-- whether it tells of a wrong answer
+abbrev pub done_wrong : Done → Bool
+done_wrong (dones.Opened result) = opens_wrong result
+done_wrong (dones.Told told) = tells_wrong told
+done_wrong (dones.Closed closed) = closes_wrong closed
+
 -- one turn at the value
 pub record Acts (legal : Persist → List Entry → Type 0) (old : PassView) (job : Job) (bytes : List ℕ) (done : Done) (reply : List ℕ) (new : PassView) : Type 0 where
   -- the history that the call found, and its entry, where it has one
@@ -80,6 +88,9 @@ pub record Acts (legal : Persist → List Entry → Type 0) (old : PassView) (jo
   pub lock : new.lock ≡ old.lock
   pub fixed : new.fixed ≡ old.fixed
   pub parts : new.parts ≡ old.parts
+  -- a wrong answer is told exactly once one came
+  pub wrong : new.wrong ≡ done_wrong done
+  pub still : old.wrong ≡ true → new.wrong ≡ true
 
 -- ---- parts
 
@@ -101,10 +112,12 @@ pub record Joins (old ended new : PassView) : Type 0 where
   pub lock : new.lock ≡ old.lock
   pub fixed : new.fixed ≡ old.fixed
   pub parts : new.parts ≡ old.parts + ended.parts
+  pub wrong : new.wrong ≡ (old.wrong || ended.wrong)
 
--- the history at the end: the front, each client of which is known, and so each entry
-pub record Ends (pass : PassView) (history : List Entry) (fixed : Fixed) : Type 0 where
+-- the history at the end: the front, each client of which is known, and so each entry; and whether a wrong answer came
+pub record Ends (pass : PassView) (history : List Entry) (fixed : Fixed) (wrong : Bool) : Type 0 where
   pub front : history ≡ pass.front
   pub all : (client : ℕ) → knows history client ≡ true → knows pass.known client ≡ true
   pub known : history ≡ pass.known
   pub fixed_is : fixed ≡ pass.fixed
+  pub told : pass.wrong ≡ true → wrong ≡ true

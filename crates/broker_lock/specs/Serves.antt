@@ -1,5 +1,5 @@
 -- What each call of a value under a lock answers and enters, by the history before it and the history after it.
-use Rattle.std.specs.Prelude.{◌≡◌, ◌≤◌, ◌⊎◌, ℕ, List, [], ◌∷◌, ◌++◌, Result, Ok, Err}
+use Rattle.std.specs.Prelude.{◌≡◌, ◌≤◌, ◌⊎◌, ℕ, Bool, true, false, List, [], ◌∷◌, ◌++◌, Result, Ok, Err}
 use Rattle.tab_spec.specs.Count.{Rose}
 use Rattle.tab_spec.specs.declared.TheConstants.{RC_CANCELED, RC_DEVICE_ANSWER, RC_DEVICE_FAULT, RC_JOURNAL_FULL}
 use Rattle.tab_spec.specs.Reply.{error_reply}
@@ -12,6 +12,30 @@ use Rattle.broker_lock.specs.declared.calls.OpenClientError.TheVariants as open_
 use Rattle.broker_lock.specs.declared.calls.Told.{Told}
 use Rattle.broker_lock.specs.declared.calls.Told.TheVariants as tolds
 use Rattle.broker_lock.specs.Known.{Fixed, IsUntold}
+
+-- ---- wrong answers
+
+-- whether an opening, a command or a close is told that the device gave a wrong answer
+abbrev pub opens_wrong : Result ℕ OpenClientError → Bool
+opens_wrong (Ok client) = false
+opens_wrong (Err open_errors.Memory) = false
+opens_wrong (Err (open_errors.JournalFull count most)) = false
+opens_wrong (Err open_errors.Answer) = true
+
+abbrev pub tells_wrong : Told → Bool
+tells_wrong tolds.Entered = false
+tells_wrong tolds.Memory = false
+tells_wrong (tolds.JournalFull count most) = false
+tells_wrong tolds.Answer = true
+
+abbrev pub closes_wrong : Closed → Bool
+closes_wrong closes.Clean = false
+closes_wrong (closes.Orphans count) = false
+closes_wrong closes.Answer = true
+
+-- it is told exactly where a wrong answer came, now or before
+abbrev pub TellsWrong : (wrong new_wrong told : Bool) → Type 0
+TellsWrong wrong new_wrong told = (new_wrong ≡ told) × (wrong ≡ true → new_wrong ≡ true)
 
 -- ---- opening a client
 

@@ -1,6 +1,6 @@
 -- The rule of a lock's table, and what each step tells. Word 0 is 1 while a seat has the turn, and word 1 is the length of
 -- the history. The one slot has the value.
-use Rattle.std.specs.Prelude.{◌≡◌, ◌≢◌, ◌⊎◌, ℕ, ◌+◌, ◌-◌, ◌<◌, nat_lt, true, false, List, [], ◌∷◌, ◌++◌, length, drop, Option, Some, if◌then◌else◌}
+use Rattle.std.specs.Prelude.{◌≡◌, ◌≢◌, ◌⊎◌, ℕ, ◌+◌, ◌-◌, ◌<◌, ◌||◌, nat_lt, Bool, true, false, List, [], ◌∷◌, ◌++◌, length, drop, Option, Some, if◌then◌else◌}
 use Rattle.std.specs.List.{sum_by}
 use mathlib.Core.List.{IsPrefix}
 use mathlib.Core.Option.{none, some}
@@ -34,44 +34,48 @@ pub data MayAdd (known before : List Entry) : List Entry → Type 0 where
 
 -- ---- the seats
 
--- what a seat knows is so of this history
-pub record IsTrueOf (fixed : Fixed) (log : List Entry) (v : SeatView) : Type 0 where
+-- what a seat knows is so of this history, and of whether a wrong answer came
+pub record IsTrueOf (fixed : Fixed) (log : List Entry) (came : Bool) (v : SeatView) : Type 0 where
   pub fixed_is : 0 < v.parts → v.fixed ≡ fixed
   pub front : IsPrefix v.front log
   pub met : IsPrefix v.met log
   pub own_log : IsOwn v.known log
   pub own_front : IsOwn v.known v.front
   pub spent : v.parts ≡ 0 → (v.front ≡ []) × (v.known ≡ []) × (v.acting ≡ false)
+  pub told : v.wrong ≡ true → came ≡ true
 
 -- how many parts the seats have together
 abbrev pub parts_of : List SeatView → ℕ
 parts_of views = sum_by (λ v. v.parts) views
 
--- one seat has the turn and the value, and has seen the whole history
-pub record IsTaken {B : Type 0} (log : List Entry) (s : State (Option B) SeatView) : Type 0 where
+-- one seat has the turn and the value, and has seen the whole history and whether a wrong answer came
+pub record IsTaken {B : Type 0} (log : List Entry) (came : Bool) (s : State (Option B) SeatView) : Type 0 where
   pub seat : ℕ
   pub words : s.words ≡ 1 ∷ length log ∷ []
   pub out : s.homes ≡ none ∷ []
   pub actor : (v : SeatView) × (get_elem? s.views seat ≡ some v) × (v.acting ≡ true)
-  pub alone : (j : ℕ) (v : SeatView) → get_elem? s.views j ≡ some v → v.acting ≡ true → (j ≡ seat) × (v.front ≡ log)
+  pub alone : (j : ℕ) (v : SeatView) → get_elem? s.views j ≡ some v → v.acting ≡ true → (j ≡ seat) × (v.front ≡ log) × (v.wrong ≡ came)
 
 -- nobody has the turn, and the value has this history
-pub record IsFree {B : Type 0} (history : B → List Entry) (fixed : B → Fixed) (all : Fixed) (log : List Entry) (s : State (Option B) SeatView) : Type 0 where
+pub record IsFree {B : Type 0} (history : B → List Entry) (fixed : B → Fixed) (wrong : B → Bool) (all : Fixed) (log : List Entry) (came : Bool) (s : State (Option B) SeatView) : Type 0 where
   pub value : B
   pub words : s.words ≡ 0 ∷ length log ∷ []
   pub home : s.homes ≡ some (Some value) ∷ []
   pub history_is : history value ≡ log
   pub fixed_is : fixed value ≡ all
+  pub wrong_is : wrong value ≡ came
   pub nobody : (j : ℕ) (v : SeatView) → get_elem? s.views j ≡ some v → v.acting ≡ false
 
 -- there is one history. Each client of it is known to one seat, and some seat has seen all of it
-pub record Stands {B : Type 0} (history : B → List Entry) (fixed : B → Fixed) (s : State (Option B) SeatView) : Type 0 where
+pub record Stands {B : Type 0} (history : B → List Entry) (fixed : B → Fixed) (wrong : B → Bool) (s : State (Option B) SeatView) : Type 0 where
   pub all : Fixed
   pub log : List Entry
+  -- whether a wrong answer came
+  pub came : Bool
   pub orderly : IsOrderly log
-  pub turn : IsFree history fixed all log s ⊎ IsTaken log s
+  pub turn : IsFree history fixed wrong all log came s ⊎ IsTaken log came s
   pub parts : parts_of s.views ≡ 1024
-  pub each : (j : ℕ) (v : SeatView) → get_elem? s.views j ≡ some v → IsTrueOf all log v
+  pub each : (j : ℕ) (v : SeatView) → get_elem? s.views j ≡ some v → IsTrueOf all log came v
   -- which seat knows a client
   pub owner : ℕ → ℕ
   pub owned : (j : ℕ) (v : SeatView) → get_elem? s.views j ≡ some v → (client : ℕ) → knows v.known client ≡ true → owner client ≡ j
@@ -80,25 +84,26 @@ pub record Stands {B : Type 0} (history : B → List Entry) (fixed : B → Fixed
 
 -- ---- a turn
 
--- the seat has the turn, and sees the history of the value
-pub record HasTurn {B : Type 0} (history : B → List Entry) (fixed : B → Fixed) (value : B) (old new : SeatView) : Type 0 where
-  pub now : new ≡ record old { front = history value; acting = true }
+-- the seat has the turn, and sees the history of the value and whether a wrong answer came
+pub record HasTurn {B : Type 0} (history : B → List Entry) (fixed : B → Fixed) (wrong : B → Bool) (value : B) (old new : SeatView) : Type 0 where
+  pub now : new ≡ record old { front = history value; acting = true; wrong = wrong value }
   pub fixed_is : fixed value ≡ old.fixed
   pub seen : IsPrefix old.front (history value)
   pub own : IsOwn old.known (history value)
   pub orderly : IsOrderly (history value)
+  pub told : old.wrong ≡ true → wrong value ≡ true
 
 -- the turn was free, and the seat has it now; or it wasn't, and the seat is as it was
-abbrev pub takes_turn : {B : Type 0} → (B → List Entry) → (B → Fixed) → Step (Option B) → Me (Option B) SeatView → ℕ → Me (Option B) SeatView → Type 0
-takes_turn {B} history fixed st old found new =
-    (found ≡ 0 → (value : B) × (new.1 ≡ (0, Some value) ∷ []) × HasTurn history fixed value old.0 new.0) × (found ≢ 0 → new ≡ old)
+abbrev pub takes_turn : {B : Type 0} → (B → List Entry) → (B → Fixed) → (B → Bool) → Step (Option B) → Me (Option B) SeatView → ℕ → Me (Option B) SeatView → Type 0
+takes_turn {B} history fixed wrong st old found new =
+    (found ≡ 0 → (value : B) × (new.1 ≡ (0, Some value) ∷ []) × HasTurn history fixed wrong value old.0 new.0) × (found ≢ 0 → new ≡ old)
 
 -- what the history has more than was seen is known
-abbrev pub raised : SeatView → List Entry → SeatView
-raised v log = record v { front = log; known = v.known ++ drop (length v.front) log }
+abbrev pub raised : SeatView → List Entry → Bool → SeatView
+raised v log came = record v { front = log; known = v.known ++ drop (length v.front) log; wrong = came }
 
-abbrev pub raises_count : {B : Type 0} → (B → List Entry) → Step (Option B) → Me (Option B) SeatView → ℕ → Me (Option B) SeatView → Type 0
-raises_count {B} history st old found new = (value : B) → old.1 ≡ (0, Some value) ∷ [] → new ≡ (raised old.0 (history value), old.1)
+abbrev pub raises_count : {B : Type 0} → (B → List Entry) → (B → Bool) → Step (Option B) → Me (Option B) SeatView → ℕ → Me (Option B) SeatView → Type 0
+raises_count {B} history wrong st old found new = (value : B) → old.1 ≡ (0, Some value) ∷ [] → new ≡ (raised old.0 (history value) (wrong value), old.1)
 
 -- the turn is free again
 abbrev pub rested : SeatView → SeatView
@@ -108,13 +113,14 @@ abbrev pub gives_back : {B : Type 0} → Step (Option B) → Me (Option B) SeatV
 gives_back st old found new = new ≡ (rested old.0, [])
 
 -- the seat may give this value back: it added what the seat may add
-pub record MayGiveBack {B : Type 0} (history : B → List Entry) (fixed : B → Fixed) (v : SeatView) (value : B) : Type 0 where
+pub record MayGiveBack {B : Type 0} (history : B → List Entry) (fixed : B → Fixed) (wrong : B → Bool) (v : SeatView) (value : B) : Type 0 where
   pub some_part : 0 < v.parts
   pub acting : v.acting ≡ true
   pub added : List Entry
   pub entered : history value ≡ v.front ++ added
   pub may : MayAdd v.known v.front added
   pub fixed_is : fixed value ≡ v.fixed
+  pub told : v.wrong ≡ true → wrong value ≡ true
 
 -- ---- parts
 
@@ -144,6 +150,7 @@ together v w = record v {
   met = shorter v.front w.front;
   known = v.known ++ w.known;
   parts = v.parts + w.parts;
+  wrong = v.wrong || w.wrong;
 }
 
 -- what is known is put in the order of the history

@@ -15,10 +15,12 @@ pub record SeatView : Type 0 where
   pub parts : ℕ
   -- whether it has the turn
   pub acting : Bool
+  -- whether it knows that a wrong answer came
+  pub wrong : Bool
 
 -- the first seat
 abbrev pub first_view : Fixed → SeatView
-first_view fixed = record { fixed = fixed; front = []; met = []; known = []; parts = 1024; acting = false }
+first_view fixed = record { fixed = fixed; front = []; met = []; known = []; parts = 1024; acting = false; wrong = false }
 
 -- a seat that was joined to another
 abbrev pub spent_view : SeatView
@@ -29,4 +31,5 @@ spent_view = record {
   known = [];
   parts = 0;
   acting = false;
+  wrong = false;
 }

@@ -10,6 +10,8 @@ impl<B: Recorded> Recorded for Box<B> {
 
     ghost fixed = { λ b. B.fixed b.value };
 
+    ghost wrong = { λ b. B.wrong b.value };
+
     fn entries(&self) -> u64 {
         self.as_ref().entries()
     }

@@ -1,4 +1,4 @@
-ghost use Rattle.std.specs.Prelude.{◌≡◌, ◌≤◌, ◌-◌, [], IfOk, IfErr};
+ghost use Rattle.std.specs.Prelude.{◌≡◌, ◌≤◌, ◌-◌, false, [], IfOk, IfErr};
 ghost use Rattle.broker_lock.specs.Turn.{IsIdle};
 ghost use Rattle.broker_lock.specs.Pass.{Acts, Ends, IsCommandJob, Joins, MayAsk, pass_view};
 
@@ -79,6 +79,7 @@ impl<B: Recorded> Shared<B> {
           front = [];
           known = [];
           parts = 1024;
+          wrong = false;
         }) }
         ensures err { IfErr result (λ e. e.1 ≡ value) }
     {
@@ -129,7 +130,7 @@ impl<B: Recorded> Shared<B> {
     pub fn close(self, pass: Pass<B>) -> B
         requires lock { pass.lock ≡ self }
         requires parts { pass.parts ≡ 1024 }
-        ensures { Ends pass (B.history result) (B.fixed result) }
+        ensures { Ends pass (B.history result) (B.fixed result) (B.wrong result) }
     {
         let Shared { table, sleepers: _ } = self;
         let seat = pass.into_seat();

@@ -24,7 +24,7 @@ impl<B: Recorded> TableRule<Option<B>, Standing, Snapshot<B>> for OneHistory {
     ghost use Rattle.broker_lock.specs.View.{first_view};
     ghost use Rattle.broker_lock.specs.Turn.{Stands};
 
-    ghost holds = { λ key. Stands B.history B.fixed };
+    ghost holds = { λ key. Stands B.history B.fixed B.wrong };
 
     ghost first = { λ key. first_view (B.fixed key.value) };
 }
@@ -35,7 +35,7 @@ pub struct TakeTurn;
 impl<B: Recorded> Play<Option<B>, Standing> for TakeTurn {
     ghost use Rattle.broker_lock.specs.Turn.{takes_turn};
 
-    ghost then = { takes_turn B.history B.fixed };
+    ghost then = { takes_turn B.history B.fixed B.wrong };
 }
 
 /// The history has what a call added.
@@ -44,7 +44,7 @@ pub struct RaiseCount;
 impl<B: Recorded> Play<Option<B>, Standing> for RaiseCount {
     ghost use Rattle.broker_lock.specs.Turn.{raises_count};
 
-    ghost then = { raises_count B.history };
+    ghost then = { raises_count B.history B.wrong };
 }
 
 /// The turn is free again.

@@ -1,8 +1,9 @@
-ghost use Rattle.std.specs.Prelude.{◌≡◌, ◌≤◌, List, length};
+ghost use Rattle.std.specs.Prelude.{◌≡◌, ◌≤◌, Bool, List, length};
 ghost use Rattle.tab_spec.specs.Persist.{Persist};
 ghost use Rattle.history_spec.specs.Entry.{Entry, IsOpen, IsNextNumber};
 ghost use Rattle.broker_lock.specs.Known.{Fixed, IsLegalOver};
-ghost use Rattle.broker_lock.specs.Serves.{IsClosed, Opens, Tells, TellsCanceled};
+ghost use Rattle.broker_lock.specs.Serves.{IsClosed, Opens, Tells, TellsCanceled, TellsWrong};
+ghost use Rattle.broker_lock.specs.Serves.{closes_wrong, opens_wrong, tells_wrong};
 
 use crate::calls::{Closed, OpenClientError, Told};
 use tab_bytes::Buffer;
@@ -18,6 +19,9 @@ pub trait Recorded {
     /// What the history stands on. No call changes it.
     ghost fixed: { Self → Fixed };
 
+    /// Whether the device gave a wrong answer.
+    ghost wrong: { Self → Bool };
+
     /// How many entries the history has.
     fn entries(&self) -> u64
         ensures { result ≡ length (history self.now) };
@@ -25,13 +29,17 @@ pub trait Recorded {
 
 /// A value that opens clients, runs or cancels their commands and closes them, and enters each such
 /// call into its history. After any call the history is the one before, followed by one entry of
-/// the call's client, or by none. Where it is told what the history begins from, no wrong answer
+/// the call's client, or by none. Once a wrong answer of the device came, that call and each later
+/// one tells it; none tells it before. Where the device says what the history begins from, none
 /// comes.
 pub trait Serves: Recorded {
     /// Opens the next client. An error enters nothing.
     fn open_client(&mut self) -> Result<u32, OpenClientError>
         ensures opens { Opens (Self.fixed self.old) (Self.history self.old) (Self.history self.new)
             result }
+        // The device isn't asked.
+        ensures wrong { TellsWrong (Self.wrong self.old) (Self.wrong self.new) (opens_wrong result)
+            × (Self.wrong self.new ≡ Self.wrong self.old) }
         ensures fixed { Self.fixed self.new ≡ Self.fixed self.old };
 
     /// Runs an open client's command, and writes what the client is told over whatever `reply`
@@ -42,6 +50,8 @@ pub trait Serves: Recorded {
         requires number { IsNextNumber (Self.history self.old) client number }
         ensures told { Tells (Self.fixed self.old) (Self.history self.old) (Self.history self.new)
             client number bytes.now reply.new result }
+        ensures wrong { TellsWrong (Self.wrong self.old) (Self.wrong self.new)
+            (tells_wrong result) }
         ensures fixed { Self.fixed self.new ≡ Self.fixed self.old };
 
     /// Answers an open client's command that the client canceled, and runs nothing. `upto` is the
@@ -59,6 +69,8 @@ pub trait Serves: Recorded {
         requires covers { number ≤ upto }
         ensures told { TellsCanceled (Self.fixed self.old) (Self.history self.old)
             (Self.history self.new) client number upto bytes.now reply.new result }
+        ensures wrong { TellsWrong (Self.wrong self.old) (Self.wrong self.new)
+            (tells_wrong result) }
         ensures fixed { Self.fixed self.new ≡ Self.fixed self.old };
 
     /// Closes an open client.
@@ -66,6 +78,8 @@ pub trait Serves: Recorded {
         requires { IsOpen (Self.history self.old) client }
         ensures closed { IsClosed (Self.fixed self.old) (Self.history self.old)
             (Self.history self.new) client result }
+        ensures wrong { TellsWrong (Self.wrong self.old) (Self.wrong self.new)
+            (closes_wrong result) }
         ensures fixed { Self.fixed self.new ≡ Self.fixed self.old };
 
     /// Does nothing, and shows that the history is legal.

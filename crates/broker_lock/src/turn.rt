@@ -1,6 +1,7 @@
 //! A turn at the value: it comes out of the table, makes its call, and goes back.
 ghost use Rattle.std.specs.Prelude.{◌≡◌, ◌+◌, [], ◌∷◌, None};
-ghost use Rattle.broker_lock.specs.Pass.{Does, IsCommandJob, MayCall};
+ghost use Rattle.broker_lock.specs.Pass.{Does, IsCommandJob, MayCall, done_wrong};
+ghost use Rattle.broker_lock.specs.Serves.{TellsWrong};
 ghost use Rattle.broker_lock.specs.Turn.{HasTurn, IsIdle, MayGiveBack, raised, rested};
 
 use crate::calls::{Done, Job};
@@ -43,7 +44,7 @@ pub fn take_turn<B: Recorded, R: Wait>(
     requires sized { (table.now.table_id.words ≡ 2) × (table.now.table_id.slots ≡ 1) }
     requires idle { IsIdle seat.old.me.0 × (seat.old.me.1 ≡ []) }
     ensures own { seat.new.table_id ≡ seat.old.table_id }
-    ensures turn { HasTurn B.history B.fixed result seat.old.me.0 seat.new.me.0 }
+    ensures turn { HasTurn B.history B.fixed B.wrong result seat.old.me.0 seat.new.me.0 }
     ensures out { seat.new.me.1 ≡ (0, None) ∷ [] }
 {
     for _ in rt.forever() {
@@ -79,9 +80,12 @@ pub fn give_back<B: Recorded>(table: &Table<B>, sleepers: &AtomicU64, seat: &mut
     requires own { seat.old.table_id ≡ table.now.table_id }
     requires sized { (table.now.table_id.words ≡ 2) × (table.now.table_id.slots ≡ 1) }
     requires out { seat.old.me.1 ≡ (0, None) ∷ [] }
-    requires may { MayGiveBack B.history B.fixed seat.old.me.0 value }
+    requires may { MayGiveBack B.history B.fixed B.wrong seat.old.me.0 value }
     ensures own { seat.new.table_id ≡ seat.old.table_id }
-    ensures back { seat.new.me ≡ (rested (raised seat.old.me.0 (B.history value)), []) }
+    ensures back { seat.new.me ≡ (
+      rested (raised seat.old.me.0 (B.history value) (B.wrong value)),
+      [],
+    ) }
 {
     let count = value.entries();
     let nothing = table.exchange(seat, VALUE, Some(value));
@@ -101,6 +105,7 @@ pub fn make_call<B: Serves>(value: &mut B, job: Job, bytes: &[u8], reply: &mut B
     ensures does { Does (B.fixed value.old) (B.history value.old) job bytes.now
         (B.history value.new) result reply.new }
     ensures fixed { B.fixed value.new ≡ B.fixed value.old }
+    ensures wrong { TellsWrong (B.wrong value.old) (B.wrong value.new) (done_wrong result) }
     ensures reply { (IsCommandJob job → ⊥) → reply.new ≡ reply.old }
 {
     match job {

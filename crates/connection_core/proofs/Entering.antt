@@ -22,8 +22,8 @@ use Rattle.broker_lock.specs.declared.calls.Told.{Told}
 use Rattle.broker_lock.specs.declared.calls.Told.TheVariants as tolds
 use Rattle.broker_lock.specs.Examples.{IsServed}
 use Rattle.broker_lock.specs.Known.{Fixed, IsLegalOver, knows}
-use Rattle.broker_lock.specs.Pass.{Acts, Does, MayAsk, PassView}
-use Rattle.broker_lock.specs.Serves.{IsAnswered, IsCanceled, IsFailed, Tells, TellsCanceled}
+use Rattle.broker_lock.specs.Pass.{Acts, Does, MayAsk, PassView, done_wrong}
+use Rattle.broker_lock.specs.Serves.{IsAnswered, IsCanceled, IsFailed, Tells, TellsCanceled, tells_wrong}
 use Rattle.broker_lock.proofs.Knowing.{filter-weaker, knows_left, nothing_more, own-append, own_here, own_rest}
 use Rattle.broker_lock.proofs.Serving.{may_command, served_at_first}
 use Rattle.connection_core.specs.declared.ends.Ending.TheVariants as endings
@@ -34,7 +34,7 @@ use Rattle.connection_core.proofs.Telling.{AddsNone, IsBefore, before_all, decid
 -- ---- any turn
 
 pub goes_on_none : {legal : Persist → List Entry → Type 0} (pass : PassView) → GoesOn legal pass pass
-goes_on_none {legal = legal} pass = record { lock = refl; fixed = refl; parts = refl; seen = ([], append-nil pass.front); stays_legal = λ was. was }
+goes_on_none {legal = legal} pass = record { lock = refl; fixed = refl; parts = refl; seen = ([], append-nil pass.front); still = λ knew. knew; stays_legal = λ was. was }
 
 pub goes_on_more : {legal : Persist → List Entry → Type 0} (old between new : PassView) → GoesOn legal old between → GoesOn legal between new → GoesOn legal old new
 goes_on_more {legal = legal} old between new first second = record {
@@ -45,6 +45,7 @@ goes_on_more {legal = legal} old between new first second = record {
     first.seen.0 ++ second.seen.0,
     sym (append_assoc old.front first.seen.0 second.seen.0) ∙ ap (λ (l : List Entry). l ++ second.seen.0) first.seen.1 ∙ second.seen.1,
   );
+  still = λ knew. second.still (first.still knew);
   stays_legal = λ was. subst (λ (f : Fixed). IsLegalOver legal f.base new.front) first.fixed
       (second.stays_legal (subst (λ (f : Fixed). IsLegalOver legal f.base between.front) (sym first.fixed) (first.stays_legal was)));
 }
@@ -55,6 +56,7 @@ goes_on_act {legal = legal} old new job bytes reply done acts = record {
   fixed = acts.fixed;
   parts = acts.parts;
   seen = (acts.seen.0 ++ acts.added, sym (append_assoc old.front acts.seen.0 acts.added) ∙ ap (λ (l : List Entry). l ++ acts.added) acts.seen.1 ∙ sym acts.front);
+  still = acts.still;
   stays_legal = λ was. subst (λ (f : Fixed). IsLegalOver legal f.base new.front) acts.fixed acts.is_legal;
 }
 
@@ -78,7 +80,7 @@ pub refused_answer : {legal : Persist → List Entry → Type 0} (old new : Pass
 refused_answer old new bytes reply nobody acts = record {
   done_is = refl;
   nobody = unentered old new bytes reply _ nobody acts acts.does.0;
-  refuses = ap (λ (f : Fixed). f.base) acts.fixed ∙ acts.does.1;
+  refuses = (ap (λ (f : Fixed). f.base) acts.fixed ∙ acts.does.1, acts.wrong);
 }
 
 pub refused_full : {legal : Persist → List Entry → Type 0} (old new : PassView) (bytes reply : List ℕ) (count limit : ℕ) → old.known ≡ [] → Acts legal old jobs.Open bytes (dones.Opened (Err (open_errors.JournalFull count limit))) reply new
@@ -302,9 +304,9 @@ may_turn fixed before after added client number word command reply d front does 
     by_test false (dones.Opened result) is tells = absurd tells
     by_test false (dones.Closed closed) is tells = absurd tells
 
-told_nothing : (fixed : Fixed) (before after : List Entry) (client number : ℕ) (command reply : List ℕ) → after ≡ before → IsTold fixed before client number command reply
-    → IsTold fixed after client number command reply
-told_nothing fixed before after client number command reply same told = subst (λ (h : List Entry). IsTold fixed h client number command reply) (sym same) told
+told_nothing : (fixed : Fixed) (wrong : Bool) (before after : List Entry) (client number : ℕ) (command reply : List ℕ) → after ≡ before → IsTold fixed wrong before client number command reply
+    → IsTold fixed wrong after client number command reply
+told_nothing fixed wrong before after client number command reply same told = subst (λ (h : List Entry). IsTold fixed wrong h client number command reply) (sym same) told
 
 told_without : (limit client number : ℕ) (history : List Entry) (command reply : List ℕ) → Before client number history → ToldBy None limit history command reply
     → ToldBy (entry_of history client number) limit (part_before client number history) command reply
@@ -331,33 +333,33 @@ found_canceled limit before after client number upto command reply there tells =
     ap (λ (h : List Entry). entry_of h client number) tells.entered ∙ found_last client number before (canceled_entry client number upto command reply) there.none refl refl
 
 -- what the client is told of it
-pub told_as : (fixed : Fixed) (before after : List Entry) (client number : ℕ) (command reply : List ℕ) (told : Told) → Before client number before
-    → Tells fixed before after client number command reply told → IsTold fixed after client number command reply
-told_as fixed before after client number command reply tolds.Entered there tells =
+pub told_as : (fixed : Fixed) (wrong : Bool) (before after : List Entry) (client number : ℕ) (command reply : List ℕ) (told : Told) → Before client number before → wrong ≡ tells_wrong told
+    → Tells fixed before after client number command reply told → IsTold fixed wrong after client number command reply
+told_as fixed wrong before after client number command reply tolds.Entered there is tells =
     let e = tells.e in
     let is = caused fixed.began client number command e tells.cause in
     let found : entry_of after client number ≡ Some e = ap (λ (h : List Entry). entry_of h client number) tells.entered ∙ found_last client number before e there.none is.client_is is.number_is in
     inl (subst (λ (o : Option Entry). ToldBy o fixed.limit (part_before client number after) command reply) (sym found) (record { command_is = is.command_is; reply_is = sym tells.reply_is }))
-told_as fixed before after client number command reply tolds.Memory there tells =
-    told_nothing fixed before after client number command reply tells.0 (inl (told_without fixed.limit client number before command reply there (inl tells.1)))
-told_as fixed before after client number command reply (tolds.JournalFull count most) there tells =
-    told_nothing fixed before after client number command reply tells.same
+told_as fixed wrong before after client number command reply tolds.Memory there is tells =
+    told_nothing fixed wrong before after client number command reply tells.0 (inl (told_without fixed.limit client number before command reply there (inl tells.1)))
+told_as fixed wrong before after client number command reply (tolds.JournalFull count most) there is tells =
+    told_nothing fixed wrong before after client number command reply tells.same
     (inl (told_without fixed.limit client number before command reply there (inr (record { reply_is = tells.reply_is; lacks = tells.lacks }))))
-told_as fixed before after client number command reply tolds.Answer there tells =
-    told_nothing fixed before after client number command reply tells.0 (inr (there.none, tells.1, tells.2))
+told_as fixed wrong before after client number command reply tolds.Answer there is tells =
+    told_nothing fixed wrong before after client number command reply tells.0 (inr (there.none, tells.1, tells.2, is))
 
 -- the same where it was canceled
-pub told_canceled : (fixed : Fixed) (before after : List Entry) (client number upto : ℕ) (command reply : List ℕ) (told : Told) → Before client number before
-    → TellsCanceled fixed before after client number upto command reply told → IsTold fixed after client number command reply
-told_canceled fixed before after client number upto command reply tolds.Entered there tells =
+pub told_canceled : (fixed : Fixed) (wrong : Bool) (before after : List Entry) (client number upto : ℕ) (command reply : List ℕ) (told : Told) → Before client number before → wrong ≡ tells_wrong told
+    → TellsCanceled fixed before after client number upto command reply told → IsTold fixed wrong after client number command reply
+told_canceled fixed wrong before after client number upto command reply tolds.Entered there is tells =
     let found = found_canceled fixed.limit before after client number upto command reply there tells in
     inl (subst (λ (o : Option Entry). ToldBy o fixed.limit (part_before client number after) command reply) (sym found) (record { command_is = refl; reply_is = refl }))
-told_canceled fixed before after client number upto command reply tolds.Memory there tells = absurd tells
-told_canceled fixed before after client number upto command reply (tolds.JournalFull count most) there tells =
-    told_nothing fixed before after client number command reply tells.same
+told_canceled fixed wrong before after client number upto command reply tolds.Memory there is tells = absurd tells
+told_canceled fixed wrong before after client number upto command reply (tolds.JournalFull count most) there is tells =
+    told_nothing fixed wrong before after client number command reply tells.same
     (inl (told_without fixed.limit client number before command reply there (inr (record { reply_is = tells.reply_is; lacks = tells.lacks }))))
-told_canceled fixed before after client number upto command reply tolds.Answer there tells =
-    told_nothing fixed before after client number command reply tells.0 (inr (there.none, tells.1, tells.2))
+told_canceled fixed wrong before after client number upto command reply tolds.Answer there is tells =
+    told_nothing fixed wrong before after client number command reply tells.0 (inr (there.none, tells.1, tells.2, is))
 
 -- ---- what the loaded word says of the entry
 
@@ -406,20 +408,20 @@ decides_canceled fixed before after client number word command reply (tolds.Jour
 decides_canceled fixed before after client number word command reply tolds.Answer is there tells = unentered_as before after client number word tells.0 there
 
 -- whichever of both jobs it was
-pub told_turn : (fixed : Fixed) (before after : List Entry) (client number word : ℕ) (command reply : List ℕ) (d : Done) → Before client number before
-    → Does fixed before (job_of client number word) command after d reply → IsTold fixed after client number command reply × Decides after client number word
-told_turn fixed before after client number word command reply d there does = by_test (nat_le number word) d refl does
+pub told_turn : (fixed : Fixed) (wrong : Bool) (before after : List Entry) (client number word : ℕ) (command reply : List ℕ) (d : Done) → Before client number before → wrong ≡ done_wrong d
+    → Does fixed before (job_of client number word) command after d reply → IsTold fixed wrong after client number command reply × Decides after client number word
+told_turn fixed wrong before after client number word command reply d there tells_it does = by_test (nat_le number word) d refl tells_it does
   where
-    by_test : (b : Bool) (done : Done) → nat_le number word ≡ b → Does fixed before (if b then jobs.Cancel client number word else jobs.Command client number) command after done reply
-        → IsTold fixed after client number command reply × Decides after client number word
-    by_test true (dones.Told told) is tells =
-        (told_canceled fixed before after client number word command reply told there tells, decides_canceled fixed before after client number word command reply told is there tells)
-    by_test true (dones.Opened result) is tells = absurd tells
-    by_test true (dones.Closed closed) is tells = absurd tells
-    by_test false (dones.Told told) is tells =
-        (told_as fixed before after client number command reply told there tells, decides_ran fixed before after client number word command reply told is there tells)
-    by_test false (dones.Opened result) is tells = absurd tells
-    by_test false (dones.Closed closed) is tells = absurd tells
+    by_test : (b : Bool) (done : Done) → nat_le number word ≡ b → wrong ≡ done_wrong done → Does fixed before (if b then jobs.Cancel client number word else jobs.Command client number) command after done reply
+        → IsTold fixed wrong after client number command reply × Decides after client number word
+    by_test true (dones.Told told) is same tells =
+        (told_canceled fixed wrong before after client number word command reply told there same tells, decides_canceled fixed before after client number word command reply told is there tells)
+    by_test true (dones.Opened result) is same tells = absurd tells
+    by_test true (dones.Closed closed) is same tells = absurd tells
+    by_test false (dones.Told told) is same tells =
+        (told_as fixed wrong before after client number command reply told there same tells, decides_ran fixed before after client number word command reply told is there tells)
+    by_test false (dones.Opened result) is same tells = absurd tells
+    by_test false (dones.Closed closed) is same tells = absurd tells
 
 -- ---- what is known of the client then
 
@@ -516,19 +518,19 @@ pub record Answered (fixed : Fixed) (new : PassView) (client done word : ℕ) (l
   pub added : List Entry
   pub serves : KnowsClient new client (done + 1) (entries ++ added)
   pub entries_are : AreEntriesFrom fixed new.front client 1 (list ++ command ∷ []) (entries ++ added)
-  pub replies : AreRepliesFrom fixed new.front client 1 list output
-  pub told : IsTold fixed new.front client (done + 1) command reply
+  pub replies : AreRepliesFrom fixed new.wrong new.front client 1 list output
+  pub told : IsTold fixed new.wrong new.front client (done + 1) command reply
   pub decide : DecideFrom new.front client 1 (loaded ++ word ∷ [])
 
 pub answered : {legal : Persist → List Entry → Type 0} (old new : PassView) (client done word : ℕ) (list : List (List ℕ)) (loaded : List ℕ) (output : List ℕ) (entries : List Entry) (command reply : List ℕ) → KnowsClient old client done entries
-    → length list ≡ done → length loaded ≡ done → AreEntriesFrom old.fixed old.front client 1 list entries → AreRepliesFrom old.fixed old.front client 1 list output → DecideFrom old.front client 1 loaded
+    → length list ≡ done → length loaded ≡ done → AreEntriesFrom old.fixed old.front client 1 list entries → AreRepliesFrom old.fixed old.wrong old.front client 1 list output → DecideFrom old.front client 1 loaded
     → Asks legal old (job_of client (done + 1) word) command reply new → Answered old.fixed new client done word list loaded output entries command reply
 answered {legal = legal} old new client done word list loaded output entries command reply serves count loads are replies decide (d, acts) =
     let job = job_of client (done + 1) word in
     let may = may_turn old.fixed acts.before new.front acts.added client (done + 1) word command reply d acts.front acts.does in
     let turn = turn_of old new client done entries job command reply d serves acts (added_own old.fixed new.front client (done + 1) command acts.added may) in
     let there = before_next old.known acts.before client done serves.present (turn.before_is ∙ sym (all_own old client done entries serves)) in
-    let told = told_turn old.fixed acts.before new.front client (done + 1) word command reply d there acts.does in
+    let told = told_turn old.fixed new.wrong acts.before new.front client (done + 1) word command reply d there acts.wrong acts.does in
     let more = turn.rest ++ acts.added in
     let none = adds_none old.fixed new.front client done command turn.rest acts.added turn.none may in
     let next : 1 + length list ≡ done + 1 = omega (arith, count) in
@@ -544,8 +546,8 @@ answered {legal = legal} old new client done word list loaded output entries com
       entries_are = entries_push old.fixed new.front client 1 list entries acts.added command
           (subst (λ (h : List Entry). AreEntriesFrom old.fixed h client 1 list entries) (sym turn.front) (entries_on old.fixed old.front more client 1 list entries are))
           (subst (λ (n : ℕ). MayHaveEntry old.fixed new.front client n command acts.added) (sym next) may);
-      replies = subst (λ (h : List Entry). AreRepliesFrom old.fixed h client 1 list output) (sym turn.front)
-          (replies_stay old.fixed old.front more client list output (subst (AddsNone more client) (sym count) none) replies);
+      replies = subst (λ (h : List Entry). AreRepliesFrom old.fixed new.wrong h client 1 list output) (sym turn.front)
+          (replies_stay old.fixed old.wrong new.wrong old.front more client list output acts.still (subst (AddsNone more client) (sym count) none) replies);
       told = told.0;
       decide = decide_push new.front client 1 loaded word
           (subst (λ (h : List Entry). DecideFrom h client 1 loaded) (sym turn.front) (decide_stay old.front more client loaded (subst (AddsNone more client) (sym loads) none) decide))

@@ -1,5 +1,5 @@
 -- A worker from one command to the next, and the end of a connection.
-use Rattle.std.proofs.Common.{◌≡◌, ◌≤◌, ◌+◌, ℕ, zero, suc, List, [], ◌∷◌, ◌++◌, length, take, All, Option, Some, None, refl, sym, ap, subst, ◌∙◌, append_assoc, arith, length-append, inl, inr}
+use Rattle.std.proofs.Common.{◌≡◌, ◌≤◌, ◌+◌, ℕ, zero, suc, Bool, true, List, [], ◌∷◌, ◌++◌, length, take, All, Option, Some, None, refl, sym, ap, subst, ◌∙◌, append_assoc, arith, length-append, inl, inr}
 use Rattle.std.proofs.lemmas.List.{append-nil, map_push, take_all}
 use Rattle.std.proofs.Math.Seq.{take-append_seam}
 use Rattle.tab_spec.specs.Persist.{Persist}
@@ -89,8 +89,8 @@ pub so_far_run : {legal : Persist → List Entry → Type 0} (old new : PassView
 so_far_run old new client done taken taken_new seat seat_new written between written_new command reply so more asks wrote =
     let run = answered old new client done asks.word so.list seat.loaded so.output so.entries command reply so.serves so.count so.loads so.entries_are so.replies so.decide asks.asks in
     let same : new.fixed ≡ old.fixed = (goes_on_act old new _ command reply asks.asks.0 asks.asks.1).fixed in
-    let all = replies_push old.fixed new.front client 1 so.list so.output command reply run.replies
-    (subst (λ (n : ℕ). IsTold old.fixed new.front client n command reply) (let e : done + 1 ≡ 1 + length so.list = omega (arith, so.count) in e) run.told) in
+    let all = replies_push old.fixed new.wrong new.front client 1 so.list so.output command reply run.replies
+    (subst (λ (n : ℕ). IsTold old.fixed new.wrong new.front client n command reply) (let e : done + 1 ≡ 1 + length so.list = omega (arith, so.count) in e) run.told) in
     let loads : seat_new.loaded ≡ seat.loaded ++ asks.word ∷ [] = ap (λ (v : WordView). v.loaded) asks.seat_is in
     record {
       list = so.list ++ command ∷ [];
@@ -100,7 +100,7 @@ so_far_run old new client done taken taken_new seat seat_new written between wri
       count = one_more done so.list command so.count;
       serves = run.serves;
       entries_are = subst (λ (f : Fixed). AreEntriesFrom f new.front client 1 (so.list ++ command ∷ []) (so.entries ++ run.added)) (sym same) run.entries_are;
-      replies = subst (λ (f : Fixed). AreRepliesFrom f new.front client 1 (so.list ++ command ∷ []) (so.output ++ reply)) (sym same) all;
+      replies = subst (λ (f : Fixed). AreRepliesFrom f new.wrong new.front client 1 (so.list ++ command ∷ []) (so.output ++ reply)) (sym same) all;
       loads = ap length loads ∙ one_more done seat.loaded asks.word so.loads;
       decide = subst (DecideFrom new.front client 1) (sym loads) run.decide;
       written_is = written_more written between written_new so.output reply so.written_is wrote;
@@ -133,9 +133,9 @@ so_far_cut old new client done taken taken_new seat seat_new written between wri
         k = front.0;
         done_is = refl;
         next = whole ∙ ap (λ (l : List (List ℕ)). l ++ command ∷ []) (sym first);
-        replies = subst (λ (f : Fixed). AreRepliesFrom f new.front client 1 (take done (so.list ++ command ∷ [])) so.output) (sym same)
-            (subst (λ (l : List (List ℕ)). AreRepliesFrom old.fixed new.front client 1 l so.output) (sym first) run.replies);
-        told = subst (λ (f : Fixed). IsTold f new.front client (done + 1) command reply) (sym same) run.told;
+        replies = subst (λ (f : Fixed). AreRepliesFrom f new.wrong new.front client 1 (take done (so.list ++ command ∷ [])) so.output) (sym same)
+            (subst (λ (l : List (List ℕ)). AreRepliesFrom old.fixed new.wrong new.front client 1 l so.output) (sym first) run.replies);
+        told = subst (λ (f : Fixed). IsTold f new.wrong new.front client (done + 1) command reply) (sym same) run.told;
         short = front.1;
         output_is = refl;
       };
@@ -182,18 +182,18 @@ drained taken between taken_new ended so more = record {
 
 -- ---- what the worker leaves
 
-answers_all : (fixed : Fixed) (history : List Entry) (client done : ℕ) (list : List (List ℕ)) (output : List ℕ) → length list ≡ done → AreRepliesFrom fixed history client 1 list output
-    → AnswersAll fixed history client done list output
-answers_all fixed history client done list output count replies = record {
+answers_all : (fixed : Fixed) (wrong : Bool) (history : List Entry) (client done : ℕ) (list : List (List ℕ)) (output : List ℕ) → length list ≡ done → AreRepliesFrom fixed wrong history client 1 list output
+    → AnswersAll fixed wrong history client done list output
+answers_all fixed wrong history client done list output count replies = record {
   all = sym count;
   replies = replies;
-  answers = λ base is. answers_of fixed base history client 1 list output is replies;
+  answers = λ base is. answers_of fixed wrong base history client 1 list output is replies;
 }
 
 -- all commands were taken up, and this was written
 worked_all : (ending : Ending) (pass : PassView) (client done : ℕ) (taken : List Message) (ended : Ended) (loaded : List ℕ) (written between written_new : Option (List ℕ)) (output : List ℕ)
     → (so : SoFar pass client done taken (messages.End ended ∷ []) loaded written between) → written_new ≡ with_more written output
-    → WorksTo ending ended pass.fixed pass.front client done so.list output → HasWorked ending pass client done taken loaded written written_new
+    → WorksTo ending ended pass.fixed pass.wrong pass.front client done so.list output → HasWorked ending pass client done taken loaded written written_new
 worked_all ending pass client done taken ended loaded written between written_new output so wrote works = record {
   list = so.list;
   ended = ended;
@@ -213,13 +213,13 @@ pub worked_no_more : (pass : PassView) (client done : ℕ) (taken : List Message
     → ended ≡ ends.NoMore → HasWorked endings.EndOfInput pass client done taken loaded written written_new
 worked_no_more pass client done taken ended loaded written written_new so is =
     worked_all endings.EndOfInput pass client done taken ended loaded written written_new written_new so.output so so.written_is
-    (is, answers_all pass.fixed pass.front client done so.list so.output so.count so.replies)
+    (is, answers_all pass.fixed pass.wrong pass.front client done so.list so.output so.count so.replies)
 
 pub worked_fault : (pass : PassView) (client done : ℕ) (taken : List Message) (ended : Ended) (loaded : List ℕ) (written written_new : Option (List ℕ)) → SoFar pass client done taken (messages.End ended ∷ []) loaded written written_new
     → ended ≡ ends.Fault → HasWorked endings.ReadFault pass client done taken loaded written written_new
 worked_fault pass client done taken ended loaded written written_new so is =
     worked_all endings.ReadFault pass client done taken ended loaded written written_new written_new so.output so so.written_is
-    (is, answers_all pass.fixed pass.front client done so.list so.output so.count so.replies)
+    (is, answers_all pass.fixed pass.wrong pass.front client done so.list so.output so.count so.replies)
 
 -- a bad size was told
 pub worked_bad : (pass : PassView) (client done size : ℕ) (taken : List Message) (ended : Ended) (loaded : List ℕ) (written between written_new : Option (List ℕ))
@@ -228,7 +228,7 @@ pub worked_bad : (pass : PassView) (client done size : ℕ) (taken : List Messag
 worked_bad pass client done size taken ended loaded written between written_new so is wrote =
     worked_all (endings.BadFrame size) pass client done taken ended loaded written between written_new (so.output ++ error_reply RC_COMMAND_SIZE) so
     (written_more written between written_new so.output (error_reply RC_COMMAND_SIZE) so.written_is wrote)
-    (is, record { replies = so.output; answered = answers_all pass.fixed pass.front client done so.list so.output so.count so.replies; output_is = refl })
+    (is, record { replies = so.output; answered = answers_all pass.fixed pass.wrong pass.front client done so.list so.output so.count so.replies; output_is = refl })
 
 -- or wasn't, to its end
 pub worked_bad_cut : (pass : PassView) (client done size : ℕ) (taken : List Message) (ended : Ended) (loaded : List ℕ) (written between written_new : Option (List ℕ))
@@ -243,7 +243,7 @@ worked_bad_cut pass client done size taken ended loaded written between written_
       record {
         replies = so.output;
         k = front.0;
-        answered = answers_all pass.fixed pass.front client done so.list so.output so.count so.replies;
+        answered = answers_all pass.fixed pass.wrong pass.front client done so.list so.output so.count so.replies;
         short = front.1;
         output_is = refl;
       },
@@ -255,8 +255,8 @@ take_more zero xs ys few = refl
 take_more (suc n) [] ys few = absurd (omega (arith, few))
 take_more (suc n) (x ∷ xs) ys few = ap (λ l. x ∷ l) (take_more n xs ys (omega arith))
 
-cuts_more : (fixed : Fixed) (history : List Entry) (client done : ℕ) (list more : List (List ℕ)) (output : List ℕ) → length list ≡ done → CutsReply fixed history client done list output → CutsReply fixed history client done (list ++ more) output
-cuts_more fixed history client done list more output count cuts =
+cuts_more : (fixed : Fixed) (wrong : Bool) (history : List Entry) (client done : ℕ) (list more : List (List ℕ)) (output : List ℕ) → length list ≡ done → CutsReply fixed wrong history client done list output → CutsReply fixed wrong history client done (list ++ more) output
+cuts_more fixed wrong history client done list more output count cuts =
     let first = take_more cuts.earlier list more (omega (arith, count, cuts.done_is)) in
     record {
       earlier = cuts.earlier;
@@ -266,7 +266,7 @@ cuts_more fixed history client done list more output count cuts =
       k = cuts.k;
       done_is = cuts.done_is;
       next = take_more done list more (omega (arith, count)) ∙ cuts.next ∙ ap (λ (l : List (List ℕ)). l ++ cuts.command ∷ []) (sym first);
-      replies = subst (λ (l : List (List ℕ)). AreRepliesFrom fixed history client 1 l cuts.before) (sym first) cuts.replies;
+      replies = subst (λ (l : List (List ℕ)). AreRepliesFrom fixed wrong history client 1 l cuts.before) (sym first) cuts.replies;
       told = cuts.told;
       short = cuts.short;
       output_is = cuts.output_is;
@@ -290,7 +290,7 @@ worked_cut pass client done taken taken_new loaded written written_new cut rest 
   loads = cut.loads;
   decide = cut.decide;
   written_is = cut.written_is;
-  works = inl (cuts_more pass.fixed pass.front client done cut.list rest.list cut.output cut.count cut.cuts);
+  works = inl (cuts_more pass.fixed pass.wrong pass.front client done cut.list rest.list cut.output cut.count cut.cuts);
 }
   where
     messages_of-append : (xs ys : List (List ℕ)) → messages_of (xs ++ ys) ≡ messages_of xs ++ messages_of ys
@@ -316,17 +316,17 @@ same_messages (command ∷ sent) (asked ∷ list) ended other items is =
     heads : (x y : List ℕ) (xs ys : List Message) → messages.Command x ∷ xs ≡ messages.Command y ∷ ys → x ≡ y
     heads x y xs ys e = cc
 
-ends_as : (ending : Ending) (ended : Ended) (fixed : Fixed) (history : List Entry) (client done : ℕ) (given : Option (List ℕ)) (taken output : List ℕ)
-    → WorksTo ending ended fixed history client done (commands taken) output → ReadsTo ended given taken → EndsAs ending fixed history client done given taken output
-ends_as endings.EndOfInput ended fixed history client done given taken output works reads =
+ends_as : (ending : Ending) (ended : Ended) (fixed : Fixed) (wrong : Bool) (history : List Entry) (client done : ℕ) (given : Option (List ℕ)) (taken output : List ℕ)
+    → WorksTo ending ended fixed wrong history client done (commands taken) output → ReadsTo ended given taken → EndsAs ending fixed wrong history client done given taken output
+ends_as endings.EndOfInput ended fixed wrong history client done given taken output works reads =
     let all = subst (λ (e : Ended). ReadsTo e given taken) works.0 reads in (works.1, all.0, all.1)
-ends_as (endings.BadFrame size) ended fixed history client done given taken output works reads = (works.1, subst (λ (e : Ended). ReadsTo e given taken) works.0 reads)
-ends_as endings.ReadFault ended fixed history client done given taken output works reads = (works.1, subst (λ (e : Ended). ReadsTo e given taken) works.0 reads)
-ends_as endings.WriteFault ended fixed history client done given taken output (inl cut) reads = inl cut
-ends_as endings.WriteFault ended fixed history client done given taken output (inr cut) reads = inr (cut.2, ap is_bad (subst (λ (e : Ended). ReadsTo e given taken) cut.1 reads))
-ends_as endings.Memory ended fixed history client done given taken output works reads = absurd works
-ends_as (endings.JournalFull count limit) ended fixed history client done given taken output works reads = absurd works
-ends_as endings.Answer ended fixed history client done given taken output works reads = absurd works
+ends_as (endings.BadFrame size) ended fixed wrong history client done given taken output works reads = (works.1, subst (λ (e : Ended). ReadsTo e given taken) works.0 reads)
+ends_as endings.ReadFault ended fixed wrong history client done given taken output works reads = (works.1, subst (λ (e : Ended). ReadsTo e given taken) works.0 reads)
+ends_as endings.WriteFault ended fixed wrong history client done given taken output (inl cut) reads = inl cut
+ends_as endings.WriteFault ended fixed wrong history client done given taken output (inr cut) reads = inr (cut.2, ap is_bad (subst (λ (e : Ended). ReadsTo e given taken) cut.1 reads))
+ends_as endings.Memory ended fixed wrong history client done given taken output works reads = absurd works
+ends_as (endings.JournalFull count limit) ended fixed wrong history client done given taken output works reads = absurd works
+ends_as endings.Answer ended fixed wrong history client done given taken output works reads = absurd works
 
 pub stopped_both : (ending : Ending) (pass : PassView) (client done : ℕ) (ended : Ended) (given left written written_new : Option (List ℕ)) (sent taken items : List Message) (raised loaded : List ℕ) (seat : WordView)
     → HasRead ended given left sent raised → HasWorked ending pass client done taken loaded written written_new → sent ≡ taken ++ items
@@ -353,9 +353,9 @@ stopped_both ending pass client done ended given left written written_new sent t
         within = subst (λ (l : List (List ℕ)). done ≤ length l) (sym same.0) worked.within;
         entries_are = subst (λ (l : List (List ℕ)). AreEntriesFrom pass.fixed pass.front client 1 (take done l) worked.entries) (sym same.0) worked.entries_are;
         written_is = worked.written_is;
-        ends = ends_as ending ended pass.fixed pass.front client done given from.taken worked.output
-            (subst (λ (e : Ended). WorksTo ending e pass.fixed pass.front client done (commands from.taken) worked.output) (sym same.1)
-            (subst (λ (l : List (List ℕ)). WorksTo ending worked.ended pass.fixed pass.front client done l worked.output) (sym same.0) worked.works))
+        ends = ends_as ending ended pass.fixed pass.wrong pass.front client done given from.taken worked.output
+            (subst (λ (e : Ended). WorksTo ending e pass.fixed pass.wrong pass.front client done (commands from.taken) worked.output) (sym same.1)
+            (subst (λ (l : List (List ℕ)). WorksTo ending worked.ended pass.fixed pass.wrong pass.front client done l worked.output) (sym same.0) worked.works))
             from.ends;
         word = word;
         canceled = canceled_by pass.front client done from.taken seat word;
@@ -368,15 +368,15 @@ stays_or_rose ends.NoMore faults faults_new counts = inl counts
 stays_or_rose (ends.BadSize size) faults faults_new counts = inl counts
 stays_or_rose ends.Fault faults faults_new counts = inr counts
 
-cause_as : (ending : Ending) (ended : Ended) (fixed : Fixed) (history : List Entry) (client done : ℕ) (list : List (List ℕ)) (output : List ℕ) (faults faults_new sink_faults sink_faults_new : ℕ)
-    → WorksTo ending ended fixed history client done list output → EndCounts ended faults faults_new → WorkCounts ending sink_faults sink_faults_new → HasCause ending faults faults_new sink_faults sink_faults_new
-cause_as endings.EndOfInput ended fixed history client done list output faults faults_new sink_faults sink_faults_new works read wrote = (subst (λ (e : Ended). EndCounts e faults faults_new) works.0 read, wrote)
-cause_as (endings.BadFrame size) ended fixed history client done list output faults faults_new sink_faults sink_faults_new works read wrote = (subst (λ (e : Ended). EndCounts e faults faults_new) works.0 read, wrote)
-cause_as endings.ReadFault ended fixed history client done list output faults faults_new sink_faults sink_faults_new works read wrote = (subst (λ (e : Ended). EndCounts e faults faults_new) works.0 read, wrote)
-cause_as endings.WriteFault ended fixed history client done list output faults faults_new sink_faults sink_faults_new works read wrote = (stays_or_rose ended faults faults_new read, wrote)
-cause_as endings.Memory ended fixed history client done list output faults faults_new sink_faults sink_faults_new works read wrote = absurd works
-cause_as (endings.JournalFull count limit) ended fixed history client done list output faults faults_new sink_faults sink_faults_new works read wrote = absurd works
-cause_as endings.Answer ended fixed history client done list output faults faults_new sink_faults sink_faults_new works read wrote = absurd works
+cause_as : (ending : Ending) (ended : Ended) (fixed : Fixed) (wrong : Bool) (history : List Entry) (client done : ℕ) (list : List (List ℕ)) (output : List ℕ) (faults faults_new sink_faults sink_faults_new : ℕ)
+    → WorksTo ending ended fixed wrong history client done list output → EndCounts ended faults faults_new → WorkCounts ending sink_faults sink_faults_new → HasCause ending faults faults_new sink_faults sink_faults_new
+cause_as endings.EndOfInput ended fixed wrong history client done list output faults faults_new sink_faults sink_faults_new works read wrote = (subst (λ (e : Ended). EndCounts e faults faults_new) works.0 read, wrote)
+cause_as (endings.BadFrame size) ended fixed wrong history client done list output faults faults_new sink_faults sink_faults_new works read wrote = (subst (λ (e : Ended). EndCounts e faults faults_new) works.0 read, wrote)
+cause_as endings.ReadFault ended fixed wrong history client done list output faults faults_new sink_faults sink_faults_new works read wrote = (subst (λ (e : Ended). EndCounts e faults faults_new) works.0 read, wrote)
+cause_as endings.WriteFault ended fixed wrong history client done list output faults faults_new sink_faults sink_faults_new works read wrote = (stays_or_rose ended faults faults_new read, wrote)
+cause_as endings.Memory ended fixed wrong history client done list output faults faults_new sink_faults sink_faults_new works read wrote = absurd works
+cause_as (endings.JournalFull count limit) ended fixed wrong history client done list output faults faults_new sink_faults sink_faults_new works read wrote = absurd works
+cause_as endings.Answer ended fixed wrong history client done list output faults faults_new sink_faults sink_faults_new works read wrote = absurd works
 
 pub cause_both : (ending : Ending) (pass : PassView) (client done : ℕ) (ended : Ended) (given left written written_new : Option (List ℕ)) (sent taken items : List Message) (raised loaded : List ℕ) (faults faults_new sink_faults sink_faults_new : ℕ)
     → HasRead ended given left sent raised → HasWorked ending pass client done taken loaded written written_new → sent ≡ taken ++ items
@@ -385,29 +385,29 @@ cause_both ending pass client done ended given left written written_new sent tak
     let from = read.commands_sent in
     let same = same_messages (commands from.taken) worked.list ended worked.ended items
     (ap (λ (l : List Message). l ++ messages.End ended ∷ []) (sym from.sent_is) ∙ sym read.sent_is ∙ whole ∙ ap (λ (l : List Message). l ++ items) worked.taken_is) in
-    cause_as ending worked.ended pass.fixed pass.front client done worked.list worked.output faults faults_new sink_faults sink_faults_new worked.works
+    cause_as ending worked.ended pass.fixed pass.wrong pass.front client done worked.list worked.output faults faults_new sink_faults sink_faults_new worked.works
     (subst (λ (e : Ended). EndCounts e faults faults_new) same.1 counts) wrote
 
 -- ---- the close
 
-answers_stay : (fixed : Fixed) (history more : List Entry) (client done : ℕ) (list : List (List ℕ)) (output : List ℕ) → ((upto : ℕ) → AddsNone more client upto) → AnswersAll fixed history client done list output
-    → AnswersAll fixed (history ++ more) client done list output
-answers_stay fixed history more client done list output none all =
-    let replies = replies_stay fixed history more client list output (none (length list)) all.replies in
+answers_stay : (fixed : Fixed) (wrong new_wrong : Bool) (history more : List Entry) (client done : ℕ) (list : List (List ℕ)) (output : List ℕ) → (wrong ≡ true → new_wrong ≡ true) → ((upto : ℕ) → AddsNone more client upto) → AnswersAll fixed wrong history client done list output
+    → AnswersAll fixed new_wrong (history ++ more) client done list output
+answers_stay fixed wrong new_wrong history more client done list output rises none all =
+    let replies = replies_stay fixed wrong new_wrong history more client list output rises (none (length list)) all.replies in
     record {
       all = all.all;
       replies = replies;
-      answers = λ base is. answers_of fixed base (history ++ more) client 1 list output is replies;
+      answers = λ base is. answers_of fixed new_wrong base (history ++ more) client 1 list output is replies;
     }
 
-pub ends_stay : (ending : Ending) (fixed : Fixed) (history more : List Entry) (client done : ℕ) (given : Option (List ℕ)) (taken output : List ℕ) → ((upto : ℕ) → AddsNone more client upto)
-    → EndsAs ending fixed history client done given taken output → EndsAs ending fixed (history ++ more) client done given taken output
-ends_stay endings.EndOfInput fixed history more client done given taken output none ends =
-    (answers_stay fixed history more client done (commands taken) output none ends.0, ends.1, ends.2)
-ends_stay (endings.BadFrame size) fixed history more client done given taken output none ends =
-    (record { replies = ends.0.replies; answered = answers_stay fixed history more client done (commands taken) ends.0.replies none ends.0.answered; output_is = ends.0.output_is }, ends.1)
-ends_stay endings.ReadFault fixed history more client done given taken output none ends = (answers_stay fixed history more client done (commands taken) output none ends.0, ends.1)
-ends_stay endings.WriteFault fixed history more client done given taken output none (inl cut) = inl (record {
+pub ends_stay : (ending : Ending) (fixed : Fixed) (wrong new_wrong : Bool) (history more : List Entry) (client done : ℕ) (given : Option (List ℕ)) (taken output : List ℕ) → (wrong ≡ true → new_wrong ≡ true) → ((upto : ℕ) → AddsNone more client upto)
+    → EndsAs ending fixed wrong history client done given taken output → EndsAs ending fixed new_wrong (history ++ more) client done given taken output
+ends_stay endings.EndOfInput fixed wrong new_wrong history more client done given taken output rises none ends =
+    (answers_stay fixed wrong new_wrong history more client done (commands taken) output rises none ends.0, ends.1, ends.2)
+ends_stay (endings.BadFrame size) fixed wrong new_wrong history more client done given taken output rises none ends =
+    (record { replies = ends.0.replies; answered = answers_stay fixed wrong new_wrong history more client done (commands taken) ends.0.replies rises none ends.0.answered; output_is = ends.0.output_is }, ends.1)
+ends_stay endings.ReadFault fixed wrong new_wrong history more client done given taken output rises none ends = (answers_stay fixed wrong new_wrong history more client done (commands taken) output rises none ends.0, ends.1)
+ends_stay endings.WriteFault fixed wrong new_wrong history more client done given taken output rises none (inl cut) = inl (record {
   earlier = cut.earlier;
   command = cut.command;
   before = cut.before;
@@ -415,24 +415,24 @@ ends_stay endings.WriteFault fixed history more client done given taken output n
   k = cut.k;
   done_is = cut.done_is;
   next = cut.next;
-  replies = replies_stay fixed history more client (take cut.earlier (commands taken)) cut.before (none (length (take cut.earlier (commands taken)))) cut.replies;
-  told = told_on fixed history more client done cut.command cut.reply (none done) (omega (arith, cut.done_is)) cut.told;
+  replies = replies_stay fixed wrong new_wrong history more client (take cut.earlier (commands taken)) cut.before rises (none (length (take cut.earlier (commands taken)))) cut.replies;
+  told = told_on fixed wrong new_wrong history more client done cut.command cut.reply rises (none done) (omega (arith, cut.done_is)) cut.told;
   short = cut.short;
   output_is = cut.output_is;
 })
-ends_stay endings.WriteFault fixed history more client done given taken output none (inr cut) = inr (
+ends_stay endings.WriteFault fixed wrong new_wrong history more client done given taken output rises none (inr cut) = inr (
   record {
     replies = cut.0.replies;
     k = cut.0.k;
-    answered = answers_stay fixed history more client done (commands taken) cut.0.replies none cut.0.answered;
+    answered = answers_stay fixed wrong new_wrong history more client done (commands taken) cut.0.replies rises none cut.0.answered;
     short = cut.0.short;
     output_is = cut.0.output_is;
   },
   cut.1,
 )
-ends_stay endings.Memory fixed history more client done given taken output none ends = absurd ends
-ends_stay (endings.JournalFull count limit) fixed history more client done given taken output none ends = absurd ends
-ends_stay endings.Answer fixed history more client done given taken output none ends = absurd ends
+ends_stay endings.Memory fixed wrong new_wrong history more client done given taken output rises none ends = absurd ends
+ends_stay (endings.JournalFull count limit) fixed wrong new_wrong history more client done given taken output rises none ends = absurd ends
+ends_stay endings.Answer fixed wrong new_wrong history more client done given taken output rises none ends = absurd ends
 
 -- the client is closed at the end of its connection
 pub closed_link : {legal : Persist → List Entry → Type 0} (ending : Ending) (old new : PassView) (client done : ℕ) (given left written written_new : Option (List ℕ)) (seat : WordView) (bytes reply : List ℕ) → IsStopped ending old client done given left written written_new seat
@@ -466,9 +466,9 @@ closed_link {legal = legal} ending old new client done given left written writte
             (subst (λ (f : Fixed). AreEntriesFrom f (old.front ++ closed.more) client 1 (take done (commands ran.taken)) stopped.entries) (sym same)
             (entries_on old.fixed old.front closed.more client 1 (take done (commands ran.taken)) stopped.entries ran.entries_are));
         written_is = ran.written_is;
-        ends = subst (λ (h : List Entry). EndsAs ending new.fixed h client done given ran.taken ran.output) (sym closed.front)
-            (subst (λ (f : Fixed). EndsAs ending f (old.front ++ closed.more) client done given ran.taken ran.output) (sym same)
-            (ends_stay ending old.fixed old.front closed.more client done given ran.taken ran.output closed.none ran.ends));
+        ends = subst (λ (h : List Entry). EndsAs ending new.fixed new.wrong h client done given ran.taken ran.output) (sym closed.front)
+            (subst (λ (f : Fixed). EndsAs ending f new.wrong (old.front ++ closed.more) client done given ran.taken ran.output) (sym same)
+            (ends_stay ending old.fixed old.wrong new.wrong old.front closed.more client done given ran.taken ran.output asks.1.still closed.none ran.ends));
         word = word;
         canceled = canceled_by new.front client done ran.taken seat word;
       };

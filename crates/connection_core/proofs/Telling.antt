@@ -1,5 +1,5 @@
 -- What a client is told stays told where its history goes on.
-use Rattle.std.proofs.Common.{◌≡◌, ◌<◌, ◌≤◌, ◌+◌, ℕ, true, false, cond, eqb, ltb, List, [], ◌∷◌, ◌++◌, length, Option, Some, None, refl, sym, ap, subst, ◌∙◌, append_assoc, arith, length-append, inl, inr}
+use Rattle.std.proofs.Common.{◌≡◌, ◌<◌, ◌≤◌, ◌+◌, ℕ, Bool, true, false, cond, eqb, ltb, List, [], ◌∷◌, ◌++◌, length, Option, Some, None, refl, sym, ap, subst, ◌∙◌, append_assoc, arith, length-append, inl, inr}
 use Rattle.std.specs.Prelude.{◌&&◌, ◌||◌}
 use Rattle.std.specs.List.{AllByRecursion, find}
 use Rattle.std.specs.Option.{option_or}
@@ -100,55 +100,55 @@ told_by_stays limit client number history more command reply (Some e) told = tol
 told_by_stays limit client number history more command reply None (inl lacked) = inl lacked
 told_by_stays limit client number history more command reply None (inr full) = inr (full_stays limit client number history more command reply full)
 
-told_stays : (fixed : Fixed) (history more : List Entry) (client number : ℕ) (command reply : List ℕ) → entry_of more client number ≡ None
-    → IsTold fixed history client number command reply → IsTold fixed (history ++ more) client number command reply
-told_stays fixed history more client number command reply none (inl told) =
+told_stays : (fixed : Fixed) (wrong new_wrong : Bool) (history more : List Entry) (client number : ℕ) (command reply : List ℕ) → entry_of more client number ≡ None → (wrong ≡ true → new_wrong ≡ true)
+    → IsTold fixed wrong history client number command reply → IsTold fixed new_wrong (history ++ more) client number command reply
+told_stays fixed wrong new_wrong history more client number command reply none rises (inl told) =
     let stays = entry_stays history more client number (entry_of history client number) none refl in
     inl (subst (λ (found : Option Entry). ToldBy found fixed.limit (part_before client number (history ++ more)) command reply) (sym stays)
     (told_by_stays fixed.limit client number history more command reply (entry_of history client number) told))
-told_stays fixed history more client number command reply none (inr answer) =
-    inr (entry_stays history more client number None none answer.0, answer.1, answer.2)
+told_stays fixed wrong new_wrong history more client number command reply none rises (inr answer) =
+    inr (entry_stays history more client number None none answer.0, answer.1, answer.2, rises answer.3)
 
-replies_on : (fixed : Fixed) (history more : List Entry) (client number : ℕ) (list : List (List ℕ)) (bytes : List ℕ)
+replies_on : (fixed : Fixed) (wrong new_wrong : Bool) (history more : List Entry) (client number : ℕ) (list : List (List ℕ)) (bytes : List ℕ) → (wrong ≡ true → new_wrong ≡ true)
     → ((n : ℕ) → number ≤ n → n < number + length list → entry_of more client n ≡ None)
-    → AreRepliesFrom fixed history client number list bytes → AreRepliesFrom fixed (history ++ more) client number list bytes
-replies_on fixed history more client number [] bytes none replies = replies
-replies_on fixed history more client number (command ∷ list) bytes none replies = (
+    → AreRepliesFrom fixed wrong history client number list bytes → AreRepliesFrom fixed new_wrong (history ++ more) client number list bytes
+replies_on fixed wrong new_wrong history more client number [] bytes rises none replies = replies
+replies_on fixed wrong new_wrong history more client number (command ∷ list) bytes rises none replies = (
   replies.0,
   replies.1,
   replies.2,
-  told_stays fixed history more client number command replies.0 (none number (omega arith) (omega arith)) replies.3,
-  replies_on fixed history more client (number + 1) list replies.1 (λ n above below. none n (omega arith) (omega arith)) replies.4,
+  told_stays fixed wrong new_wrong history more client number command replies.0 (none number (omega arith) (omega arith)) rises replies.3,
+  replies_on fixed wrong new_wrong history more client (number + 1) list replies.1 rises (λ n above below. none n (omega arith) (omega arith)) replies.4,
 )
 
 -- the replies so far stay
-pub replies_stay : (fixed : Fixed) (history more : List Entry) (client : ℕ) (list : List (List ℕ)) (bytes : List ℕ) → AddsNone more client (length list)
-    → AreRepliesFrom fixed history client 1 list bytes → AreRepliesFrom fixed (history ++ more) client 1 list bytes
-replies_stay fixed history more client list bytes none replies = replies_on fixed history more client 1 list bytes (λ n above below. none n above (omega arith)) replies
+pub replies_stay : (fixed : Fixed) (wrong new_wrong : Bool) (history more : List Entry) (client : ℕ) (list : List (List ℕ)) (bytes : List ℕ) → (wrong ≡ true → new_wrong ≡ true) → AddsNone more client (length list)
+    → AreRepliesFrom fixed wrong history client 1 list bytes → AreRepliesFrom fixed new_wrong (history ++ more) client 1 list bytes
+replies_stay fixed wrong new_wrong history more client list bytes rises none replies = replies_on fixed wrong new_wrong history more client 1 list bytes rises (λ n above below. none n above (omega arith)) replies
 
-pub told_on : (fixed : Fixed) (history more : List Entry) (client number : ℕ) (command reply : List ℕ) → AddsNone more client number → 1 ≤ number
-    → IsTold fixed history client number command reply → IsTold fixed (history ++ more) client number command reply
-told_on fixed history more client number command reply none some told =
-    told_stays fixed history more client number command reply (none number some (omega arith)) told
+pub told_on : (fixed : Fixed) (wrong new_wrong : Bool) (history more : List Entry) (client number : ℕ) (command reply : List ℕ) → (wrong ≡ true → new_wrong ≡ true) → AddsNone more client number → 1 ≤ number
+    → IsTold fixed wrong history client number command reply → IsTold fixed new_wrong (history ++ more) client number command reply
+told_on fixed wrong new_wrong history more client number command reply rises none some told =
+    told_stays fixed wrong new_wrong history more client number command reply (none number some (omega arith)) rises told
 
 -- one reply more
-pub replies_push : (fixed : Fixed) (history : List Entry) (client number : ℕ) (list : List (List ℕ)) (bytes command reply : List ℕ)
-    → AreRepliesFrom fixed history client number list bytes → IsTold fixed history client (number + length list) command reply
-    → AreRepliesFrom fixed history client number (list ++ command ∷ []) (bytes ++ reply)
-replies_push fixed history client number [] bytes command reply replies told = (
+pub replies_push : (fixed : Fixed) (wrong : Bool) (history : List Entry) (client number : ℕ) (list : List (List ℕ)) (bytes command reply : List ℕ)
+    → AreRepliesFrom fixed wrong history client number list bytes → IsTold fixed wrong history client (number + length list) command reply
+    → AreRepliesFrom fixed wrong history client number (list ++ command ∷ []) (bytes ++ reply)
+replies_push fixed wrong history client number [] bytes command reply replies told = (
   reply,
   [],
   ap (λ (l : List ℕ). l ++ reply) replies ∙ sym (append-nil reply),
-  subst (λ (n : ℕ). IsTold fixed history client n command reply) (let e : number + 0 ≡ number = omega arith in e) told,
+  subst (λ (n : ℕ). IsTold fixed wrong history client n command reply) (let e : number + 0 ≡ number = omega arith in e) told,
   refl,
 )
-replies_push fixed history client number (first ∷ list) bytes command reply replies told = (
+replies_push fixed wrong history client number (first ∷ list) bytes command reply replies told = (
   replies.0,
   replies.1 ++ reply,
   ap (λ (l : List ℕ). l ++ reply) replies.2 ∙ append_assoc replies.0 replies.1 reply,
   replies.3,
-  replies_push fixed history client (number + 1) list replies.1 command reply replies.4
-      (subst (λ (n : ℕ). IsTold fixed history client n command reply) (let e : number + length (first ∷ list) ≡ number + 1 + length list = omega arith in e) told),
+  replies_push fixed wrong history client (number + 1) list replies.1 command reply replies.4
+      (subst (λ (n : ℕ). IsTold fixed wrong history client n command reply) (let e : number + length (first ∷ list) ≡ number + 1 + length list = omega arith in e) told),
 )
 
 -- ---- what the loaded words say
@@ -182,21 +182,21 @@ decide_push history client number (first ∷ loaded) word decide decides = (
 -- ---- a device that tells its state
 
 -- no wrong answer is told then
-told_of : (fixed : Fixed) (base : Persist) (history : List Entry) (client number : ℕ) (command reply : List ℕ) → fixed.base ≡ Some base → IsTold fixed history client number command reply
+told_of : (fixed : Fixed) (wrong : Bool) (base : Persist) (history : List Entry) (client number : ℕ) (command reply : List ℕ) → fixed.base ≡ Some base → IsTold fixed wrong history client number command reply
     → Told history fixed.limit client number command reply
-told_of fixed base history client number command reply is (inl told) = told
-told_of fixed base history client number command reply is (inr answer) = absurd (some_none base (sym is ∙ answer.2))
+told_of fixed wrong base history client number command reply is (inl told) = told
+told_of fixed wrong base history client number command reply is (inr answer) = absurd (some_none base (sym is ∙ answer.2))
   where
     some_none : (b : Persist) → Some b ≡ None → ⊥
     some_none b e = cc e
 
-pub answers_of : (fixed : Fixed) (base : Persist) (history : List Entry) (client number : ℕ) (list : List (List ℕ)) (bytes : List ℕ) → fixed.base ≡ Some base
-    → AreRepliesFrom fixed history client number list bytes → AnswersFrom history fixed.limit client number list bytes
-answers_of fixed base history client number [] bytes is replies = replies
-answers_of fixed base history client number (command ∷ list) bytes is replies = (
+pub answers_of : (fixed : Fixed) (wrong : Bool) (base : Persist) (history : List Entry) (client number : ℕ) (list : List (List ℕ)) (bytes : List ℕ) → fixed.base ≡ Some base
+    → AreRepliesFrom fixed wrong history client number list bytes → AnswersFrom history fixed.limit client number list bytes
+answers_of fixed wrong base history client number [] bytes is replies = replies
+answers_of fixed wrong base history client number (command ∷ list) bytes is replies = (
   replies.0,
   replies.1,
   replies.2,
-  told_of fixed base history client number command replies.0 is replies.3,
-  answers_of fixed base history client (number + 1) list replies.1 is replies.4,
+  told_of fixed wrong base history client number command replies.0 is replies.3,
+  answers_of fixed wrong base history client (number + 1) list replies.1 is replies.4,
 )

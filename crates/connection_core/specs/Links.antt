@@ -1,5 +1,5 @@
 -- How a connection ends: what was taken of its source, entered into the history and written to its client.
-use Rattle.std.specs.Prelude.{◌≡◌, ◌<◌, ◌≤◌, ◌⊎◌, ℕ, ◌+◌, true, false, List, [], ◌∷◌, ◌++◌, length, take, All, Option, Some, None}
+use Rattle.std.specs.Prelude.{◌≡◌, ◌<◌, ◌≤◌, ◌⊎◌, ℕ, ◌+◌, Bool, true, false, List, [], ◌∷◌, ◌++◌, length, take, All, Option, Some, None}
 use mathlib.Core.List.{IsPrefix}
 use Rattle.tab_spec.specs.declared.TheConstants.{RC_CANCELED, RC_COMMAND_SIZE, RC_DEVICE_ANSWER}
 use Rattle.tab_spec.specs.Count.{Rose}
@@ -52,19 +52,19 @@ AreEntriesFrom fixed history client number (command ∷ commands) entries =
 
 -- ---- what a client is told
 
--- the reply of the command's entry. Where it has none: that memory lacked, or room, or over a device that doesn't tell its
--- state, that the device gave a wrong answer
-abbrev pub IsTold : Fixed → List Entry → (client number : ℕ) (command reply : List ℕ) → Type 0
-IsTold fixed history client number command reply =
+-- the reply of the command's entry. Where it has none: that memory lacked, or room, or that the device gave a wrong answer, where one
+-- came, as it may over a device that doesn't tell its state
+abbrev pub IsTold : Fixed → (wrong : Bool) → List Entry → (client number : ℕ) (command reply : List ℕ) → Type 0
+IsTold fixed wrong history client number command reply =
     Told history fixed.limit client number command reply
-    ⊎ ((entry_of history client number ≡ None) × (reply ≡ error_reply RC_DEVICE_ANSWER) × IsUntold fixed)
+    ⊎ ((entry_of history client number ≡ None) × (reply ≡ error_reply RC_DEVICE_ANSWER) × IsUntold fixed × (wrong ≡ true))
 
 -- one such reply for each command, numbered from this number on, one after another
-abbrev pub AreRepliesFrom : Fixed → List Entry → (client number : ℕ) → List (List ℕ) → List ℕ → Type 0
-AreRepliesFrom fixed history client number [] bytes = bytes ≡ []
-AreRepliesFrom fixed history client number (command ∷ commands) bytes =
-    (reply : List ℕ) × (more : List ℕ) × (bytes ≡ reply ++ more) × IsTold fixed history client number command reply
-    × AreRepliesFrom fixed history client (number + 1) commands more
+abbrev pub AreRepliesFrom : Fixed → (wrong : Bool) → List Entry → (client number : ℕ) → List (List ℕ) → List ℕ → Type 0
+AreRepliesFrom fixed wrong history client number [] bytes = bytes ≡ []
+AreRepliesFrom fixed wrong history client number (command ∷ commands) bytes =
+    (reply : List ℕ) × (more : List ℕ) × (bytes ≡ reply ++ more) × IsTold fixed wrong history client number command reply
+    × AreRepliesFrom fixed wrong history client (number + 1) commands more
 
 -- ---- the cancel word
 
@@ -103,13 +103,13 @@ AreCanceledBy taken history client done = (number upto : ℕ) (e : Entry) → 1 
 -- ---- the endings
 
 -- all commands that came were answered. Over a device that tells its state the replies are the answers of the history
-pub record AnswersAll (fixed : Fixed) (history : List Entry) (client done : ℕ) (list : List (List ℕ)) (output : List ℕ) : Type 0 where
+pub record AnswersAll (fixed : Fixed) (wrong : Bool) (history : List Entry) (client done : ℕ) (list : List (List ℕ)) (output : List ℕ) : Type 0 where
   pub all : done ≡ length list
-  pub replies : AreRepliesFrom fixed history client 1 list output
+  pub replies : AreRepliesFrom fixed wrong history client 1 list output
   pub answers : (base : Persist) → fixed.base ≡ Some base → Answers history fixed.limit client list output
 
 -- a front of the last reply was written, behind all of those before it
-pub record CutsReply (fixed : Fixed) (history : List Entry) (client done : ℕ) (list : List (List ℕ)) (output : List ℕ) : Type 0 where
+pub record CutsReply (fixed : Fixed) (wrong : Bool) (history : List Entry) (client done : ℕ) (list : List (List ℕ)) (output : List ℕ) : Type 0 where
   pub earlier : ℕ
   pub command : List ℕ
   pub before : List ℕ
@@ -117,42 +117,42 @@ pub record CutsReply (fixed : Fixed) (history : List Entry) (client done : ℕ) 
   pub k : ℕ
   pub done_is : done ≡ earlier + 1
   pub next : take done list ≡ take earlier list ++ command ∷ []
-  pub replies : AreRepliesFrom fixed history client 1 (take earlier list) before
-  pub told : IsTold fixed history client done command reply
+  pub replies : AreRepliesFrom fixed wrong history client 1 (take earlier list) before
+  pub told : IsTold fixed wrong history client done command reply
   pub short : k < length reply
   pub output_is : output ≡ before ++ take k reply
 
 -- a front of what tells of a bad size was written, behind the replies to all commands
-pub record CutsBadSize (fixed : Fixed) (history : List Entry) (client done : ℕ) (list : List (List ℕ)) (output : List ℕ) : Type 0 where
+pub record CutsBadSize (fixed : Fixed) (wrong : Bool) (history : List Entry) (client done : ℕ) (list : List (List ℕ)) (output : List ℕ) : Type 0 where
   pub replies : List ℕ
   pub k : ℕ
-  pub answered : AnswersAll fixed history client done list replies
+  pub answered : AnswersAll fixed wrong history client done list replies
   pub short : k < length (error_reply RC_COMMAND_SIZE)
   pub output_is : output ≡ replies ++ take k (error_reply RC_COMMAND_SIZE)
 
 -- all commands were answered, and then the client was told of a bad size
-pub record TellsBadSize (fixed : Fixed) (history : List Entry) (client done : ℕ) (list : List (List ℕ)) (output : List ℕ) : Type 0 where
+pub record TellsBadSize (fixed : Fixed) (wrong : Bool) (history : List Entry) (client done : ℕ) (list : List (List ℕ)) (output : List ℕ) : Type 0 where
   pub replies : List ℕ
-  pub answered : AnswersAll fixed history client done list replies
+  pub answered : AnswersAll fixed wrong history client done list replies
   pub output_is : output ≡ replies ++ error_reply RC_COMMAND_SIZE
 
 -- what was taken and written, by the ending
-abbrev pub EndsAs : Ending → Fixed → List Entry → (client done : ℕ) (given : Option (List ℕ)) (taken output : List ℕ) → Type 0
-EndsAs endings.EndOfInput fixed history client done given taken output =
-    AnswersAll fixed history client done (commands taken) output × (meets_bad_size taken ≡ false) × ((all : List ℕ) → given ≡ Some all → taken ≡ all)
-EndsAs (endings.BadFrame size) fixed history client done given taken output =
-    TellsBadSize fixed history client done (commands taken) output × ((frames taken).ending ≡ bad size)
-EndsAs endings.ReadFault fixed history client done given taken output =
-    AnswersAll fixed history client done (commands taken) output × (meets_bad_size taken ≡ false)
-EndsAs endings.WriteFault fixed history client done given taken output =
-    CutsReply fixed history client done (commands taken) output
-    ⊎ (CutsBadSize fixed history client done (commands taken) output × (meets_bad_size taken ≡ true))
-EndsAs endings.Memory fixed history client done given taken output = ⊥
-EndsAs (endings.JournalFull count limit) fixed history client done given taken output = ⊥
-EndsAs endings.Answer fixed history client done given taken output = ⊥
+abbrev pub EndsAs : Ending → Fixed → (wrong : Bool) → List Entry → (client done : ℕ) (given : Option (List ℕ)) (taken output : List ℕ) → Type 0
+EndsAs endings.EndOfInput fixed wrong history client done given taken output =
+    AnswersAll fixed wrong history client done (commands taken) output × (meets_bad_size taken ≡ false) × ((all : List ℕ) → given ≡ Some all → taken ≡ all)
+EndsAs (endings.BadFrame size) fixed wrong history client done given taken output =
+    TellsBadSize fixed wrong history client done (commands taken) output × ((frames taken).ending ≡ bad size)
+EndsAs endings.ReadFault fixed wrong history client done given taken output =
+    AnswersAll fixed wrong history client done (commands taken) output × (meets_bad_size taken ≡ false)
+EndsAs endings.WriteFault fixed wrong history client done given taken output =
+    CutsReply fixed wrong history client done (commands taken) output
+    ⊎ (CutsBadSize fixed wrong history client done (commands taken) output × (meets_bad_size taken ≡ true))
+EndsAs endings.Memory fixed wrong history client done given taken output = ⊥
+EndsAs (endings.JournalFull count limit) fixed wrong history client done given taken output = ⊥
+EndsAs endings.Answer fixed wrong history client done given taken output = ⊥
 
 -- what came of an open client's connection: these entries, by the history at the end
-pub record Ran (ending : Ending) (fixed : Fixed) (history : List Entry) (client done : ℕ) (entries : List Entry)
+pub record Ran (ending : Ending) (fixed : Fixed) (wrong : Bool) (history : List Entry) (client done : ℕ) (entries : List Entry)
     (given left written written_new : Option (List ℕ)) (seat : WordView) : Type 0 where
   pub taken : List ℕ
   pub output : List ℕ
@@ -160,7 +160,7 @@ pub record Ran (ending : Ending) (fixed : Fixed) (history : List Entry) (client 
   pub within : done ≤ length (commands taken)
   pub entries_are : AreEntriesFrom fixed history client 1 (take done (commands taken)) entries
   pub written_is : written_new ≡ with_more written output
-  pub ends : EndsAs ending fixed history client done given taken output
+  pub ends : EndsAs ending fixed wrong history client done given taken output
   pub word : IsSeatOf history client done taken seat
   pub canceled : AreCanceledBy taken history client done
 
@@ -175,7 +175,7 @@ pub record KnowsClient (pass : PassView) (client done : ℕ) (entries : List Ent
 pub record IsStopped (ending : Ending) (pass : PassView) (client done : ℕ) (given left written written_new : Option (List ℕ)) (seat : WordView) : Type 0 where
   pub entries : List Entry
   pub serves : KnowsClient pass client done entries
-  pub ran : Ran ending pass.fixed pass.front client done entries given left written written_new seat
+  pub ran : Ran ending pass.fixed pass.wrong pass.front client done entries given left written written_new seat
 
 -- a client was opened, its connection came to its end, and it was closed. The pass knows its entries alone, and the history
 -- has just these of it. The seat of the cancel word is there
@@ -187,7 +187,7 @@ pub record IsClosed (legal : Persist → List Entry → Type 0) (ending : Ending
   pub own_is : own pass.front client ≡ pass.known
   pub is_legal : IsLegalOver legal pass.fixed.base pass.front
   pub word_is : word ≡ Some seat
-  pub ran : Ran ending pass.fixed pass.front client done entries given left written written_new seat
+  pub ran : Ran ending pass.fixed pass.wrong pass.front client done entries given left written written_new seat
 
 -- ---- a connection without a client
 
@@ -200,7 +200,7 @@ Refuses endings.WriteFault pass = ⊥
 Refuses endings.Memory pass = Unit {0}
 Refuses (endings.JournalFull count limit) pass =
     (HasRoomForClient pass.fixed.limit pass.front → ⊥) × (count ≡ kept pass.front) × (limit ≡ pass.fixed.limit)
-Refuses endings.Answer pass = IsUntold pass.fixed
+Refuses endings.Answer pass = IsUntold pass.fixed × (pass.wrong ≡ true)
 
 -- nothing was run, and the pass knows nobody
 pub record IsRefused (ending : Ending) (pass : PassView) (done : ℕ) : Type 0 where

@@ -1,5 +1,5 @@
 -- What a turn leaves of a pass, and what a failed write leaves of a sink.
-use Rattle.std.specs.Prelude.{◌≡◌, ◌<◌, nat_le, ℕ, List, length, take, Option, if◌then◌else◌}
+use Rattle.std.specs.Prelude.{◌≡◌, ◌<◌, nat_le, ℕ, true, List, length, take, Option, if◌then◌else◌}
 use mathlib.Core.List.{IsPrefix}
 use Rattle.tab_spec.specs.Persist.{Persist}
 use Rattle.history_spec.specs.Entry.{Entry}
@@ -30,12 +30,14 @@ pub record AsksNext (legal : Persist → List Entry → Type 0) (old : PassView)
   pub seat_is : seat_new ≡ with_loaded seat word
   pub asks : Asks legal old (job_of client number word) bytes reply new
 
--- a pass after some turns, or none: the history that it has seen goes on, and is legal where it was
+-- a pass after some turns, or none: the history that it has seen goes on, and is legal where it was. A wrong answer that it knows of
+-- is still known
 pub record GoesOn (legal : Persist → List Entry → Type 0) (old new : PassView) : Type 0 where
   pub lock : new.lock ≡ old.lock
   pub fixed : new.fixed ≡ old.fixed
   pub parts : new.parts ≡ old.parts
   pub seen : IsPrefix old.front new.front
+  pub still : old.wrong ≡ true → new.wrong ≡ true
   pub stays_legal : IsLegalOver legal old.fixed.base old.front → IsLegalOver legal old.fixed.base new.front
 
 -- a front of these bytes was written, and not all of them

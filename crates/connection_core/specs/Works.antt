@@ -23,7 +23,7 @@ pub record SoFar (pass : PassView) (client done : ℕ) (taken rest : List Messag
   pub count : length list ≡ done
   pub serves : KnowsClient pass client done entries
   pub entries_are : AreEntriesFrom pass.fixed pass.front client 1 list entries
-  pub replies : AreRepliesFrom pass.fixed pass.front client 1 list output
+  pub replies : AreRepliesFrom pass.fixed pass.wrong pass.front client 1 list output
   pub loads : length loaded ≡ done
   pub decide : DecideFrom pass.front client 1 loaded
   pub written_is : written_new ≡ with_more written output
@@ -37,7 +37,7 @@ pub record CutsShort (pass : PassView) (client done : ℕ) (taken : List Message
   pub count : length list ≡ done
   pub serves : KnowsClient pass client done entries
   pub entries_are : AreEntriesFrom pass.fixed pass.front client 1 list entries
-  pub cuts : CutsReply pass.fixed pass.front client done list output
+  pub cuts : CutsReply pass.fixed pass.wrong pass.front client done list output
   pub loads : length loaded ≡ done
   pub decide : DecideFrom pass.front client 1 loaded
   pub written_is : written_new ≡ with_more written output
@@ -49,16 +49,16 @@ pub record IsDrained (taken taken_new : List Message) : Type 0 where
   pub taken_is : taken_new ≡ taken ++ (messages_of list ++ messages.End ended ∷ [])
 
 -- what was written, by how the worker ended and why no more commands came
-abbrev pub WorksTo : Ending → Ended → Fixed → List Entry → (client done : ℕ) (list : List (List ℕ)) (output : List ℕ) → Type 0
-WorksTo endings.EndOfInput ended fixed history client done list output = (ended ≡ ends.NoMore) × AnswersAll fixed history client done list output
-WorksTo (endings.BadFrame size) ended fixed history client done list output = (ended ≡ ends.BadSize size) × TellsBadSize fixed history client done list output
-WorksTo endings.ReadFault ended fixed history client done list output = (ended ≡ ends.Fault) × AnswersAll fixed history client done list output
-WorksTo endings.WriteFault ended fixed history client done list output =
-    CutsReply fixed history client done list output
-    ⊎ ((size : ℕ) × (ended ≡ ends.BadSize size) × CutsBadSize fixed history client done list output)
-WorksTo endings.Memory ended fixed history client done list output = ⊥
-WorksTo (endings.JournalFull count limit) ended fixed history client done list output = ⊥
-WorksTo endings.Answer ended fixed history client done list output = ⊥
+abbrev pub WorksTo : Ending → Ended → Fixed → (wrong : Bool) → List Entry → (client done : ℕ) (list : List (List ℕ)) (output : List ℕ) → Type 0
+WorksTo endings.EndOfInput ended fixed wrong history client done list output = (ended ≡ ends.NoMore) × AnswersAll fixed wrong history client done list output
+WorksTo (endings.BadFrame size) ended fixed wrong history client done list output = (ended ≡ ends.BadSize size) × TellsBadSize fixed wrong history client done list output
+WorksTo endings.ReadFault ended fixed wrong history client done list output = (ended ≡ ends.Fault) × AnswersAll fixed wrong history client done list output
+WorksTo endings.WriteFault ended fixed wrong history client done list output =
+    CutsReply fixed wrong history client done list output
+    ⊎ ((size : ℕ) × (ended ≡ ends.BadSize size) × CutsBadSize fixed wrong history client done list output)
+WorksTo endings.Memory ended fixed wrong history client done list output = ⊥
+WorksTo (endings.JournalFull count limit) ended fixed wrong history client done list output = ⊥
+WorksTo endings.Answer ended fixed wrong history client done list output = ⊥
 
 -- what came of all messages
 pub record HasWorked (ending : Ending) (pass : PassView) (client done : ℕ) (taken : List Message) (loaded : List ℕ) (written written_new : Option (List ℕ)) : Type 0 where
@@ -73,7 +73,7 @@ pub record HasWorked (ending : Ending) (pass : PassView) (client done : ℕ) (ta
   pub loads : length loaded ≡ done
   pub decide : DecideFrom pass.front client 1 loaded
   pub written_is : written_new ≡ with_more written output
-  pub works : WorksTo ending ended pass.fixed pass.front client done list output
+  pub works : WorksTo ending ended pass.fixed pass.wrong pass.front client done list output
 
 -- a sink is ended at once where it took no reply, and else not before the client is closed
 abbrev pub ended_by : Ending → Option Bool → Option Bool

@@ -120,7 +120,7 @@ fn close_duty<B: Serves, K: Sink + Drop, J: Begins, G: Gate, R: Wait>(
         mut reply,
         stage: _,
     } = duty;
-    worker.close(rt, shared, &mut reply);
+    worker.close(rt, shared, gate, &mut reply);
     (worker, ending)
 }
 
@@ -277,10 +277,12 @@ fn refuse<B: Serves, S: Source, K: Sink>(
     (end, None)
 }
 
-// Tells the gate where the journal had no room for the client.
+// Tells the gate where the journal had no room for the client, and where the device gave a wrong
+// answer before.
 fn tell_refused<G: Gate>(gate: &G, ending: Ending) {
     match ending {
         Ending::JournalFull { kept: _, limit: _ } => gate.journal_full(),
+        Ending::Answer => gate.wrong_answer(),
         _ => {}
     }
 }

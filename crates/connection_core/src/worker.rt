@@ -11,7 +11,7 @@ ghost use Rattle.connection_core.specs.Sides.{IsWorkers};
 ghost use Rattle.connection_core.specs.Turns.{Asks, AsksNext, IsNextJob, WroteFront};
 
 use crate::between::{Between, Side};
-use broker_lock::{Done, Job, Pass, Serves, Shared, Told};
+use broker_lock::{Closed, Done, Job, Pass, Serves, Shared, Told};
 use cancel_words::{CancelWord, WordSeat};
 use link_port::{Failed, Gate, Sink, push_all};
 use std::sync::Wait;
@@ -32,7 +32,8 @@ pub(crate) struct Worker<B, K> {
 
 impl<B: Serves, K: Sink> Worker<B, K> {
     // Waits for the gate, has the client's next command run, or answered where it is canceled,
-    // gives its buffer back, and writes the reply.
+    // gives its buffer back, tells the gate of a full journal or a wrong answer, and writes the
+    // reply.
     pub fn run<G: Gate, R: Wait>(
         &mut self,
         rt: &R,
@@ -65,9 +66,8 @@ impl<B: Serves, K: Sink> Worker<B, K> {
         let job = next_job(&between.word, &mut self.side.seat, self.client, self.done);
         let done = shared.act(rt, &mut self.pass, job, command.as_slice(), reply);
         between.spares.give(rt, &mut self.side.spare_pass, command);
-        let written = push_all(&mut self.sink, reply.as_slice());
-        tell_full(gate, done);
-        written
+        tell_gate(gate, done);
+        push_all(&mut self.sink, reply.as_slice())
     }
 
     // Tells the client of a size that no frame has.
@@ -89,7 +89,13 @@ impl<B: Serves, K: Sink> Worker<B, K> {
     }
 
     // Closes the client.
-    pub fn close<R: Wait>(&mut self, rt: &R, shared: &Shared<B>, reply: &mut Buffer)
+    pub fn close<G: Gate, R: Wait>(
+        &mut self,
+        rt: &R,
+        shared: &Shared<B>,
+        gate: &G,
+        reply: &mut Buffer,
+    )
         requires lock { self.old.pass.lock ≡ shared.now }
         requires present { IsServed self.old.pass.known self.old.client self.old.done }
         ensures client { self.new.client ≡ self.old.client }
@@ -102,7 +108,8 @@ impl<B: Serves, K: Sink> Worker<B, K> {
         let job = Job::Close {
             client: self.client,
         };
-        shared.act(rt, &mut self.pass, job, &[], reply);
+        let done = shared.act(rt, &mut self.pass, job, &[], reply);
+        tell_gate(gate, done);
     }
 }
 
@@ -123,10 +130,12 @@ fn next_job(word: &CancelWord, seat: &mut WordSeat, client: u32, number: u64) ->
     }
 }
 
-// Tells the gate where the journal had no room for a command.
-fn tell_full<G: Gate>(gate: &G, done: Done) {
+// Tells the gate where the journal had no room for a command, and where the device gave a wrong
+// answer.
+fn tell_gate<G: Gate>(gate: &G, done: Done) {
     match done {
         Done::Told(Told::JournalFull { kept: _, limit: _ }) => gate.journal_full(),
+        Done::Told(Told::Answer) | Done::Closed(Closed::Answer) => gate.wrong_answer(),
         Done::Told(_) | Done::Opened(_) | Done::Closed(_) => {}
     }
 }

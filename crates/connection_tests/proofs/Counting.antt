@@ -107,11 +107,11 @@ is_asked refused bytes known is passes same = (bytes_eq-Decides bytes known).0 (
     not_not false e = absurd cc
 
 -- the command is entered with the place that it is answered with
-pub entered_as : {X : Type 0} (f : X → Entry) (view : BookView) (old between new : List X) (x : X) (opened present bytes limit client number place : ℕ) (command reply : List ℕ)
-    → new ≡ between ++ x ∷ [] → between ≡ old → record { entries = map f old; limit = limit } ≡ view → f x ≡ book_entry client number Command (Some place) → command ≡ asked → reply ≡ answer place
+pub entered_as : {X : Type 0} (f : X → Entry) (view : BookView) (bad : Bool) (old between new : List X) (x : X) (opened present bytes limit client number place : ℕ) (command reply : List ℕ)
+    → new ≡ between ++ x ∷ [] → between ≡ old → record { entries = map f old; limit = limit; wrong = bad } ≡ view → f x ≡ book_entry client number Command (Some place) → command ≡ asked → reply ≡ answer place
     → IsCounted (map f old) opened present bytes limit → bytes + 64 * present + 4172 ≤ limit
     → IsEntered (record { base = None; limit = view.limit; began = 0 }) view.entries (map f new) client number command reply
-entered_as f view old between new x opened present bytes limit client number place command reply pushed same is entry command_is reply_is counted room =
+entered_as f view bad old between new x opened present bytes limit client number place command reply pushed same is entry command_is reply_is counted room =
     subst (λ (v : BookView). IsEntered (record { base = None; limit = v.limit; began = 0 }) v.entries (map f new) client number command reply) is (record {
       e = book_entry client number Command (Some place);
       entered = ap (map f) (pushed ∙ ap (λ l. l ++ x ∷ []) same) ∙ map_push f old x ∙ ap (λ (e : Entry). map f old ++ e ∷ []) entry;
@@ -121,11 +121,11 @@ entered_as f view old between new x opened present bytes limit client number pla
     })
 
 -- the command is entered as a canceled one
-pub canceled_as : {X : Type 0} (f : X → Entry) (view : BookView) (old between new : List X) (x : X) (opened present bytes limit client number upto place : ℕ) (command reply : List ℕ)
-    → new ≡ between ++ x ∷ [] → between ≡ old → record { entries = map f old; limit = limit } ≡ view → f x ≡ book_entry client number (Canceled upto) (Some place) → command ≡ asked → reply ≡ error_reply RC_CANCELED
+pub canceled_as : {X : Type 0} (f : X → Entry) (view : BookView) (bad : Bool) (old between new : List X) (x : X) (opened present bytes limit client number upto place : ℕ) (command reply : List ℕ)
+    → new ≡ between ++ x ∷ [] → between ≡ old → record { entries = map f old; limit = limit; wrong = bad } ≡ view → f x ≡ book_entry client number (Canceled upto) (Some place) → command ≡ asked → reply ≡ error_reply RC_CANCELED
     → IsCounted (map f old) opened present bytes limit → bytes + 64 * present + 4172 ≤ limit
     → IsCanceled view.limit view.entries (map f new) client number upto command reply
-canceled_as f view old between new x opened present bytes limit client number upto place command reply pushed same is entry command_is reply_is counted room =
+canceled_as f view bad old between new x opened present bytes limit client number upto place command reply pushed same is entry command_is reply_is counted room =
     subst (λ (v : BookView). IsCanceled v.limit v.entries (map f new) client number upto command reply) is (record {
       entered = ap (map f) (pushed ∙ ap (λ l. l ++ x ∷ []) same) ∙ map_push f old x ∙ ap (λ (e : Entry). map f old ++ e ∷ []) entry
           ∙ (λ i. map f old ++ canceled_entry client number upto (sym command_is i) (sym reply_is i) ∷ []);

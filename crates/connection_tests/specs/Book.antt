@@ -1,5 +1,5 @@
 -- The value that the tests put under a lock, and a history of it. It answers one command, GetRandom of eight bytes, with the place of its entry.
-use Rattle.std.specs.Prelude.{◌≡◌, ◌≤◌, ℕ, ◌*◌, ◌+◌, List, [], ◌∷◌, length, Option, Some, None}
+use Rattle.std.specs.Prelude.{◌≡◌, ◌≤◌, ℕ, ◌*◌, ◌+◌, Bool, List, [], ◌∷◌, length, Option, Some, None}
 use Rattle.history_spec.specs.declared.EntryKind.{EntryKind}
 use Rattle.history_spec.specs.declared.Pick.TheVariants.{Nothing}
 use Rattle.history_spec.specs.declared.TheConstants.{ENTRY_BYTES}
@@ -49,6 +49,8 @@ book_entry client number kind place = record {
 pub record BookView : Type 0 where
   pub entries : List Entry
   pub limit : ℕ
+  -- whether it told of a wrong answer
+  pub wrong : Bool
 
 -- its counts are those of its history, which is within its limit
 pub record IsCounted (entries : List Entry) (opened present bytes limit : ℕ) : Type 0 where

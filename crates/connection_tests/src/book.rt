@@ -1,6 +1,6 @@
 //! The value of the tests: it keeps a history in memory, and there is no device.
 
-ghost use Rattle.std.specs.Prelude.{◌≡◌, ◌≤◌, [], ◌++◌, ◌∷◌, length, IfOk};
+ghost use Rattle.std.specs.Prelude.{◌≡◌, ◌≤◌, [], ◌++◌, ◌∷◌, false, length, IfOk};
 ghost use Rattle.connection_tests.specs.Book.{answer};
 
 use broker_lock::{Closed, OpenClientError, Recorded, Serves, Told};
@@ -29,7 +29,8 @@ pub struct Item {
 }
 
 /// A history that answers GetRandom of eight bytes with the place of its entry, cancels it where
-/// that is asked, and refuses every other command. It says at each close that something is left.
+/// that is asked, and takes every other command as one that met a wrong answer: from then on each
+/// call tells of that. Before, it says at each close that something is left.
 #[derive(Drop)]
 pub struct Book {
     items: Vec<Item>,
@@ -37,6 +38,7 @@ pub struct Book {
     present: u64,
     bytes: u64,
     limit: u32,
+    is_wrong: bool,
 }
 
 impl Model for Book {
@@ -48,6 +50,7 @@ impl Model for Book {
     ghost view = { λ b. record {
       entries = map (λ i. book_entry i.client i.number i.kind i.place) b.items.items;
       limit = b.limit;
+      wrong = b.is_wrong;
     } };
 
     // There is room for as many entries as the limit allows.
@@ -72,7 +75,7 @@ impl Book {
     /// An empty history, which takes all its memory here.
     pub fn new(alloc: Global, limit: u32) -> Result<Book, AllocError>
         ensures empty { IfOk result (λ b. b.entries ≡ []) }
-        ensures limit { IfOk result (λ b. b.limit ≡ limit) }
+        ensures limit { IfOk result (λ b. (b.limit ≡ limit) × (b.wrong ≡ false)) }
     {
         let most = limit as usize / ENTRY_BYTES as usize + 1;
         Ok(Book {
@@ -81,11 +84,17 @@ impl Book {
             present: 0,
             bytes: 0,
             limit,
+            is_wrong: false,
         })
     }
 
     pub fn items(&self) -> &[Item] {
         &self.items
+    }
+
+    // Whether a command met a wrong answer.
+    pub fn is_wrong(&self) -> bool {
+        self.is_wrong
     }
 
     // Whether it has entries of these kinds.
@@ -121,6 +130,8 @@ impl Recorded for Book {
 
     ghost fixed = { λ b. record { base = None; limit = b.limit; began = 0 } };
 
+    ghost wrong = { λ b. b.wrong };
+
     fn entries(&self) -> u64 {
         self.items.len() as u64
     }
@@ -128,6 +139,9 @@ impl Recorded for Book {
 
 impl Serves for Book {
     fn open_client(&mut self) -> Result<u32, OpenClientError> {
+        if self.is_wrong {
+            return Err(OpenClientError::Answer);
+        }
         let reserved = self.bytes + ENTRY_BYTES * self.present;
         if reserved + 2 * ENTRY_BYTES > u64::from(self.limit) {
             return Err(OpenClientError::JournalFull {
@@ -149,7 +163,12 @@ impl Serves for Book {
     }
 
     fn command(&mut self, client: u32, number: u64, bytes: &[u8], reply: &mut Buffer) -> Told {
+        if self.is_wrong {
+            error_reply(RC_DEVICE_ANSWER, reply);
+            return Told::Answer;
+        }
         if bytes != ASKED.as_slice() {
+            self.is_wrong = true;
             error_reply(RC_DEVICE_ANSWER, reply);
             return Told::Answer;
         }
@@ -181,7 +200,12 @@ impl Serves for Book {
         upto: u64,
         reply: &mut Buffer,
     ) -> Told {
+        if self.is_wrong {
+            error_reply(RC_DEVICE_ANSWER, reply);
+            return Told::Answer;
+        }
         if bytes != ASKED.as_slice() {
+            self.is_wrong = true;
             error_reply(RC_DEVICE_ANSWER, reply);
             return Told::Answer;
         }
@@ -213,6 +237,9 @@ impl Serves for Book {
         });
         self.present -= 1;
         self.bytes += ENTRY_BYTES;
+        if self.is_wrong {
+            return Closed::Answer;
+        }
         Closed::Orphans(1)
     }
 

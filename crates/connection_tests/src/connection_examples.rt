@@ -1,6 +1,6 @@
 //! Worked examples: what the definitions take, and what they refuse.
 
-ghost use Rattle.std.specs.Prelude.{◌≡◌, [], ◌∷◌, Some, None};
+ghost use Rattle.std.specs.Prelude.{◌≡◌, [], ◌∷◌, Some, None, true, false};
 ghost use Rattle.tab_spec.specs.Count.{largest_count};
 ghost use Rattle.tab_spec.specs.Persist.{Persist};
 ghost use Rattle.tab_spec.specs.Reply.{error_reply};
@@ -18,19 +18,23 @@ ghost use Rattle.connection_core.specs.Rounds.{IsAtEnd, IsTaken};
 // Client 0 has an entry of its first command and none of its second. Before its close 224 bytes are
 // kept or reserved for it, so the second command lacks room below a limit of 4,396 bytes.
 fn a_client_is_told_its_replies()
-    ensures entered { IsTold (with_limit None 4408) one_client 0 1 asked (answer 1) }
-    ensures another_reply { IsTold (with_limit None 4408) one_client 0 1 asked (answer 2) → ⊥ }
-    ensures another_command { IsTold (with_limit None 4408) one_client 0 1 [] (answer 1) → ⊥ }
+    ensures entered { IsTold (with_limit None 4408) false one_client 0 1 asked (answer 1) }
+    ensures another_reply { IsTold (with_limit None 4408) false one_client 0 1 asked (answer 2)
+        → ⊥ }
+    ensures another_command { IsTold (with_limit None 4408) false one_client 0 1 [] (answer 1) → ⊥ }
     // It makes no object.
-    ensures memory { IsTold (with_limit None 4408) one_client 0 2 asked
+    ensures memory { IsTold (with_limit None 4408) false one_client 0 2 asked
         (error_reply RC_MEMORY) → ⊥ }
-    ensures full { IsTold (with_limit None 4395) one_client 0 2 asked
+    ensures full { IsTold (with_limit None 4395) false one_client 0 2 asked
         (error_reply RC_JOURNAL_FULL) }
-    ensures not_full { IsTold (with_limit None 4396) one_client 0 2 asked
+    ensures not_full { IsTold (with_limit None 4396) false one_client 0 2 asked
         (error_reply RC_JOURNAL_FULL) → ⊥ }
-    ensures untold { IsTold (with_limit None 4408) one_client 0 2 asked
+    ensures untold { IsTold (with_limit None 4408) true one_client 0 2 asked
         (error_reply RC_DEVICE_ANSWER) }
-    ensures told { (base : Persist) → IsTold (with_limit (Some base) 4408) one_client 0 2 asked
+    ensures none_came { IsTold (with_limit None 4408) false one_client 0 2 asked
+        (error_reply RC_DEVICE_ANSWER) → ⊥ }
+    ensures told { (base : Persist)
+        → IsTold (with_limit (Some base) 4408) false one_client 0 2 asked
         (error_reply RC_DEVICE_ANSWER) → ⊥ }
 {}
 
@@ -50,9 +54,10 @@ fn commands_are_canceled()
         (canceled_entry 0 1 1 asked (error_reply RC_CANCELED) ∷ []) }
     ensures below { IsCanceledUpTo 0 1 0 asked
         (canceled_entry 0 1 0 asked (error_reply RC_CANCELED)) → ⊥ }
-    ensures told { IsTold (with_limit None 4408) canceled_client 0 1 asked
+    ensures told { IsTold (with_limit None 4408) false canceled_client 0 1 asked
         (error_reply RC_CANCELED) }
-    ensures answered { IsTold (with_limit None 4408) canceled_client 0 1 asked (answer 1) → ⊥ }
+    ensures answered { IsTold (with_limit None 4408) false canceled_client 0 1 asked (answer 1)
+        → ⊥ }
 {}
 
 // The word that was loaded before a command says whether its entry is a canceled one.

@@ -171,12 +171,18 @@ impl Outcome {
 
     // Whether the gate was asked once a command, in order, no pull came while the first command was
     // held, the end of the input was pulled once, and the sink was ended once behind the close, and
-    // before it after a failed write or without a client. And whether nobody waited in vain.
+    // before it after a failed write or without a client. Whether the gate was told of a wrong
+    // answer where there was one, and once where there was no room. And whether nobody waited in
+    // vain.
     pub fn is_orderly(&self) -> bool {
         let seen = self.seen;
         let is_early = self.ending == Ending::WriteFault || self.client.is_none();
         let closes = u64::from(self.client.is_some());
-        seen.asked == self.done
+        let is_full = matches!(self.ending, Ending::JournalFull { .. })
+            || self.written.as_slice() == TOLD_FULL.as_slice();
+        seen.full == u64::from(is_full)
+            && (seen.wrong > 0) == self.book.is_wrong()
+            && seen.asked == self.done
             && seen.in_order
             && seen.ahead == self.ahead
             && seen.dry_pulls <= 1

@@ -152,6 +152,52 @@ fn what_is_refused_has_no_entry(rt: HostRuntime) -> Result<(), Fail> {
     Ok(())
 }
 
+// What two commands of a client are answered, its close, and another opening, where the first
+// command meets a wrong answer.
+fn ask_after_wrong<R: Wait>(
+    rt: &R,
+    shared: &Shared<Book>,
+    pass: &mut Pass<Book>,
+    reply: &mut Buffer,
+) -> [Done; 4]
+    requires lock { pass.old.lock ≡ shared.now }
+    requires nobody { pass.old.known ≡ [] }
+    ensures lock { pass.new.lock ≡ pass.old.lock }
+    ensures parts { pass.new.parts ≡ pass.old.parts }
+{
+    let mut told = [Done::Closed(Closed::Clean); 4];
+    let Done::Opened(Ok(client)) = shared.act(rt, pass, Job::Open, &[], reply) else {
+        return told;
+    };
+    let commands: [&[u8]; 2] = [&[5, 6], &ASKED];
+    for i in 0..2 {
+        let job = Job::Command {
+            client,
+            number: i as u64 + 1,
+        };
+        told[i] = shared.act(rt, pass, job, commands[i], reply);
+    }
+    told[2] = shared.act(rt, pass, Job::Close { client }, &[], reply);
+    told[3] = shared.act(rt, pass, Job::Open, &[], reply);
+    told
+}
+
+#[test]
+fn a_wrong_answer_is_told_from_then_on(rt: HostRuntime) -> Result<(), Fail> {
+    let alloc = rt.alloc();
+    let mut reply = Buffer::new(alloc)?;
+    let (shared, mut pass) = match Shared::new(alloc, Book::new(alloc, 1_000_000)?) {
+        Ok(made) => made,
+        Err((error, _)) => return Err(Fail::from(error)),
+    };
+    let told = ask_after_wrong(&rt, &shared, &mut pass, &mut reply);
+    shared.close(pass);
+    let command = Done::Told(Told::Answer);
+    let opening = Done::Opened(Err(OpenClientError::Answer));
+    assert!(rt; told == [command, command, Done::Closed(Closed::Answer), opening]);
+    Ok(())
+}
+
 #[test]
 fn a_pass_is_cut_from_a_pass(rt: HostRuntime) -> Result<(), Fail> {
     let alloc = rt.alloc();

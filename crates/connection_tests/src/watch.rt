@@ -19,8 +19,9 @@ const LOOK: u64 = 400;
 
 /// How often a source was pulled from, and how often nothing came; how often a sink was pushed to,
 /// and ended before and after its client was closed; how often clients were closed, and a gate was
-/// asked. How many pulls there were when the first command was let go, whether the gate was asked
-/// for each command of client 0 in turn, and whether somebody waited in vain.
+/// asked, and told of a full journal and of a wrong answer. How many pulls there were when the
+/// first command was let go, whether the gate was asked for each command of client 0 in turn and
+/// told nothing after the end, and whether somebody waited in vain.
 #[derive(Clone, Copy)]
 pub struct Seen {
     pub pulls: u64,
@@ -30,6 +31,8 @@ pub struct Seen {
     pub late_ends: u64,
     pub closes: u64,
     pub asked: u64,
+    pub full: u64,
+    pub wrong: u64,
     pub ahead: u64,
     pub in_order: bool,
     pub in_vain: bool,
@@ -44,6 +47,8 @@ enum Event {
     End,
     Close,
     Ask { client: u32, number: u64 },
+    Full,
+    Wrong,
 }
 
 impl Seen {
@@ -60,6 +65,14 @@ impl Seen {
             Event::Ask { client, number } => {
                 now.asked = now.asked.saturating_add(1);
                 now.in_order = now.in_order && client == 0 && number == now.asked;
+            }
+            Event::Full => {
+                now.full = now.full.saturating_add(1);
+                now.in_order = now.in_order && now.late_ends == 0;
+            }
+            Event::Wrong => {
+                now.wrong = now.wrong.saturating_add(1);
+                now.in_order = now.in_order && now.late_ends == 0;
             }
         }
         now
@@ -119,6 +132,8 @@ impl<'a, R: Wait + Clock> Watch<'a, R> {
                 late_ends: 0,
                 closes: 0,
                 asked: 0,
+                full: 0,
+                wrong: 0,
                 ahead: 0,
                 in_order: true,
                 in_vain: false,
@@ -284,6 +299,14 @@ impl<R: Wait + Clock + Sync> Gate for WatchedGate<'_, R> {
     fn is_open(&self) -> bool {
         self.open
     }
+
+    fn journal_full(&self) {
+        self.watch.count(Event::Full);
+    }
+
+    fn wrong_answer(&self) {
+        self.watch.count(Event::Wrong);
+    }
 }
 
 /// The value of the tests, whose closes are watched and whose commands take a while.
@@ -299,6 +322,8 @@ impl<R: Wait + Clock> Recorded for WatchedBook<'_, R> {
     ghost legal = { λ _ _. ⊥ };
 
     ghost fixed = { λ b. record { base = None; limit = b.book.limit; began = 0 } };
+
+    ghost wrong = { λ b. b.book.wrong };
 
     fn entries(&self) -> u64 {
         self.book.entries()

@@ -59,14 +59,14 @@ impl<D: Device> Recorded for Watched<D> {
       began = w.played.broker.began;
     } };
 
+    ghost wrong = { λ w. is_some w.played.broker.wrong_code };
+
     fn entries(&self) -> u64 {
         self.played.entries()
     }
 }
 
 impl<D: Device> Runs for Watched<D> {
-    ghost met_wrong = { λ w. is_some w.played.broker.wrong_code };
-
     fn open_client(&mut self) -> Result<u32, OpenClientError> {
         self.played.open_client()
     }

@@ -2,7 +2,7 @@
 use Rattle.std.proofs.Common.{◌≡◌, ◌≤◌, ◌-◌, ℕ, Bool, true, false, cond, true≢false, List, [], ◌∷◌, ◌++◌, length, drop, Option, Result, Ok, Err, refl, sym, ap, subst, ◌∙◌, inl, inr, append-nil, arith, suc}
 use Rattle.std.specs.Prelude.{All, OnOk, map}
 use Rattle.std.specs.List.{AllByRecursion, list_any, sum_by}
-use Rattle.std.proofs.lemmas.List.Elements.{All-nil, recursion_from_All}
+use Rattle.std.proofs.lemmas.List.Elements.{All-from_recursion, All-nil, recursion_from_All}
 use Rattle.std.proofs.lemmas.List.Sums.{sum_by-cons}
 use Rattle.tab_spec.specs.Count.{Rose}
 use Rattle.tab_spec.specs.Persist.{Persist}
@@ -17,7 +17,7 @@ use Rattle.accept_loop.specs.declared.serving.AcceptError.{AcceptError}
 use Rattle.accept_loop.specs.declared.serving.AcceptError.TheVariants as errors
 use Rattle.accept_loop.specs.Connections.{Ends, HasPerhapsClient, ends_of, is_of, links_of}
 use Rattle.accept_loop.proofs.Closing.{client_left, is_this}
-use Rattle.accept_loop.proofs.Linking.{as_count, first_same, links-cons}
+use Rattle.accept_loop.proofs.Linking.{as_count, first_same, link_stays, links-cons}
 use Rattle.accept_loop.proofs.Present.{nobody_left, times_after, times_of}
 use Rattle.link_pool.specs.declared.turn.Stage.{Stage}
 use Rattle.link_pool.specs.declared.turn.Stage.TheVariants as stages
@@ -97,7 +97,7 @@ module _ {S K : Type 0} (legal : Persist → List Entry → Type 0) (left : S �
   abbrev word_of : Done → Option WordView
   word_of s = s.word
 
-  abbrev is_link_of : Fixed → List Entry → Done → Type 0
+  abbrev is_link_of : Fixed → (wrong : Bool) → List Entry → Done → Type 0
   is_link_of = IsServed left written source_faults sink_faults
 
   abbrev Is : HandView Link → PassView → List Done → Bool → List Link → Type 0
@@ -130,32 +130,48 @@ module _ {S K : Type 0} (legal : Persist → List Entry → Type 0) (left : S �
 
   -- ---- all clients are closed
 
-  link_left : (fixed : Fixed) (history : List Entry) (client : ℕ) (served : List Done) → AllByRecursion (is_link_of fixed history) served → 1 ≤ links_of client_of client served → times_after 0 (own history client) ≡ 0
-  link_left fixed history client [] each some = absurd (omega (arith, some))
-  link_left fixed history client (s ∷ served) each some = by_this (is_of client (client_of s)) refl (link_left fixed history client served each.1)
+  link_left : (fixed : Fixed) (wrong : Bool) (history : List Entry) (client : ℕ) (served : List Done) → AllByRecursion (is_link_of fixed wrong history) served → 1 ≤ links_of client_of client served → times_after 0 (own history client) ≡ 0
+  link_left fixed wrong history client [] each some = absurd (omega (arith, some))
+  link_left fixed wrong history client (s ∷ served) each some = by_this (is_of client (client_of s)) refl (link_left fixed wrong history client served each.1)
     where
       by_this : (b : Bool) → is_of client (client_of s) ≡ b → (1 ≤ links_of client_of client served → times_after 0 (own history client) ≡ 0) → times_after 0 (own history client) ≡ 0
-      by_this true is rest = client_left fixed history (before s) (after s) client (done_of s) (ending_of s) (word_of s)
-          (subst (λ (c : Option ℕ). HasPerhapsClient c fixed history (before s) (after s) (done_of s) (ending_of s) (word_of s)) (is_this client (client_of s) is) each.0.ended)
+      by_this true is rest = client_left fixed wrong history (before s) (after s) client (done_of s) (ending_of s) (word_of s)
+          (subst (λ (c : Option ℕ). HasPerhapsClient c fixed wrong history (before s) (after s) (done_of s) (ending_of s) (word_of s)) (is_this client (client_of s) is) each.0.ended)
       by_this false is rest =
           rest (let none : as_count (is_of client (client_of s)) ≡ 0 = ap as_count is in omega (arith, some, links-cons client_of client s served, none))
 
-  all_closed : (fixed : Fixed) (history : List Entry) (served : List Done) → All (is_link_of fixed history) served → ((client : ℕ) → links_of client_of client served ≡ cond (knows history client) 1 0)
+  all_closed : (fixed : Fixed) (wrong : Bool) (history : List Entry) (served : List Done) → All (is_link_of fixed wrong history) served → ((client : ℕ) → links_of client_of client served ≡ cond (knows history client) 1 0)
       → (clients_of history).present ≡ []
-  all_closed fixed history served each clients = nobody_left (clients_of history).present (λ client. times_of client history ∙ by_known client (knows history client) refl)
+  all_closed fixed wrong history served each clients = nobody_left (clients_of history).present (λ client. times_of client history ∙ by_known client (knows history client) refl)
     where
       by_known : (client : ℕ) (b : Bool) → knows history client ≡ b → times_after 0 (own history client) ≡ 0
-      by_known client true known = link_left fixed history client served (recursion_from_All (is_link_of fixed history) served each)
+      by_known client true known = link_left fixed wrong history client served (recursion_from_All (is_link_of fixed wrong history) served each)
           (let one : as_count (knows history client) ≡ 1 = ap as_count known in omega (arith, clients client, one))
       by_known client false known = ap (λ (l : List Entry). times_after 0 l) (own_none client history known)
 
+  -- ---- a wrong answer may have come since
+
+  each_rises : (fixed : Fixed) (wrong new_wrong : Bool) (history : List Entry) (served : List Done) → (wrong ≡ true → new_wrong ≡ true) → AllByRecursion (is_link_of fixed wrong history) served
+      → AllByRecursion (is_link_of fixed new_wrong history) served
+  each_rises fixed wrong new_wrong history [] rises each = tt
+  each_rises fixed wrong new_wrong history (s ∷ served) rises each = (
+    subst (λ (h : List Entry). is_link_of fixed new_wrong h s) (append-nil history)
+        (link_stays fixed wrong new_wrong history [] (before s) (after s) (client_of s) (done_of s) (ending_of s) (word_of s) rises (λ c is. refl) each.0),
+    each_rises fixed wrong new_wrong history served rises each.1,
+  )
+
+  all_rise : (fixed : Fixed) (wrong new_wrong : Bool) (history : List Entry) (served : List Done) → (wrong ≡ true → new_wrong ≡ true) → All (is_link_of fixed wrong history) served
+      → All (is_link_of fixed new_wrong history) served
+  all_rise fixed wrong new_wrong history served rises each =
+      All-from_recursion (is_link_of fixed new_wrong history) served (each_rises fixed wrong new_wrong history served rises (recursion_from_All (is_link_of fixed wrong history) served each))
+
   -- ---- all that came were served
 
-  ended_all : (start : Start Link) (name faults : ℕ) (coming : Option (List Link)) (most : ℕ) (fixed : Fixed) (history : List Entry) (left_over count : ℕ) (stage : Stage) (accepted : List Link) (served : List Done) (lacked : Bool)
-      → Keeps start name faults coming left_over stage accepted → start.most ≡ most → is_over stage ≡ true → IsLegalOver legal fixed.base history → All (is_link_of fixed history) served
+  ended_all : (start : Start Link) (name faults : ℕ) (coming : Option (List Link)) (most : ℕ) (fixed : Fixed) (wrong : Bool) (history : List Entry) (left_over count : ℕ) (stage : Stage) (accepted : List Link) (served : List Done) (lacked : Bool)
+      → Keeps start name faults coming left_over stage accepted → start.most ≡ most → is_over stage ≡ true → IsLegalOver legal fixed.base history → All (is_link_of fixed wrong history) served
       → ((client : ℕ) → links_of client_of client served ≡ cond (knows history client) 1 0) → WeighAlike (map given_of served) accepted → lacked ≡ list_any is_lacking served → count ≡ most - left_over
-      → ServesAll legal is_link_of given_of client_of is_lacking fixed fixed history start.coming coming start.faults faults most (outcome_of stage) count lacked served
-  ended_all start name faults coming most fixed history left_over count stage accepted served lacked k most_is over was each clients once lacks is = record {
+      → ServesAll legal is_link_of given_of client_of is_lacking fixed fixed wrong history start.coming coming start.faults faults most (outcome_of stage) count lacked served
+  ended_all start name faults coming most fixed wrong history left_over count stage accepted served lacked k most_is over was each clients once lacks is = record {
     fixed_is = refl;
     is_legal = was;
     served_is = record {
@@ -166,7 +182,7 @@ module _ {S K : Type 0} (legal : Persist → List Entry → Type 0) (left : S �
       once = once;
       clients = clients;
     };
-    closed = all_closed fixed history served each clients;
+    closed = all_closed fixed wrong history served each clients;
     enough = enough_by start.faults faults most left_over count coming stage over is k.come;
     quiet = quiet_by start.faults faults most left_over count coming stage over k.come;
     failed = failed_by start.faults faults most left_over count coming stage k.come;
@@ -177,36 +193,37 @@ module _ {S K : Type 0} (legal : Persist → List Entry → Type 0) (left : S �
   }
 
   -- the same where the lock was closed, and the calls tell the rest
-  pub serves_all : (start : Start Link) (name faults : ℕ) (coming coming_old : Option (List Link)) (faults_old name_old most : ℕ) (first pass : PassView) (fixed fixed_new : Fixed) (history : List Entry) (left_over count : ℕ) (stage : Stage)
+  pub serves_all : (start : Start Link) (name faults : ℕ) (coming coming_old : Option (List Link)) (faults_old name_old most : ℕ) (first pass : PassView) (fixed fixed_new : Fixed) (wrong : Bool) (history : List Entry) (left_over count : ℕ) (stage : Stage)
       (accepted : List Link) (served : List Done) (lacked : Bool) (result : Outcome)
       → start ≡ start_of coming_old faults_old name_old most → Keeps start name faults coming left_over stage accepted → is_over stage ≡ true
-      → HasEnded legal is_link_of given_of client_of is_lacking first pass accepted served lacked → first.fixed ≡ fixed → EndsLock pass history fixed_new → count ≡ most - left_over → result ≡ outcome_of stage
-      → ServesAll legal is_link_of given_of client_of is_lacking fixed fixed_new history coming_old coming faults_old faults most result count lacked served
-  serves_all start name faults coming coming_old faults_old name_old most first pass fixed fixed_new history left_over count stage accepted served lacked result begun k over ended same ends is told =
+      → HasEnded legal is_link_of given_of client_of is_lacking first pass accepted served lacked → first.fixed ≡ fixed → EndsLock pass history fixed_new wrong → count ≡ most - left_over → result ≡ outcome_of stage
+      → ServesAll legal is_link_of given_of client_of is_lacking fixed fixed_new wrong history coming_old coming faults_old faults most result count lacked served
+  serves_all start name faults coming coming_old faults_old name_old most first pass fixed fixed_new wrong history left_over count stage accepted served lacked result begun k over ended same ends is told =
       let pass_fixed : pass.fixed ≡ fixed = ended.fixed_is ∙ same in
       let was : IsLegalOver legal fixed.base history = subst (λ (f : Fixed). IsLegalOver legal f.base history) pass_fixed (subst (λ (l : List Entry). IsLegalOver legal pass.fixed.base l) (sym ends.front) ended.known.is_legal) in
-      let each : All (is_link_of fixed history) served = subst (λ (f : Fixed). All (is_link_of f history) served) pass_fixed (subst (λ (l : List Entry). All (is_link_of pass.fixed l) served) (sym ends.front) ended.known.each) in
+      let each : All (is_link_of fixed wrong history) served = all_rise fixed pass.wrong wrong history served ends.told
+      (subst (λ (f : Fixed). All (is_link_of f pass.wrong history) served) pass_fixed (subst (λ (l : List Entry). All (is_link_of pass.fixed pass.wrong l) served) (sym ends.front) ended.known.each)) in
       let clients : (client : ℕ) → links_of client_of client served ≡ cond (knows history client) 1 0 = λ client. ended.known.clients client ∙ ap (λ (l : List Entry). as_count (knows l client)) (sym ends.known) in
       let kept : Keeps (start_of coming_old faults_old name_old most) name faults coming left_over stage accepted = subst (λ (s : Start Link). Keeps s name faults coming left_over stage accepted) begun k in
-      subst (λ (r : Outcome). ServesAll legal is_link_of given_of client_of is_lacking fixed fixed_new history coming_old coming faults_old faults most r count lacked served) (sym told)
-      (subst (λ (f : Fixed). ServesAll legal is_link_of given_of client_of is_lacking fixed f history coming_old coming faults_old faults most (outcome_of stage) count lacked served) (sym (ends.fixed_is ∙ pass_fixed))
-      (ended_all (start_of coming_old faults_old name_old most) name faults coming most fixed history left_over count stage accepted served lacked kept refl over was each clients ended.once ended.lacked_is is))
+      subst (λ (r : Outcome). ServesAll legal is_link_of given_of client_of is_lacking fixed fixed_new wrong history coming_old coming faults_old faults most r count lacked served) (sym told)
+      (subst (λ (f : Fixed). ServesAll legal is_link_of given_of client_of is_lacking fixed f wrong history coming_old coming faults_old faults most (outcome_of stage) count lacked served) (sym (ends.fixed_is ∙ pass_fixed))
+      (ended_all (start_of coming_old faults_old name_old most) name faults coming most fixed wrong history left_over count stage accepted served lacked kept refl over was each clients ended.once ended.lacked_is is))
 
   -- nobody was served, for want of memory
-  pub serves_nobody : (fixed fixed_new : Fixed) (history given : List Entry) (coming : Option (List Link)) (faults most : ℕ) (result : Outcome) (count : ℕ) (lacked : Bool) (served : List Done)
+  pub serves_nobody : (fixed fixed_new : Fixed) (wrong : Bool) (history given : List Entry) (coming : Option (List Link)) (faults most : ℕ) (result : Outcome) (count : ℕ) (lacked : Bool) (served : List Done)
       → fixed_new ≡ fixed → history ≡ given → given ≡ [] → IsLegalOver legal fixed.base given → result ≡ Err errors.Memory → count ≡ 0 → lacked ≡ false → served ≡ []
-      → ServesAll legal is_link_of given_of client_of is_lacking fixed fixed_new history coming coming faults faults most result count lacked served
-  serves_nobody fixed fixed_new history given coming faults most result count lacked served same is empty was memory nobody not_lacked none =
+      → ServesAll legal is_link_of given_of client_of is_lacking fixed fixed_new wrong history coming coming faults faults most result count lacked served
+  serves_nobody fixed fixed_new wrong history given coming faults most result count lacked served same is empty was memory nobody not_lacked none =
       let nothing : history ≡ [] = is ∙ empty in
-      subst (λ (l : List Done). ServesAll legal is_link_of given_of client_of is_lacking fixed fixed_new history coming coming faults faults most result count lacked l) (sym none)
-      (subst (λ (r : Outcome). ServesAll legal is_link_of given_of client_of is_lacking fixed fixed_new history coming coming faults faults most r count lacked []) (sym memory) (record {
+      subst (λ (l : List Done). ServesAll legal is_link_of given_of client_of is_lacking fixed fixed_new wrong history coming coming faults faults most result count lacked l) (sym none)
+      (subst (λ (r : Outcome). ServesAll legal is_link_of given_of client_of is_lacking fixed fixed_new wrong history coming coming faults faults most r count lacked []) (sym memory) (record {
         fixed_is = same;
         is_legal = subst (λ (l : List Entry). IsLegalOver legal fixed.base l) (sym is) was;
         served_is = record {
           accepted = [];
           first = first_same coming coming refl;
           within = omega arith;
-          each = All-nil (is_link_of fixed history);
+          each = All-nil (is_link_of fixed wrong history);
           once = λ h. refl;
           clients = λ c. ap (λ (h : List Entry). as_count (knows h c)) (sym nothing);
         };
@@ -219,13 +236,14 @@ module _ {S K : Type 0} (legal : Persist → List Entry → Type 0) (left : S �
       }))
 
   -- the same of a value and an acceptor that calls tell in other words
-  pub serves_as : (fixed fixed_new fixed_told : Fixed) (fixed_given : Fixed) (history told : List Entry) (coming coming_new coming_told : Option (List Link)) (faults faults_new faults_told most : ℕ) (result : Outcome) (count : ℕ) (lacked : Bool) (served : List Done)
-      → fixed ≡ fixed_given → fixed_new ≡ fixed_told → history ≡ told → coming_new ≡ coming_told → faults_new ≡ faults_told
-      → ServesAll legal is_link_of given_of client_of is_lacking fixed fixed_new history coming coming_new faults faults_new most result count lacked served
-      → ServesAll legal is_link_of given_of client_of is_lacking fixed_given fixed_told told coming coming_told faults faults_told most result count lacked served
-  serves_as fixed fixed_new fixed_told fixed_given history told coming coming_new coming_told faults faults_new faults_told most result count lacked served f n h c q all =
-      subst (λ (x : Fixed). ServesAll legal is_link_of given_of client_of is_lacking x fixed_told told coming coming_told faults faults_told most result count lacked served) f
-      (subst (λ (x : Fixed). ServesAll legal is_link_of given_of client_of is_lacking fixed x told coming coming_told faults faults_told most result count lacked served) n
-      (subst (λ (x : List Entry). ServesAll legal is_link_of given_of client_of is_lacking fixed fixed_new x coming coming_told faults faults_told most result count lacked served) h
-      (subst (λ (x : Option (List Link)). ServesAll legal is_link_of given_of client_of is_lacking fixed fixed_new history coming x faults faults_told most result count lacked served) c
-      (subst (λ (x : ℕ). ServesAll legal is_link_of given_of client_of is_lacking fixed fixed_new history coming coming_new faults x most result count lacked served) q all))))
+  pub serves_as : (fixed fixed_new fixed_told : Fixed) (fixed_given : Fixed) (wrong wrong_told : Bool) (history told : List Entry) (coming coming_new coming_told : Option (List Link)) (faults faults_new faults_told most : ℕ) (result : Outcome) (count : ℕ) (lacked : Bool) (served : List Done)
+      → fixed ≡ fixed_given → fixed_new ≡ fixed_told → wrong ≡ wrong_told → history ≡ told → coming_new ≡ coming_told → faults_new ≡ faults_told
+      → ServesAll legal is_link_of given_of client_of is_lacking fixed fixed_new wrong history coming coming_new faults faults_new most result count lacked served
+      → ServesAll legal is_link_of given_of client_of is_lacking fixed_given fixed_told wrong_told told coming coming_told faults faults_told most result count lacked served
+  serves_as fixed fixed_new fixed_told fixed_given wrong wrong_told history told coming coming_new coming_told faults faults_new faults_told most result count lacked served f n w h c q all =
+      subst (λ (x : Fixed). ServesAll legal is_link_of given_of client_of is_lacking x fixed_told wrong_told told coming coming_told faults faults_told most result count lacked served) f
+      (subst (λ (x : Fixed). ServesAll legal is_link_of given_of client_of is_lacking fixed x wrong_told told coming coming_told faults faults_told most result count lacked served) n
+      (subst (λ (x : Bool). ServesAll legal is_link_of given_of client_of is_lacking fixed fixed_new x told coming coming_told faults faults_told most result count lacked served) w
+      (subst (λ (x : List Entry). ServesAll legal is_link_of given_of client_of is_lacking fixed fixed_new wrong x coming coming_told faults faults_told most result count lacked served) h
+      (subst (λ (x : Option (List Link)). ServesAll legal is_link_of given_of client_of is_lacking fixed fixed_new wrong history coming x faults faults_told most result count lacked served) c
+      (subst (λ (x : ℕ). ServesAll legal is_link_of given_of client_of is_lacking fixed fixed_new wrong history coming coming_new faults x most result count lacked served) q all)))))

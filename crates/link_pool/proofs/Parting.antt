@@ -61,10 +61,10 @@ module _ {S K : Type 0} (legal : Persist → List Entry → Type 0) (left : S �
 
   -- the first server, once it gave the turn
   pub server_first : (first hand_new : HandView Link) (accepted : List Link) (pass : PassView) (lock : TableId) (fixed : Fixed) (history : List Entry) (served : List Done) → first ≡ first_view → accepted ≡ []
-      → hand_new ≡ without_turn first accepted → pass ≡ record { lock = lock; fixed = fixed; front = []; known = []; parts = 1024 } → history ≡ [] → IsLegalOver legal fixed.base history → served ≡ []
+      → hand_new ≡ without_turn first accepted → pass ≡ record { lock = lock; fixed = fixed; front = []; known = []; parts = 1024; wrong = false } → history ≡ [] → IsLegalOver legal fixed.base history → served ≡ []
       → Is hand_new pass served false []
   server_first first hand_new accepted pass lock fixed history served first_is nothing given pass_is empty was none =
-      let begun : PassView = record { lock = lock; fixed = fixed; front = []; known = []; parts = 1024 } in
+      let begun : PassView = record { lock = lock; fixed = fixed; front = []; known = []; parts = 1024; wrong = false } in
       let now : hand_new ≡ resting = given ∙ (λ i. without_turn (first_is i) (nothing i)) in
       subst (λ (v : HandView Link). Is v pass served false []) (sym now)
       (subst (λ (p : PassView). Is (resting) p served false []) (sym pass_is)

@@ -1,5 +1,5 @@
 -- What a pass knows of the connections that were served with it, and with the pass that it is joined with.
-use Rattle.std.proofs.Common.{◌≡◌, ◌≤◌, ◌+◌, ℕ, true, true≢false, List, [], ◌∷◌, ◌++◌, Option, sym, ap, subst, ◌∙◌, arith}
+use Rattle.std.proofs.Common.{◌≡◌, ◌≤◌, ◌+◌, ℕ, Bool, true, true≢false, List, [], ◌∷◌, ◌++◌, Option, sym, ap, subst, ◌∙◌, arith}
 use Rattle.std.specs.Prelude.{All}
 use Rattle.std.specs.List.{AllByRecursion}
 use Rattle.std.proofs.lemmas.List.Elements.{All-append, All-cons, All-from_recursion, All-nil, recursion_from_All}
@@ -14,35 +14,35 @@ use Rattle.cancel_words.specs.View.{WordView}
 use Rattle.connection_core.specs.declared.ends.Ending.{Ending}
 use Rattle.accept_loop.specs.Connections.{Ends, IsLink, is_of, links_of}
 use Rattle.accept_loop.specs.Passes.{Comes}
-use Rattle.accept_loop.proofs.Linking.{as_count, ended_by, joined_known, knows_link, link_stays, links-cons, longer_legal, of_itself, own_link, prefix_one, prefix_other, some_count}
+use Rattle.accept_loop.proofs.Linking.{as_count, ended_by, joined_known, knows_link, link_stays, links-cons, longer_legal, of_itself, or_left, or_right, own_link, prefix_one, prefix_other, some_count}
 use Rattle.link_pool.specs.Servers.{Knows}
 
 module _ {M : Type 0} (given left : M → Ends) (client_of : M → Option ℕ) (done_of : M → ℕ) (ending_of : M → Ending) (word_of : M → Option WordView) where
-  abbrev pub is_link : Fixed → List Entry → M → Type 0
-  is_link fixed journal s = IsLink fixed journal (given s) (left s) (client_of s) (done_of s) (ending_of s) (word_of s)
+  abbrev pub is_link : Fixed → (wrong : Bool) → List Entry → M → Type 0
+  is_link fixed wrong journal s = IsLink fixed wrong journal (given s) (left s) (client_of s) (done_of s) (ending_of s) (word_of s)
 
   links-append : (c : ℕ) (xs ys : List M) → links_of client_of c (xs ++ ys) ≡ links_of client_of c xs + links_of client_of c ys
   links-append c xs ys = sum_by-append (λ (s : M). as_count (is_of c (client_of s))) xs ys
 
   -- ---- a longer front of the history
 
-  each_stays : (fixed : Fixed) (front more : List Entry) (served : List M) → ((c : ℕ) → 1 ≤ links_of client_of c served → own more c ≡ [])
-      → AllByRecursion (is_link fixed front) served → AllByRecursion (is_link fixed (front ++ more)) served
-  each_stays fixed front more [] none each = tt
-  each_stays fixed front more (s ∷ served) none each = (
-    link_stays fixed front more (given s) (left s) (client_of s) (done_of s) (ending_of s) (word_of s)
+  each_stays : (fixed : Fixed) (wrong new_wrong : Bool) (front more : List Entry) (served : List M) → (wrong ≡ true → new_wrong ≡ true) → ((c : ℕ) → 1 ≤ links_of client_of c served → own more c ≡ [])
+      → AllByRecursion (is_link fixed wrong front) served → AllByRecursion (is_link fixed new_wrong (front ++ more)) served
+  each_stays fixed wrong new_wrong front more [] rises none each = tt
+  each_stays fixed wrong new_wrong front more (s ∷ served) rises none each = (
+    link_stays fixed wrong new_wrong front more (given s) (left s) (client_of s) (done_of s) (ending_of s) (word_of s) rises
         (λ c is. none c (let one : as_count (is_of c (client_of s)) ≡ 1 = ap as_count (of_itself c (client_of s) is) in omega (arith, links-cons client_of c s served, one))) each.0,
-    each_stays fixed front more served (λ c some. none c (omega (arith, links-cons client_of c s served, some))) each.1,
+    each_stays fixed wrong new_wrong front more served rises (λ c some. none c (omega (arith, links-cons client_of c s served, some))) each.1,
   )
 
   -- connections by a pass that is joined with another
-  moved : (old new : PassView) (served : List M) → IsPrefix old.front new.front → new.fixed ≡ old.fixed → ((c : ℕ) → 1 ≤ links_of client_of c served → own new.front c ≡ own old.front c)
-      → All (is_link old.fixed old.front) served → All (is_link new.fixed new.front) served
-  moved old new served there same own_is each =
-      let stays = All-from_recursion (is_link old.fixed (old.front ++ there.0)) served (each_stays old.fixed old.front there.0 served
-      (λ c some. own_rest c old.front there.0 (ap (λ (l : List Entry). own l c) there.1 ∙ own_is c some)) (recursion_from_All (is_link old.fixed old.front) served each)) in
-      subst (λ (f : Fixed). All (is_link f new.front) served) (sym same)
-      (subst (λ (h : List Entry). All (is_link old.fixed h) served) there.1 stays)
+  moved : (old new : PassView) (served : List M) → IsPrefix old.front new.front → new.fixed ≡ old.fixed → (old.wrong ≡ true → new.wrong ≡ true) → ((c : ℕ) → 1 ≤ links_of client_of c served → own new.front c ≡ own old.front c)
+      → All (is_link old.fixed old.wrong old.front) served → All (is_link new.fixed new.wrong new.front) served
+  moved old new served there same rises own_is each =
+      let stays = All-from_recursion (is_link old.fixed new.wrong (old.front ++ there.0)) served (each_stays old.fixed old.wrong new.wrong old.front there.0 served rises
+      (λ c some. own_rest c old.front there.0 (ap (λ (l : List Entry). own l c) there.1 ∙ own_is c some)) (recursion_from_All (is_link old.fixed old.wrong old.front) served each)) in
+      subst (λ (f : Fixed). All (is_link f new.wrong new.front) served) (sym same)
+      (subst (λ (h : List Entry). All (is_link old.fixed new.wrong h) served) there.1 stays)
 
   module _ (legal : Persist → List Entry → Type 0) where
     abbrev KnowsOf : PassView → List M → Type 0
@@ -53,7 +53,7 @@ module _ {M : Type 0} (given left : M → Ends) (client_of : M → Option ℕ) (
     knows_nobody pass nobody was = record {
       is_legal = was;
       own_is = λ c known. absurd (true≢false (sym known ∙ ap (λ (l : List Entry). knows l c) nobody));
-      each = All-nil (is_link pass.fixed pass.front);
+      each = All-nil (is_link pass.fixed pass.wrong pass.front);
       clients = λ c. ap (λ (l : List Entry). as_count (knows l c)) (sym nobody);
     }
 
@@ -62,9 +62,9 @@ module _ {M : Type 0} (given left : M → Ends) (client_of : M → Option ℕ) (
     knows_one old new s comes was = record {
       is_legal = subst (λ (f : Fixed). IsLegalOver legal f.base new.front) (sym comes.goes_on.fixed) (comes.goes_on.stays_legal was);
       own_is = own_link legal (client_of s) new (given s) (left s) (done_of s) (ending_of s) (word_of s) comes.ended;
-      each = All-cons (is_link new.fixed new.front) s []
+      each = All-cons (is_link new.fixed new.wrong new.front) s []
           (record { ended = ended_by legal (client_of s) new (given s) (left s) (done_of s) (ending_of s) (word_of s) comes.ended; cause = comes.cause })
-          (All-nil (is_link new.fixed new.front));
+          (All-nil (is_link new.fixed new.wrong new.front));
       clients = λ c.
           let same : as_count (knows new.known c) ≡ as_count (is_of c (client_of s)) = ap as_count (knows_link legal c (client_of s) new (given s) (left s) (done_of s) (ending_of s) (word_of s) comes.ended) in
           omega (arith, same, links-cons client_of c s []);
@@ -81,10 +81,10 @@ module _ {M : Type 0} (given left : M → Ends) (client_of : M → Option ℕ) (
         record {
           is_legal = subst (λ (f : Fixed). IsLegalOver legal f.base new.front) (sym joins.fixed) (longer_legal legal one.fixed.base one.front other.front new.front joins.front a.is_legal other_legal);
           own_is = joins.own;
-          each = All-append (is_link new.fixed new.front) xs ys
-              (moved one new xs (prefix_one one.front other.front new.front joins.front) joins.fixed
+          each = All-append (is_link new.fixed new.wrong new.front) xs ys
+              (moved one new xs (prefix_one one.front other.front new.front joins.front) joins.fixed (λ knew. joins.wrong ∙ or_left one.wrong other.wrong knew)
               (λ c some. of_one c (some_count (knows one.known c) (omega (arith, some, a.clients c)))) a.each)
-              (moved other new ys (prefix_other one.front other.front new.front joins.front) (joins.fixed ∙ sym same)
+              (moved other new ys (prefix_other one.front other.front new.front joins.front) (joins.fixed ∙ sym same) (λ knew. joins.wrong ∙ or_right one.wrong other.wrong knew)
               (λ c some. of_other c (some_count (knows other.known c) (omega (arith, some, b.clients c)))) b.each);
           clients = λ c.
               let both : as_count (knows other.known c) + as_count (knows one.known c) ≡ as_count (knows new.known c) = joined_known one other new c joins in

@@ -19,14 +19,14 @@ abbrev pub one_part : PassView → PassView
 one_part pass = record pass { known = []; parts = 1 }
 
 -- what a pass knows of the connections that were served with it
-pub record Knows {M : Type 0} (legal : Persist → List Entry → Type 0) (is_link : Fixed → List Entry → M → Type 0) (client_of : M → Option ℕ) (pass : PassView) (served : List M) : Type 0 where
+pub record Knows {M : Type 0} (legal : Persist → List Entry → Type 0) (is_link : Fixed → Bool → List Entry → M → Type 0) (client_of : M → Option ℕ) (pass : PassView) (served : List M) : Type 0 where
   pub is_legal : IsLegalOver legal pass.fixed.base pass.front
   pub own_is : IsOwn pass.known pass.front
-  pub each : All (is_link pass.fixed pass.front) served
+  pub each : All (is_link pass.fixed pass.wrong pass.front) served
   pub clients : (client : ℕ) → links_of client_of client served ≡ cond (knows pass.known client) 1 0
 
 -- a server that has not the turn, with those that it served. `waiting` are those that it accepted and hasn't served
-pub record IsServer {L M : Type 0} (legal : Persist → List Entry → Type 0) (is_link : Fixed → List Entry → M → Type 0) (given_of : M → L) (client_of : M → Option ℕ) (is_lacking : M → Bool)
+pub record IsServer {L M : Type 0} (legal : Persist → List Entry → Type 0) (is_link : Fixed → Bool → List Entry → M → Type 0) (given_of : M → L) (client_of : M → Option ℕ) (is_lacking : M → Bool)
     (hand : HandView L) (pass : PassView) (served : List M) (lacked : Bool) (waiting : List L) : Type 0 where
   pub rests : Rests hand
   pub mine : hand.mine ≡ map given_of served ++ waiting
@@ -69,7 +69,7 @@ pub record HasBoth {L : Type 0} (hand other hand_new : HandView L) (pass other_p
   pub lock_is : pass_new.lock ≡ pass.lock
 
 -- what all servers together know, once nobody more is accepted
-pub record HasEnded {L M : Type 0} (legal : Persist → List Entry → Type 0) (is_link : Fixed → List Entry → M → Type 0) (given_of : M → L) (client_of : M → Option ℕ) (is_lacking : M → Bool)
+pub record HasEnded {L M : Type 0} (legal : Persist → List Entry → Type 0) (is_link : Fixed → Bool → List Entry → M → Type 0) (given_of : M → L) (client_of : M → Option ℕ) (is_lacking : M → Bool)
     (pass pass_new : PassView) (accepted : List L) (served : List M) (lacked : Bool) : Type 0 where
   pub lock_is : pass_new.lock ≡ pass.lock
   pub parts : pass_new.parts ≡ pass.parts
@@ -78,12 +78,12 @@ pub record HasEnded {L M : Type 0} (legal : Persist → List Entry → Type 0) (
   pub once : WeighAlike (map given_of served) accepted
   pub lacked_is : lacked ≡ list_any is_lacking served
 
--- what serving all that come leaves
-pub record ServesAll {L M : Type 0} (legal : Persist → List Entry → Type 0) (is_link : Fixed → List Entry → M → Type 0) (given_of : M → L) (client_of : M → Option ℕ) (is_lacking : M → Bool)
-    (fixed fixed_new : Fixed) (history : List Entry) (coming coming_new : Option (List L)) (faults faults_new most : ℕ) (accepted : Result (Unit {0}) AcceptError) (count : ℕ) (lacked : Bool) (served : List M) : Type 0 where
+-- what serving all that come leaves. `wrong` is whether the device gave a wrong answer
+pub record ServesAll {L M : Type 0} (legal : Persist → List Entry → Type 0) (is_link : Fixed → Bool → List Entry → M → Type 0) (given_of : M → L) (client_of : M → Option ℕ) (is_lacking : M → Bool)
+    (fixed fixed_new : Fixed) (wrong : Bool) (history : List Entry) (coming coming_new : Option (List L)) (faults faults_new most : ℕ) (accepted : Result (Unit {0}) AcceptError) (count : ℕ) (lacked : Bool) (served : List M) : Type 0 where
   pub fixed_is : fixed_new ≡ fixed
   pub is_legal : IsLegalOver legal fixed.base history
-  pub served_is : AreServedOnce (is_link fixed history) given_of client_of history coming coming_new most served
+  pub served_is : AreServedOnce (is_link fixed wrong history) given_of client_of history coming coming_new most served
   pub closed : (clients_of history).present ≡ []
   pub enough : OnOk accepted (IsEnough most count coming_new)
   pub quiet : OnOk accepted (faults_new ≡ faults)

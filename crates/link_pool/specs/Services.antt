@@ -20,10 +20,10 @@ client_of s = s.client
 abbrev pub is_lacking : {S K : Type 0} → Service S K → Bool
 is_lacking s = lacks_memory s.ending
 
--- what became of it, by what its ends tell
-abbrev pub IsServed : {S K : Type 0} → (left : S → Option (List ℕ)) → (written : K → Option (List ℕ)) → (source_faults : S → ℕ) → (sink_faults : K → ℕ) → Fixed → List Entry → Service S K → Type 0
-IsServed left written source_faults sink_faults fixed journal s =
-    IsLink fixed journal (ends_of left written source_faults sink_faults s.given.value.0 s.given.value.1) (ends_of left written source_faults sink_faults s.source s.sink)
+-- what became of it, by what its ends tell. `wrong` is whether the device gave a wrong answer
+abbrev pub IsServed : {S K : Type 0} → (left : S → Option (List ℕ)) → (written : K → Option (List ℕ)) → (source_faults : S → ℕ) → (sink_faults : K → ℕ) → Fixed → (wrong : Bool) → List Entry → Service S K → Type 0
+IsServed left written source_faults sink_faults fixed wrong journal s =
+    IsLink fixed wrong journal (ends_of left written source_faults sink_faults s.given.value.0 s.given.value.1) (ends_of left written source_faults sink_faults s.source s.sink)
     s.client s.done s.ending s.word
 
 -- ---- all of them

@@ -151,7 +151,8 @@ fn serve_passed<
     ensures name { A.name result.0 ≡ A.name acceptor }
     ensures served { ServesAll B.legal
         (IsServed A.In.left A.Out.written A.In.faults A.Out.faults) given_of client_of is_lacking
-        (B.fixed value) (B.fixed result.1.value) (B.history result.1.value)
+        (B.fixed value) (B.fixed result.1.value) (B.wrong result.1.value)
+        (B.history result.1.value)
         (A.coming acceptor) (A.coming result.0) (A.faults acceptor) (A.faults result.0)
         connections result.1.accepted result.1.count result.1.lacked result.1.served.value }
     ensures memory { result.1.accepted ≡ Err errors.Memory → (result.0 ≡ acceptor)
@@ -223,7 +224,7 @@ fn serve_under_lock<B: Serves + Send, A: Acceptor + Send, G: Gate, R: Threads + 
     requires few { servers ≤ 256 }
     ensures served { ServesAll B.legal
         (IsServed A.In.left A.Out.written A.In.faults A.Out.faults) given_of client_of is_lacking
-        (B.fixed value) (B.fixed result.value) (B.history result.value)
+        (B.fixed value) (B.fixed result.value) (B.wrong result.value) (B.history result.value)
         (A.coming acceptor.old) (A.coming acceptor.new)
         (A.faults acceptor.old) (A.faults acceptor.new)
         connections result.accepted result.count result.lacked result.served.value }
@@ -261,7 +262,7 @@ fn serve_legal<B: Serves + Send, A: Acceptor + Send, G: Gate, R: Threads + Wait 
     requires few { servers ≤ 256 }
     ensures served { ServesAll B.legal
         (IsServed A.In.left A.Out.written A.In.faults A.Out.faults) given_of client_of is_lacking
-        (B.fixed value) (B.fixed result.value) (B.history result.value)
+        (B.fixed value) (B.fixed result.value) (B.wrong result.value) (B.history result.value)
         (A.coming acceptor.old) (A.coming acceptor.new)
         (A.faults acceptor.old) (A.faults acceptor.new)
         connections result.accepted result.count result.lacked result.served.value }
@@ -312,7 +313,7 @@ pub fn serve_all<B: Serves + Send, A: Acceptor + Send, G: Gate, R: Threads + Wai
     // were told. The history has no other client, and all clients are closed.
     ensures served { ServesAll B.legal
         (IsServed A.In.left A.Out.written A.In.faults A.Out.faults) given_of client_of is_lacking
-        (B.fixed value) (B.fixed result.value) (B.history result.value)
+        (B.fixed value) (B.fixed result.value) (B.wrong result.value) (B.history result.value)
         (A.coming acceptor.old) (A.coming acceptor.new)
         (A.faults acceptor.old) (A.faults acceptor.new)
         connections result.accepted result.count result.lacked result.served.value }

@@ -1,4 +1,4 @@
-ghost use Rattle.std.specs.Prelude.{ℕ, Bool, ◌≡◌, ◌<◌, ◌≤◌, ◌+◌, ◌^◌, [], ◌∷◌, length, Some};
+ghost use Rattle.std.specs.Prelude.{◌≡◌, ◌<◌, ◌≤◌, ◌+◌, ◌^◌, [], ◌∷◌, length, Some};
 ghost use Rattle.std.specs.Prelude.{None, false, map, ◌↔◌, IfErr, IfSome, IsSome, IsSomeAnd};
 ghost use Rattle.std.specs.Prelude.{IsTrue, OnOk, OnErr, vec_capacity};
 ghost use Rattle.tab_spec.specs.Count.{Rose, largest_count};
@@ -62,7 +62,7 @@ impl<B: Runs> Player<B> {
     // Opens a label where it isn't open.
     fn open_label(&mut self, alloc: Global, label: u32) -> Result<(), Stop>
         requires ready { MayRun self.old.labels (B.history self.old.value)
-            (B.met_wrong self.old.value) }
+            (B.wrong self.old.value) }
         requires few { self.old.labels.opened < 2 ^ 32 }
         ensures labels { OnOk result (self.new.labels
             ≡ opened_labels (label_in self.old.labels.present label) self.old.labels label) }
@@ -74,7 +74,7 @@ impl<B: Runs> Player<B> {
             × (label_in self.old.labels.present label ≡ None)) }
         ensures full { IfErr result
             (λ stop. TellsFull (B.fixed self.old.value).limit stop (B.history self.old.value)) }
-        ensures sound { B.met_wrong self.new.value ≡ false }
+        ensures sound { B.wrong self.new.value ≡ false }
         ensures kept { Keeps (B.fixed self.old.value) (B.fixed self.new.value)
             self.new.labels (B.history self.new.value) }
     {
@@ -118,10 +118,10 @@ impl<B: Runs> Player<B> {
         requires present { IsOpen (B.history self.old.value) client }
         requires number { IsNextNumber (B.history self.old.value) client number }
         requires covers { IfSome covered (λ upto. number ≤ upto) }
-        requires sound { B.met_wrong self.old.value ≡ false }
+        requires sound { B.wrong self.old.value ≡ false }
         ensures told { TellsOf covered (B.fixed self.old.value) (B.history self.old.value)
             (B.history self.new.value) client number self.old.frame self.new.reply result }
-        ensures wrong { (result ≡ tolds.Answer) ↔ IsTrue (B.met_wrong self.new.value) }
+        ensures wrong { (result ≡ tolds.Answer) ↔ IsTrue (B.wrong self.new.value) }
         ensures run { result ≡ tolds.Answer → covered ≡ None }
         ensures labels { self.new.labels ≡ self.old.labels }
         ensures fixed { B.fixed self.new.value ≡ B.fixed self.old.value }
@@ -138,7 +138,7 @@ impl<B: Runs> Player<B> {
     // Commands up to this number are canceled, where there is one.
     fn run<O: Sink>(&mut self, label: u32, upto: Option<u64>, output: &mut O) -> Result<(), Stop>
         requires ready { MayRun self.old.labels (B.history self.old.value)
-            (B.met_wrong self.old.value) }
+            (B.wrong self.old.value) }
         requires is_open { IsSomeAnd (label_in self.old.labels.present label)
             (λ x. x.commands < largest_count) }
         ensures labels { (x : Label) → label_in self.old.labels.present label ≡ Some x
@@ -154,9 +154,9 @@ impl<B: Runs> Player<B> {
             ≡ Some x → StoppedIn (B.fixed self.old.value).limit stop (command label (x.commands + 1)
             self.old.frame (cover upto (x.commands + 1)) ∷ []) self.old.labels.present
             (B.history self.old.value) self.new.labels.present (B.history self.new.value)
-            (O.written output.old) (O.written output.new) (B.met_wrong self.new.value)) }
+            (O.written output.old) (O.written output.new) (B.wrong self.new.value)) }
         ensures outcome { Outcome result (O.faults output.old)
-            (O.faults output.new) (B.met_wrong self.new.value) }
+            (O.faults output.new) (B.wrong self.new.value) }
         ensures kept { Keeps (B.fixed self.old.value) (B.fixed self.new.value) self.new.labels
             (B.history self.new.value) }
     {
@@ -177,9 +177,9 @@ impl<B: Runs> Player<B> {
         ensures leads { Leads (B.fixed self.old.value).limit self.old.labels.present
             (B.history self.old.value) (closing label ∷ []) self.new.labels.present
             (B.history self.new.value) [] }
-        ensures sound { OnOk result (B.met_wrong self.new.value ≡ false) }
+        ensures sound { OnOk result (B.wrong self.new.value ≡ false) }
         ensures err { IfErr result (λ stop. (stop ≡ stops.Answer)
-            × IsTrue (B.met_wrong self.new.value)) }
+            × IsTrue (B.wrong self.new.value)) }
         ensures kept { Keeps (B.fixed self.old.value) (B.fixed self.new.value) self.new.labels
             (B.history self.new.value) }
     {
@@ -190,7 +190,7 @@ impl<B: Runs> Player<B> {
     // Tells an open label of a bad size, and closes it.
     fn end_label<O: Sink>(&mut self, label: u32, output: &mut O) -> Result<(), Stop>
         requires ready { MayRun self.old.labels (B.history self.old.value)
-            (B.met_wrong self.old.value) }
+            (B.wrong self.old.value) }
         requires is_open { IsSome (label_in self.old.labels.present label) }
         ensures labels { OnOk result (self.new.labels
             ≡ record self.old.labels { present = without_label label self.old.labels.present }) }
@@ -202,9 +202,9 @@ impl<B: Runs> Player<B> {
         ensures stopped { IfErr result (λ stop. StoppedIn (B.fixed self.old.value).limit stop
             (bad_size label ∷ closing label ∷ []) self.old.labels.present (B.history self.old.value)
             self.new.labels.present (B.history self.new.value) (O.written output.old)
-            (O.written output.new) (B.met_wrong self.new.value)) }
+            (O.written output.new) (B.wrong self.new.value)) }
         ensures outcome { Outcome result (O.faults output.old)
-            (O.faults output.new) (B.met_wrong self.new.value) }
+            (O.faults output.new) (B.wrong self.new.value) }
         ensures kept { Keeps (B.fixed self.old.value) (B.fixed self.new.value) self.new.labels
             (B.history self.new.value) }
     {
@@ -217,7 +217,7 @@ impl<B: Runs> Player<B> {
     // before its last cancel are canceled.
     fn play_piece<O: Sink>(&mut self, label: u32, piece: &[u8], output: &mut O) -> Result<(), Stop>
         requires ready { MayRun self.old.labels (B.history self.old.value)
-            (B.met_wrong self.old.value) }
+            (B.wrong self.old.value) }
         requires is_open { IsSomeAnd (label_in self.old.labels.present label)
             (λ x. size_of_label x + length piece.now < largest_count) }
         ensures labels { OnOk result ((x : Label) → label_in self.old.labels.present label ≡ Some x
@@ -231,9 +231,9 @@ impl<B: Runs> Player<B> {
             ≡ Some x → StoppedIn (B.fixed self.old.value).limit stop (fed_calls x piece.now)
             self.old.labels.present (B.history self.old.value) self.new.labels.present
             (B.history self.new.value) (O.written output.old) (O.written output.new)
-            (B.met_wrong self.new.value)) }
+            (B.wrong self.new.value)) }
         ensures outcome { Outcome result (O.faults output.old)
-            (O.faults output.new) (B.met_wrong self.new.value) }
+            (O.faults output.new) (B.wrong self.new.value) }
         ensures kept { Keeps (B.fixed self.old.value) (B.fixed self.new.value) self.new.labels
             (B.history self.new.value) }
     {
@@ -267,19 +267,19 @@ impl<B: Runs> Player<B> {
         output: &mut O,
     ) -> Result<(), Stop>
         requires behind { IsBehind played self.old.labels (B.history self.old.value)
-            (B.met_wrong self.old.value) }
+            (B.wrong self.old.value) }
         requires more { played < SCRIPT_BYTES }
         ensures played { OnOk result (IsPlayed (B.fixed self.old.value).limit text.now
             self.old.labels (B.history self.old.value) self.new.labels (B.history self.new.value)
             (O.written output.old) (O.written output.new)) }
         ensures behind { OnOk result (IsBehind (played + 1) self.new.labels
-            (B.history self.new.value) (B.met_wrong self.new.value)) }
+            (B.history self.new.value) (B.wrong self.new.value)) }
         ensures ends { IfErr result (λ stop. EndsAt (B.fixed self.old.value).limit stop text.now
             played self.old.labels self.new.labels (B.history self.old.value)
             (B.history self.new.value) (O.written output.old) (O.written output.new)
-            (B.met_wrong self.new.value)) }
+            (B.wrong self.new.value)) }
         ensures outcome { Outcome result (O.faults output.old)
-            (O.faults output.new) (B.met_wrong self.new.value) }
+            (O.faults output.new) (B.wrong self.new.value) }
         ensures kept { Keeps (B.fixed self.old.value) (B.fixed self.new.value) self.new.labels
             (B.history self.new.value) }
     {
@@ -309,7 +309,7 @@ impl<B: Runs> Player<B> {
         output: &mut O,
     ) -> Stop
         requires starts { IsFresh self.old.labels (B.history self.old.value)
-            (B.met_wrong self.old.value) }
+            (B.wrong self.old.value) }
         requires fresh { lines.old ≡ record { pending = []; room = SCRIPT_BYTES } }
         requires text { LINE_BYTES ≤ vec_capacity text.old }
         ensures played { IsEven result
@@ -318,10 +318,10 @@ impl<B: Runs> Player<B> {
             (I.left input.old) (I.left input.new) (O.written output.old) (O.written output.new) }
         ensures stopped { IsOfRun result → StoppedAt (B.fixed self.old.value).limit result
             self.new.labels.present (B.history self.new.value) (I.left input.old)
-            (O.written output.old) (O.written output.new) (B.met_wrong self.new.value) }
+            (O.written output.old) (O.written output.new) (B.wrong self.new.value) }
         ensures pulled { IsPulledUpTo (most_pulled result) (I.left input.old) (I.left input.new) }
         ensures cause { HasStopCause result (I.faults input.old) (I.faults input.new)
-            (O.faults output.old) (O.faults output.new) (B.met_wrong self.new.value) }
+            (O.faults output.old) (O.faults output.new) (B.wrong self.new.value) }
         ensures kept { Keeps (B.fixed self.old.value) (B.fixed self.new.value) self.new.labels
             (B.history self.new.value) }
     {
@@ -347,7 +347,7 @@ impl<B: Runs> Player<B> {
             (B.history self.old.value) (map closing (map (λ x. x.label) self.old.labels.present)) []
             (B.history self.new.value) [] }
         ensures none { self.new.labels.present ≡ [] }
-        ensures stays { IsTrue (B.met_wrong self.old.value) → IsTrue (B.met_wrong self.new.value) }
+        ensures stays { IsTrue (B.wrong self.old.value) → IsTrue (B.wrong self.new.value) }
         ensures kept { Keeps (B.fixed self.old.value) (B.fixed self.new.value) self.new.labels
             (B.history self.new.value) }
     {
@@ -376,13 +376,13 @@ pub fn play_script<B: Runs, I: Source, O: Sink>(
     output: &mut O,
 ) -> PlayedScript<B>
     requires empty { B.history value ≡ [] }
-    requires sound { B.met_wrong value ≡ false }
+    requires sound { B.wrong value ≡ false }
     // Why no more was played, and what is left by it.
-    ensures leaves { LeavesBy result.stop (B.fixed value).limit (B.met_wrong result.value)
+    ensures leaves { LeavesBy result.stop (B.fixed value).limit (B.wrong result.value)
         (I.left input.old) (I.left input.new) (O.written output.old) (O.written output.new)
         (B.history result.value) }
     ensures cause { IsCaused result.stop (I.faults input.old) (I.faults input.new)
-        (O.faults output.old) (O.faults output.new) (B.met_wrong result.value) }
+        (O.faults output.old) (O.faults output.new) (B.wrong result.value) }
     ensures pulled { IsPulledUpTo (most_pulled result.stop) (I.left input.old) (I.left input.new) }
     ensures closed { (clients_of (B.history result.value)).present ≡ [] }
     ensures fixed { B.fixed result.value ≡ B.fixed value }

@@ -1,25 +1,24 @@
-ghost use Rattle.std.specs.Prelude.{◌≡◌, ◌≤◌, ◌↔◌, Bool, false, IsTrue, [], ◌∷◌, ◌++◌};
+ghost use Rattle.std.specs.Prelude.{◌≡◌, ◌≤◌, ◌↔◌, Err, false, IsTrue, [], ◌∷◌, ◌++◌};
 ghost use Rattle.history_spec.specs.Entry.{close_entry, IsOpen, IsNextNumber};
 ghost use Rattle.broker_lock.specs.Serves.{Opens, Tells, TellsCanceled};
 ghost use Rattle.broker_lock.specs.declared.calls.Closed.TheVariants as closes;
+ghost use Rattle.broker_lock.specs.declared.calls.OpenClientError.TheVariants as open_errors;
 ghost use Rattle.broker_lock.specs.declared.calls.Told.TheVariants as tolds;
 
 use broker_lock::{Closed, OpenClientError, Recorded, Told};
 use tab_bytes::Buffer;
 
 /// A value with a history that runs the calls of a script. Its calls do what those of
-/// [`broker_lock::Serves`] do, and contracts see of it whether the device gave a wrong answer.
-/// After one nothing is asked of it but closes.
+/// [`broker_lock::Serves`] do. After a wrong answer of the device it is asked for nothing but
+/// closes.
 pub trait Runs: Recorded {
-    /// Whether a wrong answer came.
-    ghost met_wrong: { Self → Bool };
-
     /// Opens the next client. An error enters nothing.
     fn open_client(&mut self) -> Result<u32, OpenClientError>
-        requires sound { met_wrong self.old ≡ false }
+        requires sound { Self.wrong self.old ≡ false }
         ensures opens { Opens (Self.fixed self.old) (Self.history self.old) (Self.history self.new)
             result }
-        ensures sound { met_wrong self.new ≡ false }
+        // The device isn't asked.
+        ensures sound { (result ≡ Err open_errors.Answer → ⊥) × (Self.wrong self.new ≡ false) }
         ensures fixed { Self.fixed self.new ≡ Self.fixed self.old };
 
     /// Runs an open client's command, and writes what the client is told over whatever `reply`
@@ -28,11 +27,11 @@ pub trait Runs: Recorded {
     fn command(&mut self, client: u32, number: u64, bytes: &[u8], reply: &mut Buffer) -> Told
         requires present { IsOpen (Self.history self.old) client }
         requires number { IsNextNumber (Self.history self.old) client number }
-        requires sound { met_wrong self.old ≡ false }
+        requires sound { Self.wrong self.old ≡ false }
         ensures told { Tells (Self.fixed self.old) (Self.history self.old) (Self.history self.new)
             client number bytes.now reply.new result }
         // The device gave a wrong answer to this command.
-        ensures wrong { (result ≡ tolds.Answer) ↔ IsTrue (met_wrong self.new) }
+        ensures wrong { (result ≡ tolds.Answer) ↔ IsTrue (Self.wrong self.new) }
         ensures fixed { Self.fixed self.new ≡ Self.fixed self.old };
 
     /// Answers an open client's command that the client canceled, and runs nothing. `upto` is the
@@ -48,11 +47,11 @@ pub trait Runs: Recorded {
         requires present { IsOpen (Self.history self.old) client }
         requires number { IsNextNumber (Self.history self.old) client number }
         requires covers { number ≤ upto }
-        requires sound { met_wrong self.old ≡ false }
+        requires sound { Self.wrong self.old ≡ false }
         ensures told { TellsCanceled (Self.fixed self.old) (Self.history self.old)
             (Self.history self.new) client number upto bytes.now reply.new result }
         // The device isn't asked.
-        ensures sound { (result ≡ tolds.Answer → ⊥) × (met_wrong self.new ≡ false) }
+        ensures sound { (result ≡ tolds.Answer → ⊥) × (Self.wrong self.new ≡ false) }
         ensures fixed { Self.fixed self.new ≡ Self.fixed self.old };
 
     /// Closes an open client. Whatever the answer is, the client is closed.
@@ -60,8 +59,8 @@ pub trait Runs: Recorded {
         requires { IsOpen (Self.history self.old) client }
         ensures closed { Self.history self.new
             ≡ Self.history self.old ++ close_entry client ∷ [] }
-        ensures wrong { (result ≡ closes.Answer) ↔ IsTrue (met_wrong self.new) }
+        ensures wrong { (result ≡ closes.Answer) ↔ IsTrue (Self.wrong self.new) }
         // A wrong answer that came stays.
-        ensures stays { IsTrue (met_wrong self.old) → IsTrue (met_wrong self.new) }
+        ensures stays { IsTrue (Self.wrong self.old) → IsTrue (Self.wrong self.new) }
         ensures fixed { Self.fixed self.new ≡ Self.fixed self.old };
 }

@@ -1,6 +1,6 @@
 -- What `serve` leaves, by what its parts tell.
-use Rattle.std.proofs.Common.{◌≡◌, ◌∙◌, eqb-true, ℕ, Bool, true, false, List, [], Option, Some, None, Result, Ok, Err, refl, sym, subst, inl, inr, arith}
-use Rattle.std.specs.Prelude.{◌⊎◌, ◌==◌, ◌≤◌, ◌∷◌, ◌||◌, length, IfSome, IsSome, IsTrue, OnOk}
+use Rattle.std.proofs.Common.{◌≡◌, ◌∙◌, eqb-true, ℕ, Bool, true, false, List, [], Option, Some, None, Result, Ok, Err, refl, sym, ap, subst, inl, inr, arith}
+use Rattle.std.specs.Prelude.{◌⊎◌, ◌==◌, ◌≤◌, ◌∷◌, ◌||◌, is_some, length, IfSome, IsSome, IsTrue, OnOk}
 use Rattle.std.specs.List.{list_any}
 use Rattle.std.specs.Option.{option_map}
 use Rattle.tab_spec.specs.Count.{Rose}
@@ -15,7 +15,7 @@ use Rattle.link_pool.specs.Endings.{lacks_memory}
 use Rattle.link_pool.specs.Services.{AreServedOnce, IsEnough}
 use Rattle.tab_server.specs.Status.{IsOfStart}
 use Rattle.tab_server.specs.Run.{After, Before, IsEnded, Leaves, after_of, before_of}
-use Rattle.tab_server.specs.Serving.{IsIdle, IsTold, LeavesPool, LeavesServe, LeavesServed, ServeCause, WroteEnd, WroteOr, end_text, serve_detail, serve_status}
+use Rattle.tab_server.specs.Serving.{IsIdle, LeavesPool, LeavesServe, LeavesServed, ServeCause, TellsEnd, WroteEnd, WroteOr, end_text, serve_detail, serve_status}
 
 -- whether the acceptor failed, with its fault count then
 abbrev pub AcceptOr : Option ℕ → (faults faults_new : ℕ) → Type 0
@@ -151,7 +151,7 @@ module _ {L M : Type 0} (are_served : List Entry → List M → Type 0) (ending_
   -- connections were served, and the text written
   pub leaves_served : (wrong accept : Option ℕ) (status detail : ℕ) (history : List Entry) (links : List M)
       → IsEnded before.base before.faults.device after.seen wrong history
-      → IsTold wrong accept (list_any (λ link. lacks_memory (ending_of link)) links) (end_text audit (length links) history) before.written after.written before.faults.output after.faults.output status detail
+      → TellsEnd wrong accept (list_any (λ link. lacks_memory (ending_of link)) links) (end_text audit (length links) history) before.written after.written before.faults.output after.faults.output status detail
       → AcceptOr accept accepted accepted_new → are_served history links → (accept ≡ None → AreEnough most coming_new links)
       → (after.left ≡ before.left) × (after.faults.input ≡ before.faults.input)
       → LeavesServed are_served ending_of audit most before after coming coming_new accepted accepted_new status detail (Some history) links
@@ -210,11 +210,36 @@ enough_links most count coming_new links is enough = subst (λ (n : ℕ). IsEnou
 -- what is told of all connections, by their count and whether one of them lacked memory
 pub told_of : {M : Type 0} (ending_of : M → Ending) (wrong accept : Option ℕ) (lacked : Bool) (count : ℕ) (links : List M) (audit : Bool) (history : List Entry) (written written_new : Option (List ℕ)) (faults faults_new status detail : ℕ)
     → lacked ≡ list_any (λ link. lacks_memory (ending_of link)) links → count ≡ length links
-    → IsTold wrong accept lacked (end_text audit count history) written written_new faults faults_new status detail
-    → IsTold wrong accept (list_any (λ link. lacks_memory (ending_of link)) links) (end_text audit (length links) history) written written_new faults faults_new status detail
+    → TellsEnd wrong accept lacked (end_text audit count history) written written_new faults faults_new status detail
+    → TellsEnd wrong accept (list_any (λ link. lacks_memory (ending_of link)) links) (end_text audit (length links) history) written written_new faults faults_new status detail
 told_of ending_of wrong accept lacked count links audit history written written_new faults faults_new status detail lacks is told =
-    subst (λ (n : ℕ). IsTold wrong accept (list_any (λ link. lacks_memory (ending_of link)) links) (end_text audit n history) written written_new faults faults_new status detail) is
-    (subst (λ (b : Bool). IsTold wrong accept b (end_text audit count history) written written_new faults faults_new status detail) lacks told)
+    subst (λ (n : ℕ). TellsEnd wrong accept (list_any (λ link. lacks_memory (ending_of link)) links) (end_text audit n history) written written_new faults faults_new status detail) is
+    (subst (λ (b : Bool). TellsEnd wrong accept b (end_text audit count history) written written_new faults faults_new status detail) lacks told)
+
+-- ---- what connections are told of a wrong answer
+
+by_status : (wrong accept output : Option ℕ) (lacked : Bool) → is_some wrong ≡ (serve_status wrong accept output lacked == 7)
+by_status (Some code) accept output lacked = refl
+by_status None (Some count) output lacked = refl
+by_status None None (Some count) lacked = refl
+by_status None None None true = refl
+by_status None None None false = refl
+
+-- the status says whether one came
+pub wrong_told : (wrong found accept : Option ℕ) (lacked : Bool) (text : List ℕ) (written written_new : Option (List ℕ)) (faults faults_new status detail : ℕ) → found ≡ wrong
+    → TellsEnd found accept lacked text written written_new faults faults_new status detail → is_some wrong ≡ (status == 7)
+wrong_told wrong found accept lacked text written written_new faults faults_new status detail is told =
+    ap is_some (sym is) ∙ by_status found accept told.output lacked ∙ ap (λ (n : ℕ). n == 7) (sym told.status_is)
+
+pub served_told : {L M : Type 0} (is_link : Bool → List Entry → L → M → Type 0) (client_of : M → Option ℕ) (wrong told : Bool) (history : List Entry) (coming coming_new : Option (List L)) (most : ℕ) (links : List M) → wrong ≡ told
+    → AreServed (is_link wrong history) client_of history coming coming_new most links → AreServed (is_link told history) client_of history coming coming_new most links
+served_told is_link client_of wrong told history coming coming_new most links same served =
+    subst (λ (b : Bool). AreServed (is_link b history) client_of history coming coming_new most links) same served
+
+pub pool_told : {L M : Type 0} (is_link : Bool → List Entry → M → Type 0) (given_of : M → L) (client_of : M → Option ℕ) (wrong told : Bool) (history : List Entry) (coming coming_new : Option (List L)) (most : ℕ) (links : List M) → wrong ≡ told
+    → AreServedOnce (is_link wrong history) given_of client_of history coming coming_new most links → AreServedOnce (is_link told history) given_of client_of history coming coming_new most links
+pool_told is_link given_of client_of wrong told history coming coming_new most links same served =
+    subst (λ (b : Bool). AreServedOnce (is_link b history) given_of client_of history coming coming_new most links) same served
 
 -- ---- over a device, by what the calls tell
 
@@ -231,7 +256,7 @@ module _ {D : Type 0} (seen : D → Seen) where
       (device ran_device : D) (history : List Entry) (journal : J) (ran_journal : Option J) (links ran_links : List M)
       → value_fixed ≡ fixed → entries journal ≡ history → ran_device ≡ device → ran_journal ≡ Some journal → ran_links ≡ links
       → IsEnded value_fixed.base value_fixed.began (seen device) wrong (entries journal)
-      → IsTold wrong accept (list_any (λ link. lacks_memory (ending_of link)) links) (end_text audit (length links) (entries journal)) written written_new output output_new status detail
+      → TellsEnd wrong accept (list_any (λ link. lacks_memory (ending_of link)) links) (end_text audit (length links) (entries journal)) written written_new output output_new status detail
       → AcceptOr accept accepted accepted_new → are_served history links → (accept ≡ None → AreEnough most coming_new links)
       → LeavesServed are_served ending_of audit most (over fixed left written input output) (left_by ran_device left written_new input output_new) coming coming_new accepted accepted_new status detail
       (option_map entries ran_journal) ran_links
@@ -272,19 +297,19 @@ leaves_over : {L M : Type 0} (are_served : Fixed → List Entry → List M → T
 leaves_over are_served ending_of audit most fixed other left written input output after coming coming_new accepted accepted_new status detail journal links same left_is =
     subst (λ (f : Fixed). LeavesServed (are_served f) ending_of audit most (over f left written input output) after coming coming_new accepted accepted_new status detail journal links) same left_is
 
-pub links_over : {L M : Type 0} (is_link : Fixed → List Entry → L → M → Type 0) (client_of : M → Option ℕ) (ending_of : M → Ending) (audit : Bool) (most : ℕ) (fixed other : Fixed) (left written : Option (List ℕ)) (input output : ℕ)
+pub links_over : {L M : Type 0} (is_link : Fixed → Bool → List Entry → L → M → Type 0) (client_of : M → Option ℕ) (ending_of : M → Ending) (audit : Bool) (most : ℕ) (fixed other : Fixed) (left written : Option (List ℕ)) (input output : ℕ)
     (after : After) (coming coming_new : Option (List L)) (accepted accepted_new status detail : ℕ) (journal : Option (List Entry)) (links : List M) → fixed ≡ other
     → LeavesServe (is_link fixed) client_of ending_of audit most (over fixed left written input output) after coming coming_new accepted accepted_new status detail journal links
     → LeavesServe (is_link other) client_of ending_of audit most (over other left written input output) after coming coming_new accepted accepted_new status detail journal links
 links_over is_link client_of ending_of audit most fixed other left written input output after coming coming_new accepted accepted_new status detail journal links =
-    leaves_over (λ f history served. AreServed (is_link f history) client_of history coming coming_new most served) ending_of audit most fixed other left written input output after coming coming_new accepted accepted_new status detail journal links
+    leaves_over (λ f history served. AreServed (is_link f (status == 7) history) client_of history coming coming_new most served) ending_of audit most fixed other left written input output after coming coming_new accepted accepted_new status detail journal links
 
-pub pool_over : {L M : Type 0} (is_link : Fixed → List Entry → M → Type 0) (given_of : M → L) (client_of : M → Option ℕ) (ending_of : M → Ending) (audit : Bool) (most : ℕ) (fixed other : Fixed) (left written : Option (List ℕ)) (input output : ℕ)
+pub pool_over : {L M : Type 0} (is_link : Fixed → Bool → List Entry → M → Type 0) (given_of : M → L) (client_of : M → Option ℕ) (ending_of : M → Ending) (audit : Bool) (most : ℕ) (fixed other : Fixed) (left written : Option (List ℕ)) (input output : ℕ)
     (after : After) (coming coming_new : Option (List L)) (accepted accepted_new status detail : ℕ) (journal : Option (List Entry)) (links : List M) → fixed ≡ other
     → LeavesPool (is_link fixed) given_of client_of ending_of audit most (over fixed left written input output) after coming coming_new accepted accepted_new status detail journal links
     → LeavesPool (is_link other) given_of client_of ending_of audit most (over other left written input output) after coming coming_new accepted accepted_new status detail journal links
 pool_over is_link given_of client_of ending_of audit most fixed other left written input output after coming coming_new accepted accepted_new status detail journal links =
-    leaves_over (λ f history served. AreServedOnce (is_link f history) given_of client_of history coming coming_new most served) ending_of audit most fixed other left written input output after coming coming_new accepted accepted_new status detail journal links
+    leaves_over (λ f history served. AreServedOnce (is_link f (status == 7) history) given_of client_of history coming coming_new most served) ending_of audit most fixed other left written input output after coming coming_new accepted accepted_new status detail journal links
 
 -- ---- where the broker didn't begin
 

@@ -77,7 +77,7 @@ pub record ServeCause (before : Before) (after : After) (accept accept_new statu
 
 -- What is told in the end, behind the text: by the code of a wrong answer, the acceptor's fault count where it failed, and
 -- whether memory lacked. `output` is the output's fault count, where that failed.
-pub record IsTold (wrong accept : Option ℕ) (lacked : Bool) (text : List ℕ) (written written_new : Option (List ℕ)) (faults faults_new status detail : ℕ) : Type 0 where
+pub record TellsEnd (wrong accept : Option ℕ) (lacked : Bool) (text : List ℕ) (written written_new : Option (List ℕ)) (faults faults_new status detail : ℕ) : Type 0 where
   pub output : Option ℕ
   pub wrote : WroteOr output text written written_new faults faults_new
   pub status_is : status ≡ serve_status wrong accept output lacked
@@ -119,22 +119,23 @@ pub record LeavesServed {L M : Type 0} (are_served : List Entry → List M → T
   pub unread : (after.left ≡ before.left) × (after.faults.input ≡ before.faults.input)
 
 -- what became of a connection by the journal, by what its ends tell
-abbrev pub IsLinkDone : {S K : Type 0} → (left : S → Option (List ℕ)) → (written : K → Option (List ℕ)) → (source_faults : S → ℕ) → (sink_faults : K → ℕ) → Fixed → List Entry → S × K → LinkDone S K → Type 0
-IsLinkDone left written source_faults sink_faults fixed history given link =
-    IsLink fixed history (ends_of left written source_faults sink_faults given.0 given.1) (ends_of left written source_faults sink_faults link.source link.sink)
+abbrev pub IsLinkDone : {S K : Type 0} → (left : S → Option (List ℕ)) → (written : K → Option (List ℕ)) → (source_faults : S → ℕ) → (sink_faults : K → ℕ) → Fixed → (wrong : Bool) → List Entry → S × K → LinkDone S K → Type 0
+IsLinkDone left written source_faults sink_faults fixed wrong history given link =
+    IsLink fixed wrong history (ends_of left written source_faults sink_faults given.0 given.1) (ends_of left written source_faults sink_faults link.source link.sink)
     link.client link.done link.ending link.word
 
 -- The first connections that came were served. `is_link` is what became of each by the journal at the end: it has its commands in
--- the journal once and in order, and was written what they were told. The journal has no other client.
-abbrev pub LeavesServe : {L M : Type 0} → (is_link : List Entry → L → M → Type 0) → (client_of : M → Option ℕ) → (ending_of : M → Ending) → (audit : Bool) → (most : ℕ)
+-- the journal once and in order, and was written what they were told. The journal has no other client. That the device gave a wrong
+-- answer is told to connections only where the status says so.
+abbrev pub LeavesServe : {L M : Type 0} → (is_link : (wrong : Bool) → List Entry → L → M → Type 0) → (client_of : M → Option ℕ) → (ending_of : M → Ending) → (audit : Bool) → (most : ℕ)
     → (before : Before) → (after : After) → (coming coming_new : Option (List L)) → (accept accept_new status detail : ℕ) → (journal : Option (List Entry)) → (links : List M) → Type 0
 LeavesServe is_link client_of ending_of audit most before after coming coming_new accept accept_new status detail journal links =
-    LeavesServed (λ history served. AreServed (is_link history) client_of history coming coming_new most served) ending_of audit most
+    LeavesServed (λ history served. AreServed (is_link (status == WRONG_ANSWER) history) client_of history coming coming_new most served) ending_of audit most
     before after coming coming_new accept accept_new status detail journal links
 
 -- The same where nothing is kept of a connection that is over: the connections are a list that contracts alone see, in no order.
-abbrev pub LeavesPool : {L M : Type 0} → (is_link : List Entry → M → Type 0) → (given_of : M → L) → (client_of : M → Option ℕ) → (ending_of : M → Ending) → (audit : Bool) → (most : ℕ)
+abbrev pub LeavesPool : {L M : Type 0} → (is_link : (wrong : Bool) → List Entry → M → Type 0) → (given_of : M → L) → (client_of : M → Option ℕ) → (ending_of : M → Ending) → (audit : Bool) → (most : ℕ)
     → (before : Before) → (after : After) → (coming coming_new : Option (List L)) → (accept accept_new status detail : ℕ) → (journal : Option (List Entry)) → (links : List M) → Type 0
 LeavesPool is_link given_of client_of ending_of audit most before after coming coming_new accept accept_new status detail journal links =
-    LeavesServed (λ history served. AreServedOnce (is_link history) given_of client_of history coming coming_new most served) ending_of audit most
+    LeavesServed (λ history served. AreServedOnce (is_link (status == WRONG_ANSWER) history) given_of client_of history coming coming_new most served) ending_of audit most
     before after coming coming_new accept accept_new status detail journal links

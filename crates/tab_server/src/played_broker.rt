@@ -26,14 +26,14 @@ impl<D: Device> Recorded for PlayedBroker<D> {
       began = p.broker.began;
     } };
 
+    ghost wrong = { λ p. is_some p.broker.wrong_code };
+
     fn entries(&self) -> u64 {
         self.broker.entries()
     }
 }
 
 impl<D: Device> Runs for PlayedBroker<D> {
-    ghost met_wrong = { λ p. is_some p.broker.wrong_code };
-
     fn open_client(&mut self) -> Result<u32, OpenClientError> {
         self.broker.open_client()
     }

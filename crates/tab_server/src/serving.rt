@@ -14,7 +14,7 @@ ghost use Rattle.link_pool.specs.Endings.{lacks_memory};
 ghost use Rattle.link_pool.specs.Services.{IsServed, client_of, given_of};
 ghost use Rattle.tab_server.specs.Status.{IsOfStart};
 ghost use Rattle.tab_server.specs.Run.{after_of, before_of};
-ghost use Rattle.tab_server.specs.Serving.{IsLinkDone, IsTold, LeavesPool, LeavesServe};
+ghost use Rattle.tab_server.specs.Serving.{IsLinkDone, LeavesPool, LeavesServe, TellsEnd};
 ghost use Rattle.tab_server.specs.Serving.{WroteOr, end_text, serve_detail, serve_status};
 
 use crate::counts::counts_line;
@@ -113,7 +113,7 @@ fn finished<D: Device, A: Acceptor, O: Sink>(
     ensures device { result.device ≡ device }
     ensures journal { result.journal ≡ Some journal }
     ensures links { result.links ≡ links }
-    ensures told { IsTold wrong accept (list_any (λ link. lacks_memory link.ending) links.items)
+    ensures told { TellsEnd wrong accept (list_any (λ link. lacks_memory link.ending) links.items)
         (end_text audit (length links.items) journal.entries) (O.written output.old)
         (O.written output.new)
         (O.faults output.old) (O.faults output.new) result.status result.detail }
@@ -149,7 +149,7 @@ fn pool_finished<D: Device, A: Acceptor, O: Sink>(
     ensures journal { result.journal ≡ Some journal }
     ensures links { result.links.items ≡ [] }
     ensures served { result.served ≡ served }
-    ensures told { IsTold wrong accept lacked (end_text audit count journal.entries)
+    ensures told { TellsEnd wrong accept lacked (end_text audit count journal.entries)
         (O.written output.old) (O.written output.new) (O.faults output.old) (O.faults output.new)
         result.status result.detail }
 {

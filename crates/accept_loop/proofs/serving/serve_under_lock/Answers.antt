@@ -14,7 +14,7 @@ returns-clause-served g c =
     (λ given. ends_of g.A.In.Source.left g.A.Out.Sink.written g.A.In.Source.faults g.A.Out.Sink.faults given.0 given.1)
     (λ link. ends_of g.A.In.Source.left g.A.Out.Sink.written g.A.In.Source.faults g.A.Out.Sink.faults link.source link.sink)
     (λ link. link.client) (λ link. link.done) (λ link. link.ending) (λ link. link.word)
-    _ _ _ _ _ _ _ _ _ _ _ _ _ _
+    _ _ _ _ _ _ _ _ _ _ _ _ _ _ _
     (ap (λ v. v.fixed) c.in-Ok-new.ensures.ok) (ap (λ a. g.A.Acceptor.coming a) back) c.from.ensures.0
     c.serve_coming-coming.ensures.served c.close.ensures
 
@@ -25,7 +25,7 @@ returns-clause-closed g c =
     (λ given. ends_of g.A.In.Source.left g.A.Out.Sink.written g.A.In.Source.faults g.A.Out.Sink.faults given.0 given.1)
     (λ link. ends_of g.A.In.Source.left g.A.Out.Sink.written g.A.In.Source.faults g.A.Out.Sink.faults link.source link.sink)
     (λ link. link.client) (λ link. link.done) (λ link. link.ending) (λ link. link.word)
-    _ _ _ _ _ _ (returns-clause-served g c)
+    _ _ _ _ _ _ _ (returns-clause-served g c)
 
 pub returns-clause-enough : goal.returns-clause-enough
 returns-clause-enough g c =

@@ -7,7 +7,7 @@ pub compare_exchange-requires : goal.compare_exchange-requires
 compare_exchange-requires g c = let same = c.loop.invariant.1 in (
   c.loop.invariant.0 ∙ c.requires.own,
   search rules,
-  takes_it g.B.Recorded.history g.B.Recorded.fixed _ _ _ (subst IsIdle (sym (ap (λ me. me.0) same)) c.requires.idle.0) (ap (λ me. me.1) same ∙ c.requires.idle.1),
+  takes_it g.B.Recorded.history g.B.Recorded.fixed g.B.Recorded.wrong _ _ _ (subst IsIdle (sym (ap (λ me. me.0) same)) c.requires.idle.0) (ap (λ me. me.1) same ∙ c.requires.idle.1),
 )
 
 pub exchange-requires : goal.exchange-requires

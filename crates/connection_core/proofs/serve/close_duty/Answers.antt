@@ -4,10 +4,10 @@ use Rattle.connection_core.proofs.Entering.{goes_on_act, goes_on_more}
 use Rattle.connection_core.proofs.serve.close_duty.Goals as goal
 
 pub close-requires-clause-lock : goal.close-requires-clause-lock
-close-requires-clause-lock g c = (c.finish-ending.ensures c.requires.begun.start c.requires.begun.is).goes_on.lock ∙ c.requires.begun.lock_is
+close-requires-clause-lock g c κs lives = (c.finish-ending.ensures c.requires.begun.start c.requires.begun.is).goes_on.lock ∙ c.requires.begun.lock_is
 
 pub close-requires-clause-present : goal.close-requires-clause-present
-close-requires-clause-present g c = (c.finish-ending.ensures c.requires.begun.start c.requires.begun.is).worked.serves.present
+close-requires-clause-present g c κs lives = (c.finish-ending.ensures c.requires.begun.start c.requires.begun.is).worked.serves.present
 
 pub returns : goal.returns
 returns g c start is =

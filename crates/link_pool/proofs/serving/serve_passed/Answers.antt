@@ -58,7 +58,7 @@ returns-clause-name g c = c.end_all-ended.ensures.kept.same ∙ ap (λ (s : Star
 
 pub returns-clause-served : goal.returns-clause-served
 returns-clause-served g c =
-    serves_all g.B.Recorded.legal g.A.In.Source.left g.A.Out.Sink.written g.A.In.Source.faults g.A.Out.Sink.faults g.J.Begins.begun _ _ _ _ _ _ _ _ _ _ _ _ _ _ _ _ _ _ _
+    serves_all g.B.Recorded.legal g.A.In.Source.left g.A.Out.Sink.written g.A.In.Source.faults g.A.Out.Sink.faults g.J.Begins.begun _ _ _ _ _ _ _ _ _ _ _ _ _ _ _ _ _ _ _ _
     c.requires.begun c.end_all-ended.ensures.kept c.end_all-ended.ensures.over c.end_all-ended.ensures.ended
     (c.serve_as_needed-server.ensures.leaves.fixed_is ∙ ap (λ (p : PassView). p.fixed) c.in-Ok-new.ensures.ok) c.close-value.ensures refl c.outcome-accepted.ensures
 
@@ -67,7 +67,7 @@ returns-clause-memory g c err = absurd (never_memory _ _ c.outcome-accepted.ensu
 
 pub returns-in_default-clause-served : goal.returns-in_default-clause-served
 returns-in_default-clause-served g c =
-    serves_nobody g.B.Recorded.legal g.A.In.Source.left g.A.Out.Sink.written g.A.In.Source.faults g.A.Out.Sink.faults _ _ _ _ _ _ _ _ _ _ _
+    serves_nobody g.B.Recorded.legal g.A.In.Source.left g.A.Out.Sink.written g.A.In.Source.faults g.A.Out.Sink.faults _ _ _ _ _ _ _ _ _ _ _ _
     (ap (λ v. g.B.Recorded.fixed v) c.serve_nobody.ensures.value) (ap (λ v. g.B.Recorded.history v) c.serve_nobody.ensures.value) c.requires.empty c.requires.legal
     c.serve_nobody.ensures.accepted c.serve_nobody.ensures.count c.serve_nobody.ensures.lacked c.serve_nobody.ensures.served
 
@@ -77,7 +77,7 @@ returns-in_default-clause-memory g c err = (refl, c.serve_nobody.ensures.served,
 pub returns-in-Err-clause-served : goal.returns-in-Err-clause-served
 returns-in-Err-clause-served g c =
     let same = c.serve_nobody-in-Err.ensures.value ∙ c.in-Err.ensures.err in
-    serves_nobody g.B.Recorded.legal g.A.In.Source.left g.A.Out.Sink.written g.A.In.Source.faults g.A.Out.Sink.faults _ _ _ _ _ _ _ _ _ _ _
+    serves_nobody g.B.Recorded.legal g.A.In.Source.left g.A.Out.Sink.written g.A.In.Source.faults g.A.Out.Sink.faults _ _ _ _ _ _ _ _ _ _ _ _
     (ap (λ v. g.B.Recorded.fixed v) same) (ap (λ v. g.B.Recorded.history v) same) c.requires.empty c.requires.legal
     c.serve_nobody-in-Err.ensures.accepted c.serve_nobody-in-Err.ensures.count c.serve_nobody-in-Err.ensures.lacked c.serve_nobody-in-Err.ensures.served
 

@@ -9,10 +9,10 @@ returns-clause-leaves g c =
     let closes = rw played.ensures.kept.fixed_is at c.close_all.ensures.leads in
     leaves_by played.result (g.B.Recorded.fixed c.args.value).limit played.new.self.labels.present (g.B.Recorded.history played.new.self.value) (g.B.Recorded.history c.close_all.new.self.value)
     (g.I.Source.left c.args.input.now) (g.I.Source.left played.new.input) (g.O.Sink.written c.args.output.now) (g.O.Sink.written played.new.output)
-    (g.B.Runs.met_wrong played.new.self.value) (g.B.Runs.met_wrong c.close_all.new.self.value) played.ensures.played played.ensures.stopped closes c.close_all.ensures.stays
+    (g.B.Recorded.wrong played.new.self.value) (g.B.Recorded.wrong c.close_all.new.self.value) played.ensures.played played.ensures.stopped closes c.close_all.ensures.stays
 
 pub returns-clause-cause : goal.returns-clause-cause
-returns-clause-cause g c = record { before = g.B.Runs.met_wrong c.play_lines-stop.new.self.value; cause = c.play_lines-stop.ensures.cause; stays = c.close_all.ensures.stays }
+returns-clause-cause g c = record { before = g.B.Recorded.wrong c.play_lines-stop.new.self.value; cause = c.play_lines-stop.ensures.cause; stays = c.close_all.ensures.stays }
 
 pub returns-clause-closed : goal.returns-clause-closed
 returns-clause-closed g c = c.close_all.ensures.kept.fits.present ∙ ap (λ (ls : List Label). map (λ x. x.client) ls) c.close_all.ensures.none

@@ -1,12 +1,16 @@
 use Rattle.std.proofs.Common.{◌≡◌, None, Some, ap, ◌∙◌}
+use Rattle.std.specs.Prelude.{is_some}
 use denote.Exit.{no}
 use denote.Param.{param}
 use denote.Param.Send.{IsSend, arg_send, param_send, sendable}
 use Rattle.std.proofs.Crossing.{crosses}
+use Rattle.std.proofs.MapsCrossing as maps
 use Rattle.broker_core.specs.contracts.broker.Broker as broker
 use Rattle.accept_loop.specs.declared.serving.AcceptError.{AcceptError}
 use Rattle.accept_loop.specs.declared.serving.AcceptError.TheVariants as errors
-use Rattle.tab_server.proofs.Connecting.{err_of, leaves_finished, leaves_lacking, ok_of}
+use Rattle.accept_loop.specs.declared.serving.LinkDone.{LinkDone}
+use Rattle.tab_server.specs.Serving.{IsLinkDone}
+use Rattle.tab_server.proofs.Connecting.{err_of, leaves_finished, leaves_lacking, ok_of, served_told, wrong_told}
 use Rattle.tab_server.proofs.serving.serve_begun.Given.{Over}
 use Rattle.tab_server.proofs.serving.serve_begun.Goals as goal
 
@@ -17,7 +21,9 @@ returns-in-Ok-clause-leaves g c left input =
     leaves_finished g.D.Device.seen
     (λ j. j.entries) _ _ _ _ _ _ left input _ _ _ _ _ _ _ _ _ _ c.end_broker-device.result.2 None _ _ _ _ _ _ _
     served.fixed c.end_broker-device.ensures.journal told.device told.journal (ap (λ v. v.items) told.links)
-    c.end_broker-device.ensures.ended told.told (ok_of _ _ c.in-Ok.is served.quiet) served.served (λ none. ok_of _ _ c.in-Ok.is served.enough)
+    c.end_broker-device.ensures.ended told.told (ok_of _ _ c.in-Ok.is served.quiet)
+    (served_told (IsLinkDone g.A.In.Source.left g.A.Out.Sink.written g.A.In.Source.faults g.A.Out.Sink.faults (record { base = (g.D.Device.seen c.args.broker.device).base; limit = c.args.broker.limit; began = c.args.broker.began })) (λ (link : LinkDone _ _). link.client) _ _ _ _ _ _ _
+    (wrong_told _ c.end_broker-device.result.2 None _ _ _ _ _ _ _ _ c.end_broker-device.ensures.wrong told.told) served.served) (λ none. ok_of _ _ c.in-Ok.is served.enough)
 
 pub returns-in-Err-Failed-clause-leaves : goal.returns-in-Err-Failed-clause-leaves
 returns-in-Err-Failed-clause-leaves g c left input =
@@ -27,7 +33,9 @@ returns-in-Err-Failed-clause-leaves g c left input =
     leaves_finished g.D.Device.seen
     (λ j. j.entries) _ _ _ _ _ _ left input _ _ _ _ _ _ _ _ _ _ c.end_broker-device.result.2 (Some c.fault_count-count.result) _ _ _ _ _ _ _
     served.fixed c.end_broker-device.ensures.journal told.device told.journal (ap (λ v. v.items) told.links)
-    c.end_broker-device.ensures.ended told.told (served.failed (err_of _ _ errors.Failed c.in-Err-Failed.is is), c.fault_count-count.ensures) served.served (λ none. absurd cc)
+    c.end_broker-device.ensures.ended told.told (served.failed (err_of _ _ errors.Failed c.in-Err-Failed.is is), c.fault_count-count.ensures)
+    (served_told (IsLinkDone g.A.In.Source.left g.A.Out.Sink.written g.A.In.Source.faults g.A.Out.Sink.faults (record { base = (g.D.Device.seen c.args.broker.device).base; limit = c.args.broker.limit; began = c.args.broker.began })) (λ (link : LinkDone _ _). link.client) _ _ _ _ _ _ _
+    (wrong_told _ c.end_broker-device.result.2 (Some c.fault_count-count.result) _ _ _ _ _ _ _ _ c.end_broker-device.ensures.wrong told.told) served.served) (λ none. absurd cc)
 
 pub returns-in-Err-Memory-clause-leaves : goal.returns-in-Err-Memory-clause-leaves
 returns-in-Err-Memory-clause-leaves g c left input =
@@ -39,11 +47,13 @@ returns-in-Err-Memory-clause-leaves g c left input =
     served.fixed c.end_broker-device.ensures.journal (ap (λ b. b.journal) idle.2 ∙ c.requires.journal) idle.1
     (ap (λ a. g.A.Acceptor.coming a) idle.0) (ap (λ a. g.A.Acceptor.faults a) idle.0)
     (c.end_broker-device.ensures.wrong ∙ ap (λ b. b.wrong_code) idle.2 ∙ c.requires.sound)
-    c.end_broker-device.ensures.ended served.served
+    c.end_broker-device.ensures.ended
+    (served_told (IsLinkDone g.A.In.Source.left g.A.Out.Sink.written g.A.In.Source.faults g.A.Out.Sink.faults (record { base = (g.D.Device.seen c.args.broker.device).base; limit = c.args.broker.limit; began = c.args.broker.began })) (λ (link : LinkDone _ _). link.client) _ _ _ _ _ _ _
+    (ap (λ b. is_some b.wrong_code) idle.2 ∙ ap is_some c.requires.sound) served.served)
 
 -- the broker may go to another thread
 broker_send : (g : Over) → IsSend (param 0 g.row.D) → IsSend (broker.the_row (param 0 g.row.D) g.D.Device)
-broker_send g device = search (sendable, crosses) depth 40 fits 100000
+broker_send g device = search (sendable, crosses, maps.crosses) depth 60 fits 100000
 
 pub serve-accepted-requires-send-B : goal.serve-accepted-requires-send-B
 serve-accepted-requires-send-B g c κs within =

@@ -1,6 +1,7 @@
-use Rattle.std.proofs.Common.{◌≡◌, None, Option, subst}
+use Rattle.std.proofs.Common.{◌≡◌, None, Option, ap, subst}
 use Rattle.tab_spec.specs.Persist.{Persist}
-use Rattle.broker_core.proofs.LockCalls.{tells, untold}
+use Rattle.broker_core.specs.Broker.{BrokerView}
+use Rattle.broker_core.proofs.LockCalls.{tells, tells_right, untold}
 use Rattle.broker_core.proofs.under_lock.BrokerServes.command.Goals as goal
 
 pub returns-clause-told : goal.returns-clause-told
@@ -9,3 +10,7 @@ returns-clause-told g c =
     (λ answer. subst (λ (b : Option Persist). b ≡ None) c.command.ensures.keeps.base_is
     (untold _ _ _ (g.met.D.Device.told_together c.command.new.self.device) c.command.ensures.last_answer.taken (c.command.ensures.answer.0 answer)))
     c.command.ensures.told
+
+pub returns-clause-wrong : goal.returns-clause-wrong
+returns-clause-wrong g c =
+    tells_right c.args.self.now c.command.new.self c.command.result c.command.ensures.answer (λ some. ap (λ (b : BrokerView _). b.wrong_code) (c.command.ensures.unchanged some))

@@ -9,14 +9,14 @@ join_seat-requires g c = let ours = c.pass.invariant.0 in let theirs = c.into_se
   search rules,
   c.into_seat-seat.ensures.idle.1,
   search rules,
-  joins_it g.B.Recorded.history g.B.Recorded.fixed c.pass.inside.seat.id c.into_seat-seat.result.id c.pass.inside.seat.me.0 c.into_seat-seat.result.me.0 ours.some_part theirs.some_part ours.resting theirs.resting,
+  joins_it g.B.Recorded.history g.B.Recorded.fixed g.B.Recorded.wrong c.pass.inside.seat.id c.into_seat-seat.result.id c.pass.inside.seat.me.0 c.into_seat-seat.result.me.0 ours.some_part theirs.some_part ours.resting theirs.resting,
 )
 
 pub load-requires : goal.load-requires
 load-requires g c = (
   search rules,
   search rules,
-  settles_at g.B.Recorded.history g.B.Recorded.fixed _ c.join_seat.new.seat.id c.pass.inside.seat.me.0 c.into_seat-seat.result.me.0 c.join_seat.new.seat.me (ap (λ me. me.0) c.join_seat.ensures.2) c.pass.invariant.0,
+  settles_at g.B.Recorded.history g.B.Recorded.fixed g.B.Recorded.wrong _ c.join_seat.new.seat.id c.pass.inside.seat.me.0 c.into_seat-seat.result.me.0 c.join_seat.new.seat.me (ap (λ me. me.0) c.join_seat.ensures.2) c.pass.invariant.0,
 )
 
 pub invariant_of-pass : goal.invariant_of-pass

@@ -9,7 +9,7 @@ pub split_seat-seat-requires : goal.split_seat-seat-requires
 split_seat-seat-requires g c = (
   search rules,
   search rules,
-  splits_it g.B.Recorded.history g.B.Recorded.fixed c.pass.inside.seat.id c.pass.inside.seat.me.0 (subst (λ (p : PassView). 2 ≤ p.parts) (sym c.pass.view_is) c.requires.parts) c.pass.invariant.0.resting,
+  splits_it g.B.Recorded.history g.B.Recorded.fixed g.B.Recorded.wrong c.pass.inside.seat.id c.pass.inside.seat.me.0 (subst (λ (p : PassView). 2 ≤ p.parts) (sym c.pass.view_is) c.requires.parts) c.pass.invariant.0.resting,
 )
 
 pub invariant_of-result : goal.invariant_of-result

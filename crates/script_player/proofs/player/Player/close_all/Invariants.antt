@@ -8,7 +8,7 @@ use Rattle.script_player.proofs.player.Player.close_all.Given as goal
 abbrev pub invariant-loop-client : goal.invariant-loop-client
 invariant-loop-client g l = record {
   kept : Keeps (g.B.Recorded.fixed l.initial.self.value) (g.B.Recorded.fixed l.self.value) l.self.labels (g.B.Recorded.history l.self.value);
-  stays : IsTrue (g.B.Runs.met_wrong l.initial.self.value) → IsTrue (g.B.Runs.met_wrong l.self.value);
+  stays : IsTrue (g.B.Recorded.wrong l.initial.self.value) → IsTrue (g.B.Recorded.wrong l.self.value);
   closed : (done : List ℕ) × (map (λ x. x.label) l.initial.self.labels.present ≡ done ++ map (λ x. x.label) l.self.labels.present)
       × Leads (g.B.Recorded.fixed l.initial.self.value).limit l.initial.self.labels.present (g.B.Recorded.history l.initial.self.value) (map closing done) l.self.labels.present (g.B.Recorded.history l.self.value) [];
 }

@@ -23,7 +23,7 @@ returns-in_err-write_reply-clause-stopped g c =
     let written_new = g.O.Sink.written c.write_reply.new.output in
     let labels = c.args.self.now.labels.present in
     let history = (g.B.Recorded.history c.args.self.now.value) in
-    let wrong = (g.B.Runs.met_wrong c.args.self.now.value) in
+    let wrong = (g.B.Recorded.wrong c.args.self.now.value) in
     let front = subst (λ (reply : List ℕ). WroteFront (reply_line c.args.label reply) written written_new) c.error_reply.ensures c.in_err-write_reply.ensures.front in
     let stopped = stopped_bad (g.B.Recorded.fixed c.args.self.now.value).limit (g.O.Sink.faults c.write_reply.new.output) labels history c.args.label found.0 written written_new wrong found.1 front in
     rw failed.1 (rw (c.write_reply.ensures.labels, c.write_reply.ensures.value)
@@ -60,6 +60,6 @@ returns-clause-stopped g c =
     let closes = rw (same_labels, same_history) at c.close_label.ensures.leads in
     let leads = leads_on (g.B.Recorded.fixed c.args.self.now.value).limit labels labels c.close_label.new.self.labels.present history history (g.B.Recorded.history c.close_label.new.self.value) (bad_size c.args.label ∷ []) (closing c.args.label ∷ []) line [] (leads_bad (g.B.Recorded.fixed c.args.self.now.value).limit labels history c.args.label found.0 found.1) closes in
     if_err_weaker c.close_label.result (λ stop is_wrong.
-    subst (λ (s : Stop). StoppedIn (g.B.Recorded.fixed c.args.self.now.value).limit s (bad_size c.args.label ∷ closing c.args.label ∷ []) labels history c.close_label.new.self.labels.present (g.B.Recorded.history c.close_label.new.self.value) written written_new (g.B.Runs.met_wrong c.close_label.new.self.value)) (sym is_wrong.0)
-    (stopped_close (g.B.Recorded.fixed c.args.self.now.value).limit (bad_size c.args.label ∷ []) c.args.label (bad_size c.args.label ∷ closing c.args.label ∷ []) labels history c.close_label.new.self.labels.present (g.B.Recorded.history c.close_label.new.self.value) (line ++ []) written written_new (g.B.Runs.met_wrong c.close_label.new.self.value) refl leads wrote))
+    subst (λ (s : Stop). StoppedIn (g.B.Recorded.fixed c.args.self.now.value).limit s (bad_size c.args.label ∷ closing c.args.label ∷ []) labels history c.close_label.new.self.labels.present (g.B.Recorded.history c.close_label.new.self.value) written written_new (g.B.Recorded.wrong c.close_label.new.self.value)) (sym is_wrong.0)
+    (stopped_close (g.B.Recorded.fixed c.args.self.now.value).limit (bad_size c.args.label ∷ []) c.args.label (bad_size c.args.label ∷ closing c.args.label ∷ []) labels history c.close_label.new.self.labels.present (g.B.Recorded.history c.close_label.new.self.value) (line ++ []) written written_new (g.B.Recorded.wrong c.close_label.new.self.value) refl leads wrote))
     c.close_label.ensures.err

@@ -50,12 +50,12 @@ returns-else-is_none-clause-ends g c =
     let found = has_client _ _ c.client.ensures c.if-is_none.ensures in
     let written = g.O.Sink.written c.args.output.now in
     if_err_weaker c.close_label.result (λ stop is_wrong.
-    subst (λ (s : Stop). EndsAt (g.B.Recorded.fixed c.args.self.now.value).limit s c.args.text.now c.args.played c.args.self.now.labels c.close_label.new.self.labels (g.B.Recorded.history c.args.self.now.value) (g.B.Recorded.history c.close_label.new.self.value) written written (g.B.Runs.met_wrong c.close_label.new.self.value)) (sym is_wrong.0) (record {
+    subst (λ (s : Stop). EndsAt (g.B.Recorded.fixed c.args.self.now.value).limit s c.args.text.now c.args.played c.args.self.now.labels c.close_label.new.self.labels (g.B.Recorded.history c.args.self.now.value) (g.B.Recorded.history c.close_label.new.self.value) written written (g.B.Recorded.wrong c.close_label.new.self.value)) (sym is_wrong.0) (record {
       of_line = tt;
       even = λ even. absurd even;
       full = λ count is. absurd cc;
       stopped = λ of_run.
-          stopped_line_close (g.B.Recorded.fixed c.args.self.now.value).limit c.args.text.now c.args.self.now.labels c.close_label.new.self.labels.present (g.B.Recorded.history c.args.self.now.value) (g.B.Recorded.history c.close_label.new.self.value) written (g.B.Runs.met_wrong c.close_label.new.self.value) label found.0 item found.1
+          stopped_line_close (g.B.Recorded.fixed c.args.self.now.value).limit c.args.text.now c.args.self.now.labels c.close_label.new.self.labels.present (g.B.Recorded.history c.args.self.now.value) (g.B.Recorded.history c.close_label.new.self.value) written (g.B.Recorded.wrong c.close_label.new.self.value) label found.0 item found.1
           c.close_label.ensures.leads;
     })) c.close_label.ensures.err
 
@@ -102,7 +102,7 @@ returns-in_ok-open_label-in-Some-Piece-clause-ends g c =
       full = not_full (g.B.Recorded.fixed c.args.self.now.value).limit stop (g.B.Recorded.history c.args.self.now.value) both.0;
       stopped = λ of_run.
           stopped_piece (g.B.Recorded.fixed c.args.self.now.value).limit stop c.args.text.now c.args.self.now.labels c.open_label.new.self.labels c.play_piece.new.self.labels.present (g.B.Recorded.history c.args.self.now.value) (g.B.Recorded.history c.open_label.new.self.value) (g.B.Recorded.history c.play_piece.new.self.value)
-          (g.O.Sink.written c.args.output.now) (g.O.Sink.written c.play_piece.new.output) (g.B.Runs.met_wrong c.play_piece.new.self.value) label bytes item opened_is c.in_ok-open_label-in-Some-Piece.ensures.leads (rw c.open_label.ensures.kept.fixed_is at both.1);
+          (g.O.Sink.written c.args.output.now) (g.O.Sink.written c.play_piece.new.output) (g.B.Recorded.wrong c.play_piece.new.self.value) label bytes item opened_is c.in_ok-open_label-in-Some-Piece.ensures.leads (rw c.open_label.ensures.kept.fixed_is at both.1);
     }) (if_err_both c.play_piece.result _ _ c.play_piece.ensures.err c.play_piece.ensures.stopped)
 
 pub returns-in_ok-open_label-in-Some-Piece-clause-kept : goal.returns-in_ok-open_label-in-Some-Piece-clause-kept

@@ -47,7 +47,7 @@ pub returns-in-Err-play_line-clause-played : goal.returns-in-Err-play_line-claus
 returns-in-Err-play_line-clause-played g c even =
     let read = rw c.in-Ok-Text.field-0-is at c.in-Ok-Text.ensures.read in
     let ends = subst (λ (t : List ℕ). EndsAt (g.B.Recorded.fixed c.loop-input.self.value).limit c.in-Err-play_line.stop t c.loop-input.played c.loop-input.self.labels c.play_line.new.self.labels (g.B.Recorded.history c.loop-input.self.value) (g.B.Recorded.history c.play_line.new.self.value)
-    (g.O.Sink.written c.loop-input.output) (g.O.Sink.written c.play_line.new.output) (g.B.Runs.met_wrong c.play_line.new.self.value)) c.deref.ensures.value c.in-Err-play_line.ensures.ends in
+    (g.O.Sink.written c.loop-input.output) (g.O.Sink.written c.play_line.new.output) (g.B.Recorded.wrong c.play_line.new.self.value)) c.deref.ensures.value c.in-Err-play_line.ensures.ends in
     let unplayed = ends.even even in
     rw (ap (λ (v : LabelsView). v.present) unplayed.labels_are, unplayed.history_is, unplayed.written_is)
     (played_stops (g.B.Recorded.fixed c.args.self.now.value).limit c.in-Err-play_line.stop _ _ _ c.loop-input.lines c.next.new.self _ _ (g.I.Source.left c.next.new.input) _ _ c.next.new.text.items Text c.loop-input.invariant.played read
@@ -78,7 +78,7 @@ pub returns-in-Err-play_line-clause-stopped : goal.returns-in-Err-play_line-clau
 returns-in-Err-play_line-clause-stopped g c of_run =
     let read = rw c.in-Ok-Text.field-0-is at c.in-Ok-Text.ensures.read in
     let ends = subst (λ (t : List ℕ). EndsAt (g.B.Recorded.fixed c.loop-input.self.value).limit c.in-Err-play_line.stop t c.loop-input.played c.loop-input.self.labels c.play_line.new.self.labels (g.B.Recorded.history c.loop-input.self.value) (g.B.Recorded.history c.play_line.new.self.value)
-    (g.O.Sink.written c.loop-input.output) (g.O.Sink.written c.play_line.new.output) (g.B.Runs.met_wrong c.play_line.new.self.value)) c.deref.ensures.value c.in-Err-play_line.ensures.ends in
+    (g.O.Sink.written c.loop-input.output) (g.O.Sink.written c.play_line.new.output) (g.B.Recorded.wrong c.play_line.new.self.value)) c.deref.ensures.value c.in-Err-play_line.ensures.ends in
     stopped_at (g.B.Recorded.fixed c.args.self.now.value).limit c.in-Err-play_line.stop c.loop-input.self.labels (g.B.Recorded.history c.loop-input.self.value) c.play_line.new.self.labels.present (g.B.Recorded.history c.play_line.new.self.value) (c.loop-input.played + 1) c.loop-input.lines c.next.new.self _ _ (g.I.Source.left c.next.new.input) _ _ _ c.next.new.text.items _ c.loop-input.invariant.played read (rw c.loop-input.invariant.kept.fixed_is at (ends.stopped of_run))
 
 pub returns-in-Err-play_line-clause-kept : goal.returns-in-Err-play_line-clause-kept

@@ -7,7 +7,7 @@ use Rattle.script_player.proofs.player.Player.play_lines.Given as goal
 
 abbrev pub invariant-loop-input : goal.invariant-loop-input
 invariant-loop-input g l = record {
-  behind : IsBehind l.played l.self.labels (g.B.Recorded.history l.self.value) (g.B.Runs.met_wrong l.self.value);
+  behind : IsBehind l.played l.self.labels (g.B.Recorded.history l.self.value) (g.B.Recorded.wrong l.self.value);
   kept : Keeps (g.B.Recorded.fixed l.initial.self.value) (g.B.Recorded.fixed l.self.value) l.self.labels (g.B.Recorded.history l.self.value);
   bound : l.played + l.lines.room ≤ SCRIPT_BYTES;
   capacity : LINE_BYTES ≤ vec_capacity l.text;

@@ -81,13 +81,13 @@ returns-in_err-run-in-Command-clause-stopped g c =
     let at = keeps (g.B.Recorded.fixed c.args.self.now.value).limit c.args.label c.loop-self.self.labels c.next.new.self (g.B.Recorded.history c.loop-self.self.value) so_far.x next.0 c.loop-self.invariant.kept.fits so_far.found next.2 in
     let failed = err_from_is_err_and c.from_residual.result c.from_residual.ensures.1 in
     let stopped = fed_stopped (g.B.Recorded.fixed c.args.self.now.value).limit c.in_err-run-in-Command.field-0.0 c.args.label c.canceled_up_to-upto.result fed.0 c.args.piece.now c.args.self.now.labels (g.B.Recorded.history c.args.self.now.value) (g.O.Sink.written c.args.output.now) c.loop-self.self.labels c.next.new.self
-    (g.B.Recorded.history c.loop-self.self.value) (g.O.Sink.written c.loop-self.output) c.loop-self.rest.now next.0 c.next.new.out c.run.new.self.labels.present (g.B.Recorded.history c.run.new.self.value) (g.O.Sink.written c.run.new.output) (g.B.Runs.met_wrong c.run.new.self.value)
+    (g.B.Recorded.history c.loop-self.self.value) (g.O.Sink.written c.loop-self.output) c.loop-self.rest.now next.0 c.next.new.out c.run.new.self.labels.present (g.B.Recorded.history c.run.new.self.value) (g.O.Sink.written c.run.new.output) (g.B.Recorded.wrong c.run.new.self.value)
     so_far next.1 at (rw c.loop-self.invariant.kept.fixed_is at (c.in_err-run-in-Command.ensures.stopped (keeping so_far.x next.0) at.found)) in
     rw failed.1 (λ x found.
     subst (λ (stop : Stop). StoppedIn (g.B.Recorded.fixed c.args.self.now.value).limit stop (fed_calls x c.args.piece.now) c.args.self.now.labels.present (g.B.Recorded.history c.args.self.now.value) c.run.new.self.labels.present (g.B.Recorded.history c.run.new.self.value)
-    (g.O.Sink.written c.args.output.now) (g.O.Sink.written c.run.new.output) (g.B.Runs.met_wrong c.run.new.self.value)) (sym failed.2)
+    (g.O.Sink.written c.args.output.now) (g.O.Sink.written c.run.new.output) (g.B.Recorded.wrong c.run.new.self.value)) (sym failed.2)
     (subst (λ (first : Label). StoppedIn (g.B.Recorded.fixed c.args.self.now.value).limit c.in_err-run-in-Command.field-0.0 (fed_calls first c.args.piece.now) c.args.self.now.labels.present (g.B.Recorded.history c.args.self.now.value) c.run.new.self.labels.present (g.B.Recorded.history c.run.new.self.value)
-    (g.O.Sink.written c.args.output.now) (g.O.Sink.written c.run.new.output) (g.B.Runs.met_wrong c.run.new.self.value)) (same_some (sym fed.1 ∙ found)) stopped))
+    (g.O.Sink.written c.args.output.now) (g.O.Sink.written c.run.new.output) (g.B.Recorded.wrong c.run.new.self.value)) (same_some (sym fed.1 ∙ found)) stopped))
 
 pub loop-self-preserved-in-Cancel : goal.loop-self-preserved-in-Cancel
 loop-self-preserved-in-Cancel g c =
@@ -168,9 +168,9 @@ returns-in-BadSize-clause-stopped g c =
     if_err_weaker c.end_label.result (λ stop at_end x found.
     let stopped = rw (same, c.loop-self.invariant.kept.fixed_is) at at_end in
     subst (λ (first : Label). StoppedIn (g.B.Recorded.fixed c.args.self.now.value).limit stop (fed_calls first c.args.piece.now) c.args.self.now.labels.present (g.B.Recorded.history c.args.self.now.value) c.end_label.new.self.labels.present (g.B.Recorded.history c.end_label.new.self.value)
-    (g.O.Sink.written c.args.output.now) (g.O.Sink.written c.end_label.new.output) (g.B.Runs.met_wrong c.end_label.new.self.value)) (same_some (sym fed.1 ∙ found))
+    (g.O.Sink.written c.args.output.now) (g.O.Sink.written c.end_label.new.output) (g.B.Recorded.wrong c.end_label.new.self.value)) (same_some (sym fed.1 ∙ found))
     (fed_bad_stopped (g.B.Recorded.fixed c.args.self.now.value).limit stop c.args.label c.canceled_up_to-upto.result fed.0 c.args.piece.now c.args.self.now.labels (g.B.Recorded.history c.args.self.now.value) (g.O.Sink.written c.args.output.now) c.loop-self.self.labels
-    (g.B.Recorded.history c.loop-self.self.value) (g.O.Sink.written c.loop-self.output) c.loop-self.rest.now c.in-BadSize.field-0 c.end_label.new.self.labels.present (g.B.Recorded.history c.end_label.new.self.value) (g.O.Sink.written c.end_label.new.output) (g.B.Runs.met_wrong c.end_label.new.self.value)
+    (g.B.Recorded.history c.loop-self.self.value) (g.O.Sink.written c.loop-self.output) c.loop-self.rest.now c.in-BadSize.field-0 c.end_label.new.self.labels.present (g.B.Recorded.history c.end_label.new.self.value) (g.O.Sink.written c.end_label.new.output) (g.B.Recorded.wrong c.end_label.new.self.value)
     so_far next.1.0 stopped)) c.end_label.ensures.stopped
 
 pub returns-then-is_empty-clause-kept : goal.returns-then-is_empty-clause-kept

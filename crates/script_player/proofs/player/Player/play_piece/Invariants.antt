@@ -9,7 +9,7 @@ use Rattle.script_player.proofs.player.Player.play_piece.Given as goal
 
 abbrev pub invariant-loop-self : goal.invariant-loop-self
 invariant-loop-self g l = record {
-  sound : g.B.Runs.met_wrong l.self.value ≡ false;
+  sound : g.B.Recorded.wrong l.self.value ≡ false;
   kept : Keeps (g.B.Recorded.fixed l.initial.self.value) (g.B.Recorded.fixed l.self.value) l.self.labels (g.B.Recorded.history l.self.value);
   quiet : g.O.Sink.faults l.output ≡ g.O.Sink.faults l.initial.output;
   fed : (first : Label) × (label_in l.initial.self.labels.present l.fn.label ≡ Some first) × (size_of_label first + length l.fn.piece < largest_count)

@@ -73,12 +73,12 @@ returns-in_err-write_reply-clause-stopped g c =
     let told = told_of_label (g.B.Recorded.fixed c.args.self.now.value) c.answer-told.result (g.B.Recorded.history c.args.self.now.value) (g.B.Recorded.history c.answer-told.new.self.value) c.count-client.result x.client (x.commands + 1) c.args.upto c.cover-covered.result c.args.self.now.frame c.answer-told.new.self.reply count.0 c.cover-covered.ensures c.answer-told.ensures.run c.answer-told.ensures.told in
     let front = subst (λ (l : ℕ). WroteFront (reply_line l c.answer-told.new.self.reply) written written_new) (sym name) c.in_err-write_reply.ensures.front in
     let stopped = stopped_told (g.B.Recorded.fixed c.args.self.now.value).limit c.answer-told.result (stops.Output (g.O.Sink.faults c.write_reply.new.output)) c.args.self.now.labels (g.B.Recorded.history c.args.self.now.value) (g.B.Recorded.history c.answer-told.new.self.value) x c.args.self.now.frame (cover c.args.upto (x.commands + 1)) c.answer-told.new.self.reply
-    written written_new (g.B.Runs.met_wrong c.answer-told.new.self.value) told c.answer-told.ensures.wrong c.requires.ready.fits (found_by_name _ _ _ found) (λ last some is. some) (λ none is. absurd cc) front in
+    written written_new (g.B.Recorded.wrong c.answer-told.new.self.value) told c.answer-told.ensures.wrong c.requires.ready.fits (found_by_name _ _ _ found) (λ last some is. some) (λ none is. absurd cc) front in
     let of_label = subst (λ (l : ℕ). StoppedIn (g.B.Recorded.fixed c.args.self.now.value).limit (stops.Output (g.O.Sink.faults c.write_reply.new.output)) (run_command l (x.commands + 1) c.args.self.now.frame (cover c.args.upto (x.commands + 1)) ∷ []) c.args.self.now.labels.present (g.B.Recorded.history c.args.self.now.value)
-    (replaced (counted x) c.args.self.now.labels.present) (g.B.Recorded.history c.answer-told.new.self.value) written written_new (g.B.Runs.met_wrong c.answer-told.new.self.value)) name stopped in
+    (replaced (counted x) c.args.self.now.labels.present) (g.B.Recorded.history c.answer-told.new.self.value) written written_new (g.B.Recorded.wrong c.answer-told.new.self.value)) name stopped in
     rw (c.write_reply.ensures.labels, c.answer-told.ensures.labels, c.write_reply.ensures.value, count.1)
     (subst (λ (stop : Stop). StoppedIn (g.B.Recorded.fixed c.args.self.now.value).limit stop (run_command c.args.label (x.commands + 1) c.args.self.now.frame (cover c.args.upto (x.commands + 1)) ∷ []) c.args.self.now.labels.present (g.B.Recorded.history c.args.self.now.value)
-    (replaced (counted x) c.args.self.now.labels.present) (g.B.Recorded.history c.answer-told.new.self.value) written written_new (g.B.Runs.met_wrong c.answer-told.new.self.value)) (sym (failed.2 ∙ c.in_err-write_reply.ensures.err.0)) of_label))
+    (replaced (counted x) c.args.self.now.labels.present) (g.B.Recorded.history c.answer-told.new.self.value) written written_new (g.B.Recorded.wrong c.answer-told.new.self.value)) (sym (failed.2 ∙ c.in_err-write_reply.ensures.err.0)) of_label))
 
 pub returns-clause-stopped : goal.returns-clause-stopped
 returns-clause-stopped g c =
@@ -91,16 +91,16 @@ returns-clause-stopped g c =
     let is_wrong = c.answer-told.ensures.wrong.0 at.1 in
     let wrote = c.in_ok-write_reply.ensures.written ∙ ap (λ (l : ℕ). with_more written (reply_line l c.answer-told.new.self.reply)) (sym name) in
     let stopped = stopped_told (g.B.Recorded.fixed c.args.self.now.value).limit c.answer-told.result stops.Answer c.args.self.now.labels (g.B.Recorded.history c.args.self.now.value) (g.B.Recorded.history c.answer-told.new.self.value) x c.args.self.now.frame (cover c.args.upto (x.commands + 1)) c.answer-told.new.self.reply
-    written written_new (g.B.Runs.met_wrong c.answer-told.new.self.value) told c.answer-told.ensures.wrong c.requires.ready.fits (found_by_name _ _ _ found) (λ last is. inl refl) (λ none. absurd (none is_wrong)) wrote in
+    written written_new (g.B.Recorded.wrong c.answer-told.new.self.value) told c.answer-told.ensures.wrong c.requires.ready.fits (found_by_name _ _ _ found) (λ last is. inl refl) (λ none. absurd (none is_wrong)) wrote in
     let of_label = subst (λ (l : ℕ). StoppedIn (g.B.Recorded.fixed c.args.self.now.value).limit stops.Answer (run_command l (x.commands + 1) c.args.self.now.frame (cover c.args.upto (x.commands + 1)) ∷ []) c.args.self.now.labels.present (g.B.Recorded.history c.args.self.now.value)
-    (replaced (counted x) c.args.self.now.labels.present) (g.B.Recorded.history c.answer-told.new.self.value) written written_new (g.B.Runs.met_wrong c.answer-told.new.self.value)) name stopped in
+    (replaced (counted x) c.args.self.now.labels.present) (g.B.Recorded.history c.answer-told.new.self.value) written written_new (g.B.Recorded.wrong c.answer-told.new.self.value)) name stopped in
     rw (c.write_reply.ensures.labels, c.answer-told.ensures.labels, c.write_reply.ensures.value, count.1)
     (subst (λ (s : Stop). StoppedIn (g.B.Recorded.fixed c.args.self.now.value).limit s (run_command c.args.label (x.commands + 1) c.args.self.now.frame (cover c.args.upto (x.commands + 1)) ∷ []) c.args.self.now.labels.present (g.B.Recorded.history c.args.self.now.value)
-    (replaced (counted x) c.args.self.now.labels.present) (g.B.Recorded.history c.answer-told.new.self.value) written written_new (g.B.Runs.met_wrong c.answer-told.new.self.value)) (sym at.0) of_label)) c.after_told.ensures.err
+    (replaced (counted x) c.args.self.now.labels.present) (g.B.Recorded.history c.answer-told.new.self.value) written written_new (g.B.Recorded.wrong c.answer-told.new.self.value)) (sym at.0) of_label)) c.after_told.ensures.err
 
 pub returns-clause-outcome : goal.returns-clause-outcome
 returns-clause-outcome g c =
-    let same = ap g.B.Runs.met_wrong c.write_reply.ensures.value in
+    let same = ap g.B.Recorded.wrong c.write_reply.ensures.value in
     let quiet = c.in_ok-write_reply.ensures.counts.quiet in
     record {
       counts = record { count = c.write_reply.ensures.counts.count; quiet = on_ok_weaker c.after_told.result (λ not_answer. quiet) c.after_told.ensures.ok };
