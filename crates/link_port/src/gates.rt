@@ -1,7 +1,8 @@
 ghost use Rattle.std.specs.Prelude.{◌≡◌, true};
 
 /// What a connection calls before each command, so that a test can hold a command until others
-/// have come, and once the journal had no room. All connections share one gate.
+/// have come, and where the journal has no room or the device gave a wrong answer, before the
+/// client is told. All connections share one gate.
 ///
 /// A call takes no handle. A gate that waits has its handle as a field, and the bound `Wait` on its
 /// own type, so a gate that doesn't wait needs none.
@@ -16,12 +17,12 @@ pub trait Gate: Sync {
         false
     }
 
-    /// The journal had no room for a command, whose client was told so, or for a client. By default
-    /// nothing is done.
+    /// The journal has no room for a command, whose client is told so next, or for a client. By
+    /// default nothing is done.
     fn journal_full(&self) {}
 
-    /// The device gave a wrong answer, here or before: a command's client was told so, or a client
-    /// wasn't opened. By default nothing is done.
+    /// The device gave a wrong answer, here or before: a command's client is told so next, a client
+    /// isn't opened, or one is closed. By default nothing is done.
     fn wrong_answer(&self) {}
 }
 

@@ -343,6 +343,24 @@ fn a_stop_ends_all_input_behind_what_has_come(rt: HostRuntime) -> Result<(), Fai
     Ok(())
 }
 
+// A closer that is dropped ends nothing. After one that is used nobody more is accepted, and the
+// connection that is open goes on.
+fn closes<R: System>(rt: &R, path: &str) -> Result<bool, Fail> {
+    let mut acceptor = UnixAcceptor::bind(rt, path)?;
+    drop(acceptor.closer()?);
+    let link = link_at(rt, &mut acceptor, path)?;
+    acceptor.closer()?.close();
+    let none = has_no_more(&mut acceptor) && has_no_more(&mut acceptor);
+    Ok(none && connect(rt, path).is_err() && is_used(link))
+}
+
+#[test]
+fn a_closer_ends_accepting_alone(rt: HostRuntime) -> Result<(), Fail> {
+    let path = format!(in rt.alloc(); "/tmp/link_tests_{}.closed", process::id(rt.process()))?;
+    assert!(rt; closes(&rt, path.as_str())?);
+    Ok(())
+}
+
 // Asks for a stop. What had come is still given, a later write fails, and then comes the end.
 fn sees_stop<R: System>(rt: &R, stop: &str, link: &mut Link) -> Result<bool, Fail> {
     let sent = link.commands.push(&[1, 2]);

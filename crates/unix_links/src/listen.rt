@@ -1,5 +1,5 @@
 // A Unix stream socket that listens at a path.
-ghost use Rattle.std.specs.Prelude.{◌≡◌, ◌≤◌, IsTrue, IfOk, IfSome, OnOk, OnErr, IsErr, IsNone};
+ghost use Rattle.std.specs.Prelude.{◌≡◌, ◌≤◌, IfOk, IfSome, OnOk, OnErr, IsErr, IsNone};
 ghost use Rattle.std.specs.Prelude.{false, true};
 ghost use Rattle.tab_spec.specs.Count.{Rose, one_more};
 ghost use Rattle.link_port.specs.Port.{Accepted};
@@ -7,11 +7,11 @@ ghost use Rattle.unix_links.specs.Listening.{HaveNoFaults, new_listening, untold
 
 use crate::lock::PathLock;
 use crate::socket_file::SocketFile;
-use crate::stop::{MODE, Stop, stop_path};
+use crate::stop::{Closer, Closing, MODE, Stop, stop_path};
 use crate::stream::ends_of;
 use crate::want::Want;
 use crate::{UnixSink, UnixSource};
-use libc::net::{POLLIN, SHUT_RD, shutdown};
+use libc::net::{SHUT_RD, shutdown};
 use link_port::{Acceptor, Failed};
 use std::fs::{File, Files};
 use std::io;
@@ -24,21 +24,22 @@ use std::path::AsPath;
 use std::sync::Wait;
 use std::time::Clock;
 
-// A socket that listens, and its file; by what a stop is asked, and the file of that; and the lock
-// beside them.
+// A socket that listens, and its file; by what a stop is asked, and the file of that; by what the
+// closer is seen; and the lock beside them.
 struct Bound<'a, R: Files> {
     listener: UnixListener,
     file: SocketFile<'a, R>,
     stop: Stop,
     stop_file: SocketFile<'a, R>,
+    closing: Closing,
     lock: PathLock<'a, R>,
 }
 
 /// An acceptor of the connections to a Unix stream socket, or one without a socket. It tells none
-/// of them. They end where a stop is asked (`ask_to_stop`); then the input of each connection ends
-/// too, behind what has come. Where it is dropped, or fails, it removes the socket's file and that
-/// of the one by which a stop is asked, unless other files stand at their paths by then. This
-/// project's own.
+/// of them. They end where its [`Closer`] is used, and where a stop is asked (`ask_to_stop`); after
+/// a stop the input of each connection ends too, behind what has come. Where it is dropped, or
+/// fails, it removes the socket's file and that of the one by which a stop is asked, unless other
+/// files stand at their paths by then. This project's own.
 #[derive(Drop)]
 pub struct UnixAcceptor<'a, R: Files + Net> {
     rt: &'a R,
@@ -79,11 +80,13 @@ impl<'a, R: Files<File = File> + Net + AllocGlobal> UnixAcceptor<'a, R> {
         let (stop_listener, stop_file) = SocketFile::listen(rt, stop_address, Some(MODE))?;
         let (listener, file) = SocketFile::listen(rt, address, None)?;
         let stop = Stop::at(stop_listener);
+        let closing = Closing::new(rt)?;
         let bound = Bound {
             listener,
             file,
             stop,
             stop_file,
+            closing,
             lock,
         };
         Ok(UnixAcceptor {
@@ -105,6 +108,15 @@ impl<'a, R: Files + Net> UnixAcceptor<'a, R> {
             bound: None,
             faults: 0,
             is_stop_told: false,
+        }
+    }
+
+    /// A closer of this acceptor; without a socket one that ends nothing. It fails where the system
+    /// has no descriptor left.
+    pub fn closer(&self) -> io::Result<Closer> {
+        match &self.bound {
+            Some(bound) => bound.closing.closer(),
+            None => Ok(Closer::none()),
         }
     }
 }
@@ -142,7 +154,7 @@ fn accept_on<R: Files + Net + Clock + Wait + Eprint>(
         return Err(io::Error::from(ErrorKind::NotConnected));
     };
     let mut want = Want::new();
-    let Some(reader) = accept_stream(rt, &bound.listener, bound.stop, &mut want)? else {
+    let Some(reader) = accept_stream(rt, bound, &mut want)? else {
         return Ok(None);
     };
     let Some(writer) = clone_of(rt, &reader, bound.stop, &mut want)? else {
@@ -152,15 +164,19 @@ fn accept_on<R: Files + Net + Clock + Wait + Eprint>(
     Ok(Some(ends_of(reader, writer, bound.stop)))
 }
 
-// The stream of the next connection. `None` once a stop is asked, and clients are refused then.
-fn accept_stream<R: Clock + Wait + Eprint>(
+// The stream of the next connection. `None` once a stop is asked or the closer is used, and clients
+// are refused then.
+fn accept_stream<R: Files + Clock + Wait + Eprint>(
     rt: &R,
-    listener: &UnixListener,
-    stop: Stop,
+    bound: &Bound<'_, R>,
     want: &mut Want,
 ) -> io::Result<Option<UnixStream>> {
     for _ in rt.forever() {
-        if stop.wait(listener.as_raw_fd(), POLLIN) {
+        let listener = &bound.listener;
+        if bound
+            .stop
+            .wait_to_accept(listener.as_raw_fd(), &bound.closing)
+        {
             refuse(listener);
             return Ok(None);
         }
@@ -205,11 +221,11 @@ impl<'a, R: Files + Net + Clock + Wait + Eprint> Acceptor for UnixAcceptor<'a, R
 
     ghost faults = { λ a. a.faults };
 
-    /// Waits for a connection. Once a stop is asked there are no more: the answer is `None`, now
-    /// and later, and that it was asked is told on standard error once. A want of the system's that
-    /// passes, as of descriptors or of memory, is waited out, and told there once. Any other
-    /// refusal is a failure: it is told there too, and the socket is closed and its files removed,
-    /// so that clients are refused from then on.
+    /// Waits for a connection. Once a stop is asked or the closer is used there are no more: the
+    /// answer is `None`, now and later. That a stop was asked is told on standard error once. A
+    /// want of the system's that passes, as of descriptors or of memory, is waited out, and told
+    /// there once. Any other refusal is a failure: it is told there too, and the socket is closed
+    /// and its files removed, so that clients are refused from then on.
     fn next(&mut self) -> Result<Option<(UnixSource, UnixSink)>, Failed>
         ensures accepted { IfOk result (λ link. Accepted untold untold link) }
         ensures err { OnErr result (untold ≡ untold) }
@@ -257,11 +273,13 @@ impl<'a, R: Files> Drop for Bound<'a, R> {
             file,
             stop: _,
             stop_file,
+            closing,
             lock,
         } = self;
         drop(file);
         drop(stop_file);
         drop(listener);
+        drop(closing);
         drop(lock);
     }
 }

@@ -1,13 +1,14 @@
-// How a daemon is asked to end. Beside the socket at its path it listens at a second one, and
-// whoever connects there asks. No connection is accepted there: the first one stays in the queue,
-// so that everybody who looks finds it, the acceptor and each end of a connection.
+// How a daemon is asked to end, and how it ends its accepting. Beside the socket at its path it
+// listens at a second one, and whoever connects there asks. No connection is accepted there: the
+// first one stays in the queue, so that everybody who looks finds it, the acceptor and each end of
+// a connection.
 
-use libc::net::{POLLIN, poll};
+use libc::net::{POLLIN, SHUT_WR, poll, shutdown};
 use libc::types::pollfd;
 use std::io;
 use std::io::{ErrorKind, Read};
 use std::net::Net;
-use std::os::fd::{IntoRawFd, RawFd};
+use std::os::fd::{AsRawFd, IntoRawFd, RawFd};
 use std::os::unix::net::{UnixListener, UnixStream};
 
 // No limit on a wait.
@@ -22,6 +23,52 @@ pub(crate) const MODE: u32 = 0o600;
 /// The path of the second socket beside the one at this path. It fails only for want of memory.
 pub(crate) fn stop_path<R: AllocGlobal>(rt: &R, path: &str) -> io::Result<String> {
     Ok(format!(in rt.alloc(); "{path}.stop")?)
+}
+
+/// Ends the accepting of connections from within the process. Those that are open go on.
+#[derive(Drop)]
+pub struct Closer {
+    end: Option<UnixStream>,
+}
+
+impl Closer {
+    /// Nothing is ended by it.
+    pub fn none() -> Closer {
+        Closer { end: None }
+    }
+
+    /// The acceptor accepts nobody more, also where it waits. Clients are refused once its `next`
+    /// has seen that.
+    pub fn close(&self) {
+        if let Some(end) = &self.end {
+            shutdown(end.as_raw_fd(), SHUT_WR);
+        }
+    }
+}
+
+/// What an acceptor waits on to see that its closer was used. It has both ends of a pair of
+/// streams, so that a closer that is dropped ends nothing.
+#[derive(Drop)]
+pub(crate) struct Closing {
+    far: UnixStream,
+    end: UnixStream,
+}
+
+impl Closing {
+    pub(crate) fn new<R: Net>(rt: &R) -> io::Result<Closing> {
+        let (far, end) = UnixStream::pair(rt)?;
+        Ok(Closing { far, end })
+    }
+
+    pub(crate) fn closer(&self) -> io::Result<Closer> {
+        Ok(Closer {
+            end: Some(self.far.try_clone()?),
+        })
+    }
+
+    fn fd(&self) -> RawFd {
+        self.end.as_raw_fd()
+    }
 }
 
 /// What tells that a daemon is asked to end.
@@ -57,6 +104,18 @@ impl Stop {
         let mut both = [asked(fd, events), asked(self.listener, POLLIN)];
         let _ = poll(&mut both, FOREVER);
         both[1].revents != 0
+    }
+
+    /// Waits until a connection comes to this listener, until a stop is asked or the closer is
+    /// used, and answers whether one of the last two is so.
+    pub(crate) fn wait_to_accept(self, listener: RawFd, closing: &Closing) -> bool {
+        let mut all = [
+            asked(listener, POLLIN),
+            asked(self.listener, POLLIN),
+            asked(closing.fd(), POLLIN),
+        ];
+        let _ = poll(&mut all, FOREVER);
+        all[1].revents != 0 || all[2].revents != 0
     }
 }
 
