@@ -19,6 +19,20 @@ const WORKLOAD: &[&str] = &["workload", "--device", ZERO_SEED, "--start=7", "--l
 // Two commands in one piece.
 const PIECE: &[u8] = b"0 80010000000c0000017b000880010000000c0000017b0008\n";
 
+// CreatePrimary, a close, and a bad line.
+const CLOSED: &[u8] = b"\
+    0 80020000003900000131400000010000000940000009000000000000040000000000100008000b00040072000000\
+    05000b0000000000000000\n\
+    0 close\n\
+    0\n";
+
+// An authorized success with the handle of an object, which no FlushContext has, and its line.
+const CREATED: &[u8] = &[
+    0x80, 0x02, 0, 0, 0, 23, 0, 0, 0, 0, 0x80, 0, 0, 0, 0, 0, 0, 0, 0, 0, 1, 0, 0,
+];
+
+const CREATED_LINE: &[u8] = b"0 8002000000170000000080000000000000000000010000\n";
+
 // What is written where the device answers the first command wrongly, and then the audit text.
 const REFUSED: &[u8] = b"0 80010000000a000b0004\n";
 
@@ -125,7 +139,7 @@ fn over<R: Threads + Wait + Sync>(
 fn a_device_that_tells_nothing(rt: HostRuntime) -> Result<(), Fail> {
     // the words, the script, each later response, the status and the detail, what is written, and
     // how many commands are sent
-    let cases: [(&[&str], &[u8], &[u8], (u8, u64), &[u8], u64); 10] = [
+    let cases: [(&[&str], &[u8], &[u8], (u8, u64), &[u8], u64); 11] = [
         (AUDITED, SCRIPT, &[], (7, 0), REFUSED_TEXT, 5),
         (
             AUDITED,
@@ -165,6 +179,8 @@ fn a_device_that_tells_nothing(rt: HostRuntime) -> Result<(), Fail> {
         (AUDITED, PIECE, &[], (7, 0), REFUSED_TEXT, 5),
         (RUN, SCRIPT, &[], (7, 0), REFUSED, 5),
         (RUN, PIECE, &[], (7, 0), REFUSED, 5),
+        // a bad line isn't reached behind a close whose flush was answered wrongly
+        (RUN, CLOSED, CREATED, (7, 0), CREATED_LINE, 6),
         // a workload that stops tells nothing
         (WORKLOAD, b"bad\n", &[], (7, 0), b"", 5),
     ];
