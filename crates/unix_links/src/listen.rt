@@ -24,8 +24,8 @@ use std::path::AsPath;
 use std::sync::Wait;
 use std::time::Clock;
 
-// A socket that listens, and its file; by what a stop is asked, and the file of that; by what the
-// closer is seen; and the lock beside them.
+// A socket that listens, and its file; what a stop is asked through, and its file; what shows that
+// the closer was used; and the lock beside them.
 struct Bound<'a, R: Files> {
     listener: UnixListener,
     file: SocketFile<'a, R>,
@@ -164,8 +164,8 @@ fn accept_on<R: Files + Net + Clock + Wait + Eprint>(
     Ok(Some(ends_of(reader, writer, bound.stop)))
 }
 
-// The stream of the next connection. `None` once a stop is asked or the closer is used, and clients
-// are refused then.
+// The stream of the next connection. `None` where a stop was asked or the closer used before one
+// came; clients are refused then.
 fn accept_stream<R: Files + Clock + Wait + Eprint>(
     rt: &R,
     bound: &Bound<'_, R>,
@@ -221,11 +221,12 @@ impl<'a, R: Files + Net + Clock + Wait + Eprint> Acceptor for UnixAcceptor<'a, R
 
     ghost faults = { λ a. a.faults };
 
-    /// Waits for a connection. Once a stop is asked or the closer is used there are no more: the
-    /// answer is `None`, now and later. That a stop was asked is told on standard error once. A
-    /// want of the system's that passes, as of descriptors or of memory, is waited out, and told
-    /// there once. Any other refusal is a failure: it is told there too, and the socket is closed
-    /// and its files removed, so that clients are refused from then on.
+    /// Waits for a connection. Once a stop is asked or the closer is used, each later call answers
+    /// `None`; a call that has accepted a connection by then may still hand it out. That a stop was
+    /// asked is told on standard error once. A want of the system's that passes, as of descriptors
+    /// or of memory, is waited out, and told there once. Any other refusal is a failure: it is told
+    /// there too, and the socket is closed and its files removed, so that clients are refused from
+    /// then on.
     fn next(&mut self) -> Result<Option<(UnixSource, UnixSink)>, Failed>
         ensures accepted { IfOk result (λ link. Accepted untold untold link) }
         ensures err { OnErr result (untold ≡ untold) }

@@ -1,4 +1,4 @@
-// How a daemon is asked to end, and how it ends its accepting. Beside the socket at its path it
+// How a daemon is asked to end, and how it stops accepting. Beside the socket at its path it
 // listens at a second one, and whoever connects there asks. No connection is accepted there: the
 // first one stays in the queue, so that everybody who looks finds it, the acceptor and each end of
 // a connection.
