@@ -29,15 +29,15 @@ pub trait Recorded {
 
 /// A value that opens clients, runs or cancels their commands and closes them, and enters each such
 /// call into its history. After any call the history is the one before, followed by one entry of
-/// the call's client, or by none. Once a wrong answer of the device came, that call and each later
-/// one tells it; none tells it before. Where the device says what the history begins from, none
-/// comes.
+/// the call's client, or by none. The call in which the device gives a wrong answer says so, and so
+/// does each later call; no earlier one does. A device that shows what the history begins from
+/// gives no wrong answer.
 pub trait Serves: Recorded {
     /// Opens the next client. An error enters nothing.
     fn open_client(&mut self) -> Result<u32, OpenClientError>
         ensures opens { Opens (Self.fixed self.old) (Self.history self.old) (Self.history self.new)
             result }
-        // The device isn't asked.
+        // An opening meets no wrong answer.
         ensures wrong { TellsWrong (Self.wrong self.old) (Self.wrong self.new) (opens_wrong result)
             × (Self.wrong self.new ≡ Self.wrong self.old) }
         ensures fixed { Self.fixed self.new ≡ Self.fixed self.old };

@@ -21,8 +21,8 @@ use std::sync::ledger::Ledger;
 
 impl<D: Device> Machine<D> {
     /// Drops all that the client of a list has: each session, and each object that is in a slot, is
-    /// flushed (Part 3, "TPM2_FlushContext"). What can't be flushed is nobody's then; how much that
-    /// is. Its list is nobody's too. An error is the code of a wrong answer.
+    /// flushed (Part 3, "TPM2_FlushContext"). What can't be flushed is nobody's then, and so is the
+    /// list. It returns how much couldn't be flushed. An error is the code of a wrong answer.
     pub fn drop_all(&mut self, client: u32, list: u32) -> Result<u32, u32>
         requires list { owner_at self.old.held.objects.owners list ≡ Some client }
         requires may { MayMove call_contexts D.seen self.old.device self.old.held }

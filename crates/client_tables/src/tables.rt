@@ -12,9 +12,9 @@ use std::collections::HashMap;
 use std::marker::Model;
 use virtual_handles::ClientTable;
 
-/// The tables of all clients that were ever opened, by number, and beside each table the number of
-/// the list that the client's objects stand in. Both are taken out when the client is closed, and
-/// nothing is kept of it then.
+/// The tables of the open clients, by number, and beside each table the number of the list that the
+/// client's objects stand in. Both are taken out when the client is closed, and nothing is kept of
+/// it then.
 ///
 /// A client is found by the hash of its number, so that no call but `reserve` goes over the others.
 /// Memory is taken by `reserve` alone, which then moves all that is kept.

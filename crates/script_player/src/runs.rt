@@ -17,7 +17,7 @@ pub trait Runs: Recorded {
         requires sound { Self.wrong self.old ≡ false }
         ensures opens { Opens (Self.fixed self.old) (Self.history self.old) (Self.history self.new)
             result }
-        // The device isn't asked.
+        // An opening meets no wrong answer.
         ensures sound { (result ≡ Err open_errors.Answer → ⊥) × (Self.wrong self.new ≡ false) }
         ensures fixed { Self.fixed self.new ≡ Self.fixed self.old };
 
