@@ -1,11 +1,12 @@
 -- A broker that has begun.
-use Rattle.std.proofs.Common.{◌≡◌, ◌≤◌, ◌+◌, ℕ, zero, suc, Bool, true, false, true≢false, cond, List, [], ◌∷◌, Option, Some, None, refl, sym, ap, subst, ◌∙◌, arith, inl, inr}
+use Rattle.std.proofs.Common.{◌≡◌, ◌≤◌, ◌+◌, ℕ, zero, suc, true, false, true≢false, cond, List, [], ◌∷◌, Option, Some, None, refl, sym, ap, subst, ◌∙◌, arith, inl, inr}
 use Rattle.std.proofs.lemmas.Bool.{false≢true}
 use Rattle.std.proofs.lemmas.List.Sums.{sum_by-cons}
-use Rattle.std.specs.Prelude.{◌==◌, replicate, get_or, is_some, IfSome, not}
+use Rattle.std.specs.Prelude.{◌==◌, replicate, get_or, is_some, IfSome}
 use Rattle.std.specs.List.{count_by, list_any}
 use Rattle.std.proofs.lemmas.List.{length-replicate}
-use Rattle.tab_spec.specs.declared.TheConstants.{LOADED_SESSIONS, OBJECT_SLOTS}
+use Rattle.tab_spec.specs.declared.numbers.Numbers.{Numbers}
+use Rattle.tab_spec.specs.Numbers.{profile_numbers}
 use Rattle.tab_spec.specs.Object.{Object}
 use Rattle.tab_spec.specs.Persist.{Persist}
 use Rattle.device_spec.specs.Answers.{IsRight}
@@ -78,21 +79,22 @@ none_left : (count : ℕ) → count_by sessions.is_orphan (replicate count None)
 none_left zero = refl
 none_left (suc count) = omega (arith, count_cons sessions.is_orphan None (replicate count None), none_left count)
 
--- nothing is held
-abbrev pub held_nothing : ℕ → ℕ → Held
-held_nothing slots next = record {
-  objects = record { items = []; slots = slots; order = []; owners = []; left = [] };
-  sessions = record { items = no_items; next = next; order = []; saved = [] };
+-- nothing is held, for a device of these numbers
+abbrev pub held_nothing : Numbers → ℕ → Held
+held_nothing numbers next = record {
+  objects = record { items = []; slots = numbers.slots; order = []; owners = []; left = [] };
+  sessions = record { numbers = numbers; items = no_items; next = next; order = []; saved = [] };
 }
 
-pub settled_empty : (slots : SlotState) (count next : ℕ) → slots.started ≡ true → IsSlots slots → HoldsNothing slots → IsSettled slots (held_nothing count next)
-settled_empty slots count next started sound empty =
+pub settled_empty : (slots : SlotState) (numbers : Numbers) (next : ℕ) → slots.started ≡ true → IsSlots slots → slots.numbers ≡ numbers → HoldsNothing slots → IsSettled slots (held_nothing numbers next)
+settled_empty slots numbers next started sound are empty =
     let none : active_count slots.sessions ≡ 0 = omega (arith, empty) in
     record {
       objects = record { started = started; sound = sound; each = tt; owned = owned_nothing slots (omega (arith, empty)) };
       sessions = record {
         started = started;
         sound = sound;
+        numbers = are;
         count = let none : Option sessions.Item = None in length-replicate 64 none;
         each = λ number. subst (λ (item : Option sessions.Item). IfSome item (λ item. sessions.ItemStands slots number item)) (sym (none_at 64 number)) tt;
         owned = λ number. omega (
@@ -103,23 +105,26 @@ settled_empty slots count next started sound empty =
         next = λ some. absurd (true≢false (sym some ∙ none_saved 64));
         rise = tt;
       };
-      gap = omega (arith, ap (gap_from slots.counter) (none_oldest slots.sessions none), flag_most (loaded_count slots.sessions == LOADED_SESSIONS));
+      gap = omega (arith, ap (gap_from slots.counter) (none_oldest slots.sessions none), flag_most (loaded_count slots.sessions == slots.numbers.loaded));
     }
 
 -- ---- the start
 
-stands_begun : (base : Option Persist) (old new : Option SlotState) (count next : ℕ) → is_some old ≡ is_some new → IsAtBase base old → ClearedIf old new
-    → StandsFor base new [] [] (held_nothing count next)
-stands_begun base None new count next same at_base clears b slots is_base is_state = absurd (let some : is_some new ≡ true = ap is_some is_state in cc)
-stands_begun base (Some s) new count next same at_base clears b slots is_base is_state =
+stands_begun : (base : Option Persist) (old new : Option SlotState) (next : ℕ) → is_some old ≡ is_some new → IsAtBase base old → ClearedIf old new
+    → StandsFor base new [] [] (held_nothing profile_numbers next)
+stands_begun base None new next same at_base clears b slots is_base is_state = absurd (let some : is_some new ≡ true = ap is_some is_state in cc)
+stands_begun base (Some s) new next same at_base clears b slots is_base is_state =
     let (after, after_is, begun) = clears s refl in
     let is : after ≡ slots = some_same (sym after_is ∙ is_state) in
     let cleared : IsCleared s slots = subst (IsCleared s) is begun in
+    let profile : slots.numbers ≡ profile_numbers = ap (λ (t : SlotState). t.numbers) cleared.kept ∙ at_base.profile in
     record {
       legal = tt;
       stands = record {
         persist = ap (λ (t : SlotState). t.persist) cleared.kept ∙ at_base.kept b s is_base refl;
-        settled = settled_empty slots count next cleared.started cleared.sound cleared.empty;
+        most = refl;
+        profile = profile;
+        settled = settled_empty slots profile_numbers next cleared.started cleared.sound profile cleared.empty;
         clients = λ client. refl;
         sessions = sym (none_owned slots 64);
         handed = record { of_objects = omega arith; of_sessions = omega arith };
@@ -128,19 +133,18 @@ stands_begun base (Some s) new count next same at_base clears b slots is_base is
       };
     }
 
-nothing_held : (held : Held) (slots next : ℕ) → held.objects ≡ record { items = []; slots = slots; order = []; owners = []; left = [] }
-    → held.sessions ≡ record { items = no_items; next = next; order = []; saved = [] } → held_nothing slots next ≡ held
-nothing_held held slots next objects sessions = λ i. record { objects = sym objects i; sessions = sym sessions i }
+nothing_held : (held : Held) (numbers : Numbers) (next : ℕ) → held.objects ≡ record { items = []; slots = numbers.slots; order = []; owners = []; left = [] }
+    → held.sessions ≡ record { numbers = numbers; items = no_items; next = next; order = []; saved = [] } → held_nothing numbers next ≡ held
+nothing_held held numbers next objects sessions = λ i. record { objects = sym objects i; sessions = sym sessions i }
 
 not_own : {client : ℕ} → ◌≡◌ {A = Option ℕ} None (Some client) → ⊥
 not_own own = absurd cc
 
-holds_nothing : (began : ℕ) (base : Option Persist) (old : Option SlotState) (new : Seen) (limit count next : ℕ)
+holds_nothing : (began : ℕ) (base : Option Persist) (old : Option SlotState) (new : Seen) (limit next : ℕ)
     → is_some old ≡ is_some new.state → IsAtBase base old → ClearedIf old new.state → new.base ≡ base → began ≤ new.faults → IsRight (asked_of new) (last_of new)
-    → limit ≤ SILENT_LIMIT → count ≡ OBJECT_SLOTS
-    → Holds began new [] limit [] [] (held_nothing count next) 0 None
-holds_nothing began base old new limit count next same at_base clears base_same risen right most slots_are = record {
-  stands = subst (λ (b : Option Persist). StandsFor b new.state [] [] (held_nothing count next)) (sym base_same) (stands_begun base old new.state count next same at_base clears);
+    → limit ≤ SILENT_LIMIT → Holds began new [] limit [] [] (held_nothing profile_numbers next) 0 None
+holds_nothing began base old new limit next same at_base clears base_same risen right most = record {
+  stands = subst (λ (b : Option Persist). StandsFor b new.state [] [] (held_nothing profile_numbers next)) (sym base_same) (stands_begun base old new.state next same at_base clears);
   journal = record {
     counts = tt;
     whole = tt;
@@ -163,18 +167,20 @@ holds_nothing began base old new limit count next same at_base clears base_same 
   };
   answers = record { answer = tt; right = λ none. right; taken = λ told. refl };
   faulted = inl (omega (arith, risen));
-  slots_are = slots_are;
+  slots_are = refl;
+  numbers_are = refl;
   few = omega arith;
   placed = omega arith;
 }
 
-pub holds_begun : (began : ℕ) (base : Option Persist) (old : Option SlotState) (new : Seen) (limit : ℕ) (held : Held)
+pub holds_begun : (began : ℕ) (base : Option Persist) (old : Option SlotState) (new : Seen) (limit : ℕ) (held : Held) (numbers : Numbers)
     → is_some old ≡ is_some new.state → IsAtBase base old → ClearedIf old new.state → new.base ≡ base → began ≤ new.faults → IsRight (asked_of new) (last_of new)
-    → limit ≤ SILENT_LIMIT → held.objects ≡ record { items = []; slots = OBJECT_SLOTS; order = []; owners = []; left = [] }
-    → held.sessions ≡ record { items = no_items; next = 0; order = []; saved = [] } → Holds began new [] limit [] [] held 0 None
-holds_begun began base old new limit held same at_base clears base_same risen right most objects sessions =
-    subst (λ (h : Held). Holds began new [] limit [] [] h 0 None) (nothing_held held OBJECT_SLOTS 0 objects sessions)
-    (holds_nothing began base old new limit OBJECT_SLOTS 0 same at_base clears base_same risen right most refl)
+    → limit ≤ SILENT_LIMIT → numbers ≡ profile_numbers → held.objects ≡ record { items = []; slots = numbers.slots; order = []; owners = []; left = [] }
+    → held.sessions ≡ record { numbers = numbers; items = no_items; next = 0; order = []; saved = [] } → Holds began new [] limit [] [] held 0 None
+holds_begun began base old new limit held numbers same at_base clears base_same risen right most are objects sessions =
+    subst (λ (h : Held). Holds began new [] limit [] [] h 0 None) (nothing_held held numbers 0 objects sessions)
+    (subst (λ (n : Numbers). Holds began new [] limit [] [] (held_nothing n 0) 0 None) (sym are)
+    (holds_nothing began base old new limit 0 same at_base clears base_same risen right most))
 
 pub limit_most : (limit : ℕ) → IsLimit limit → limit ≤ SILENT_LIMIT
 limit_most limit (inl is) = omega (arith, is.1)

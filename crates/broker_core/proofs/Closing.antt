@@ -3,6 +3,7 @@ use Rattle.std.proofs.Common.{◌≡◌, ◌<◌, ◌≤◌, ◌+◌, ◌-◌, �
 use Rattle.std.specs.Prelude.{is_some, set}
 use Rattle.std.specs.List.{list_any}
 use Rattle.std.proofs.lemmas.List.{length-set}
+use Rattle.tab_spec.specs.declared.TheConstants.{ACTIVE_SESSIONS}
 use Rattle.device_spec.specs.Answers.{IsWrongAnswer}
 use Rattle.device_spec.specs.Slots.{SlotState}
 use Rattle.device_port.specs.Device.{Seen, asked_of, last_of}
@@ -20,7 +21,7 @@ use Rattle.client_machine.specs.Tables.{AreOpenOwners}
 use Rattle.broker_core.specs.Tables.{TablesStand, list_of}
 use Rattle.object_swap.specs.Items.{HasNone}
 use Rattle.broker_core.proofs.Journaling.{counted-left, counted-push, journal-close, journal-later}
-use Rattle.broker_core.proofs.Holding.{Entries, after-push, counters_in, fewer-counted, longer, moves_now, no_answer, no_state, none_is, not_told, others_in, still_right, told_before}
+use Rattle.broker_core.proofs.Holding.{Entries, after-push, counters_in, fewer-counted, longer, moves_now, no_answer, no_state, none_is, not_told, others_in, slots_still, still_right, told_before}
 use Rattle.client_machine.proofs.Settling.{settled_at}
 use Rattle.broker_core.proofs.Tabling.{open_inside, owners-close, tables-close}
 use Rattle.broker_core.proofs.Listing.{lists-close, lists_same}
@@ -45,10 +46,10 @@ stands_closed seen {device = device} {new = new} history tables {held} {new_held
     let slots = before.0 in
     let so_far = stands b slots (sym drops.keeps.base_is ∙ is_base) before.1 in
     let e : Entry = close_entry client in
-    after-push b slots history e tables held (closed_world (world_of b history) client) so_far (record { form = refl; is_open = opened })
-    after (set tables client []) new_held (world_of-push b history e)
-    (stands-close (world_of b history) slots after tables held new_held client (length history) so_far.stands (subst (λ (n : ℕ). n ≤ 1) (sym (once b history client)) one) inside (clients_of history).present tables_stand
-    (settled_at (seen new).state after new_held drops.settled is_after) (counters_in (seen device).state (seen new).state slots after (counts_on (seen device).state (seen new).state drops.counts) before.1 is_after)
+    after-push b slots history e tables held (closed_world (world_of b ACTIVE_SESSIONS history) client) so_far (record { form = refl; is_open = opened })
+    after (set tables client []) new_held (world_of-push b ACTIVE_SESSIONS history e)
+    (stands-close (world_of b ACTIVE_SESSIONS history) slots after tables held new_held client (length history) so_far.stands (subst (λ (n : ℕ). n ≤ 1) (sym (once b ACTIVE_SESSIONS history client)) one) inside (clients_of history).present tables_stand
+    (settled_at (seen new).state after new_held drops.settled is_after) drops.numbers (counters_in (seen device).state (seen new).state slots after (counts_on (seen device).state (seen new).state drops.counts) before.1 is_after)
     (others_in client (seen device).state (seen new).state slots after held.objects.items new_held.objects.items drops.other_objects before.1 is_after) (drops.persist slots after before.1 is_after)
     (drops.other_sessions slots after before.1 is_after) none)
 
@@ -102,7 +103,8 @@ holds_closed seen {device = device} {new = new} {began = began} {history = histo
         taken = λ _. none;
       };
       faulted = counted-push began history (close_entry client) 0 h.faulted drops.keeps.count refl;
-      slots_are = drops.slots ∙ h.slots_are;
+      slots_are = slots_still drops.slots drops.numbers h.slots_are;
+      numbers_are = drops.numbers ∙ h.numbers_are;
       few = omega (arith, h.few, drops.length_is, longer history (close_entry client));
       placed = omega (arith, h.placed, drops.length_is);
     }
@@ -123,16 +125,17 @@ list_closed seen {device = device} {new = new} {held = held} {new_held = new_hel
 pub holds_closed_wrong : {began : ℕ} {seen new_seen : Seen} {history : Entries} {limit : ℕ}
     {tables : List (List (Option ℕ))} {lists : List ℕ} {held new_held : Held} {present : ℕ} {wrong_code : Option ℕ} (client code : ℕ)
     → Holds began seen history limit tables lists held present wrong_code → IsOpen history client → seen.faults ≤ new_seen.faults
-    → new_held.objects.slots ≡ held.objects.slots → length new_held.objects.items ≡ length held.objects.items
+    → new_held.objects.slots ≡ held.objects.slots → new_held.sessions.numbers ≡ held.sessions.numbers → length new_held.objects.items ≡ length held.objects.items
     → IsWrongAnswer (asked_of new_seen) (last_of new_seen) code × (new_seen.state ≡ None)
     → Holds began new_seen (history ++ close_entry client ∷ []) limit (set tables client []) (set lists client 0) new_held (present - 1) (Some code)
-holds_closed_wrong {began = began} {new_seen = new_seen} {history = history} client code h opened count same_slots same_length answer = record {
+holds_closed_wrong {began = began} {new_seen = new_seen} {history = history} client code h opened count same_slots same_numbers same_length answer = record {
   stands = λ b slots is_base is_state. absurd (no_state new_seen.state slots answer.1 is_state);
   journal = journal_closed _ client h.journal opened count;
   objects = λ none. absurd cc;
   answers = record { answer = answer.0; right = λ none. absurd cc; taken = λ told. absurd (not_told new_seen.state answer.1 told) };
   faulted = counted-push began history (close_entry client) 0 h.faulted count refl;
-  slots_are = same_slots ∙ h.slots_are;
+  slots_are = slots_still same_slots same_numbers h.slots_are;
+  numbers_are = same_numbers ∙ h.numbers_are;
   few = omega (arith, h.few, same_length, longer history (close_entry client));
   placed = omega (arith, h.placed, same_length);
 }
@@ -152,6 +155,7 @@ holds_closed_after {began = began} {seen = seen} {history = history} {wrong_code
   answers = h.answers;
   faulted = counted-push began history (close_entry client) 0 h.faulted (omega arith) refl;
   slots_are = h.slots_are;
+  numbers_are = h.numbers_are;
   few = omega (arith, h.few, longer history (close_entry client));
   placed = h.placed;
 }

@@ -37,8 +37,7 @@ use Rattle.client_machine.proofs.Bringing.{command_shape}
 use Rattle.client_machine.proofs.Doing.{no_handle}
 use Rattle.broker_core.proofs.Tabling.{item_pushed, names_pushed, residents-more, table_own}
 use Rattle.client_machine.proofs.Telling.{context_there, save_refused, unsent_makes, unsent_starts}
-use Rattle.session_swap.specs.Items.{gap_kept}
-use Rattle.session_swap.specs.declared.TheConstants.{RENEWAL_GAP}
+use Rattle.session_swap.specs.Items.{gap_kept, renewal_gap}
 use Rattle.client_machine.specs.Costs.{SendsUpTo, StaysIn, new_bound}
 use Rattle.broker_core.proofs.WorldStands.{with_items}
 
@@ -141,9 +140,9 @@ item_more items more index (inr longer) = ap (λ (i : List Item). item_at i inde
 
 -- nor what stays in the device
 stays_more : (held : Held) {roomier new_held : Held} (more : List Item) (saves : Option ℕ) → AreMore held.objects.items more → with_items held more ≡ roomier
-    → (gap_kept roomier.sessions < RENEWAL_GAP → StaysIn 1 1 saves roomier new_held) → gap_kept held.sessions < RENEWAL_GAP → StaysIn 1 1 saves held new_held
+    → (gap_kept roomier.sessions < renewal_gap roomier.sessions.numbers → StaysIn 1 1 saves roomier new_held) → gap_kept held.sessions < renewal_gap held.sessions.numbers → StaysIn 1 1 saves held new_held
 stays_more held {new_held = new_held} more saves are is_held stays = λ narrow.
-    let there = subst (λ (r : Held). gap_kept r.sessions < RENEWAL_GAP → StaysIn 1 1 saves r new_held) (sym is_held) stays narrow in
+    let there = subst (λ (r : Held). gap_kept r.sessions < renewal_gap r.sessions.numbers → StaysIn 1 1 saves r new_held) (sym is_held) stays narrow in
     record {
       objects = λ index here. there.objects index (ap is_resident (item_more held.objects.items more index are) ∙ here);
       sessions = there.sessions;
@@ -178,7 +177,7 @@ object_moves_more needed slots view more are =
 moves_more : (held : Held) (more : List Item) (table : List (Option ℕ)) (a : Admitted) (bytes : List ℕ) → AreMore held.objects.items more
     → moves_for (with_items held more) table a bytes ≡ moves_for held table a bytes
 moves_more held more table a bytes are =
-    ap (λ (n : ℕ). sessions.moves_of (named_sessions a) (places_needed held.sessions.items a) held.sessions.items + n)
+    ap (λ (n : ℕ). sessions.moves_of (named_sessions a) (places_needed held.sessions a) held.sessions + n)
     (object_moves_more (named_objects table a) (slots_of a bytes) held.objects more are)
 
 calm_more : (held : Held) (more : List Item) → AreMore held.objects.items more → IsCalm held → IsCalm (with_items held more)
@@ -286,7 +285,7 @@ pub entered_carried : {D : Type 0} (seen : D → Seen) (old new : BrokerView D) 
     → client < length old.tables → device ≡ old.device → AreMore old.held.objects.items more → (makes_object_by (Ok a.shape) bytes ≡ false → more ≡ old.held.objects.items)
     → with_items old.held more ≡ roomier → table_of old.tables client ≡ table → new.tables ≡ set old.tables client new_table
     → Executes seen client device new.device roomier new.held table new_table a bytes reply
-    → (gap_kept roomier.sessions < RENEWAL_GAP → StaysIn 1 1 (saved_number a) roomier new.held)
+    → (gap_kept roomier.sessions < renewal_gap roomier.sessions.numbers → StaysIn 1 1 (saved_number a) roomier new.held)
     → IsEntered seen old new client number bytes reply
 entered_carried seen old new client number bytes reply a device more table new_table admitted room entered inside same are none is_held is tables carries stays =
     let own : table_of new.tables client ≡ new_table = ap (λ (t : List (List (Option ℕ))). table_of t client) tables ∙ table_own old.tables client new_table inside in
@@ -319,14 +318,16 @@ sent_from seen device old new n m is same sent = omega (arith, sent, is, ap (λ 
 pub costs_admitted : {D : Type 0} (seen : D → Seen) {old start new : BrokerView D} (client : ℕ) (bytes : List ℕ) (a : Admitted) {device : D} {roomier : Held}
     (more : List Item) {table : List (Option ℕ)} → old ≡ start → checked old client bytes ≡ Ok a → device ≡ old.device → AreMore old.held.objects.items more
     → with_items old.held more ≡ roomier → table_of old.tables client ≡ table
-    → SendsUpTo seen (new_bound (orphan_count roomier) (gap_kept roomier.sessions)) device new.device
+    → SendsUpTo seen (new_bound (orphan_count roomier) (gap_kept roomier.sessions) roomier.sessions.numbers) device new.device
     → (IsAtHand roomier table a bytes → SendsUpTo seen 1 device new.device)
     → (IsCalm roomier → SendsUpTo seen (moves_for roomier table a bytes + 1) device new.device) → Costs seen start new client bytes
 costs_admitted seen {old = old} {new = new} client bytes a {device = device} {roomier = roomier} more {table = table} is_start admitted same are is_held is most at_hand few =
     let orphans : orphan_count roomier ≡ orphan_count old.held = ap orphan_count (sym is_held) ∙ count_more old.held more are in
     let gap : gap_kept roomier.sessions ≡ gap_kept old.held.sessions = ap (λ (h : Held). gap_kept h.sessions) (sym is_held) in
-    let bound : new_bound (orphan_count roomier) (gap_kept roomier.sessions) ≡ new_bound (orphan_count old.held) (gap_kept old.held.sessions) =
-    λ i. new_bound (orphans i) (gap i) in
+    let numbers : roomier.sessions.numbers ≡ old.held.sessions.numbers = ap (λ (h : Held). h.sessions.numbers) (sym is_held) in
+    let bound : new_bound (orphan_count roomier) (gap_kept roomier.sessions) roomier.sessions.numbers
+    ≡ new_bound (orphan_count old.held) (gap_kept old.held.sessions) old.held.sessions.numbers =
+    λ i. new_bound (orphans i) (gap i) (numbers i) in
     subst (λ (v : BrokerView _). Costs seen v new client bytes) is_start (record {
       most = omega (arith, most, bound, ap (λ d. sent_of (seen d)) same);
       at_hand = λ other is_other here.
@@ -400,7 +401,7 @@ context_reply seen tables a bytes reply admitted right (inl (code, flushed)) tel
     absurd (not_save a.shape.row.code code (and_parts (a.shape.row.code == CC_CONTEXT_SAVE) (code_of reply == RC_SUCCESS) tells).0)
 context_reply seen tables {client = client} {held = held} {table = table} a bytes reply admitted right (inr (inl replied)) tells =
     let parts = and_parts (a.shape.row.code == CC_CONTEXT_SAVE) (code_of reply == RC_SUCCESS) tells in
-    absurd (true≢false (sym parts.1 ∙ save_refused client table held.sessions.items a bytes reply replied.sort parts.0 replied.reply_is))
+    absurd (true≢false (sym parts.1 ∙ save_refused client table held.sessions a bytes reply replied.sort parts.0 replied.reply_is))
 context_reply seen tables {new = new} {new_held = new_held} {table = table} a bytes reply admitted right (inr (inr ran)) tells =
     let answer = ran.answer in
     let first = device_handle table new_held.objects.items (first_handle a) in

@@ -16,12 +16,11 @@ use Rattle.broker_lock.specs.declared.calls.OpenClientError.{OpenClientError}
 use Rattle.broker_lock.specs.declared.calls.OpenClientError.TheVariants as open_errors
 use Rattle.broker_lock.specs.declared.calls.Told.{Told}
 use Rattle.broker_lock.specs.declared.calls.Told.TheVariants as tolds
-use Rattle.world_spec.specs.Legal.{Legal}
 use Rattle.broker_lock.specs.Known.{Fixed, IsLegalOver}
 use Rattle.broker_lock.specs.Serves as lock
 use Rattle.client_machine.specs.declared.held.Held.{Held}
 use Rattle.broker_core.specs.Tables.{with_owners}
-use Rattle.broker_core.specs.Broker.{BrokerView, FaultsCounted, IsCarriedOut, IsFaulted, IsRefused, StandsFor, Tells, TellsLeft}
+use Rattle.broker_core.specs.Broker.{BrokerView, FaultsCounted, IsCarriedOut, IsFaulted, IsRefused, ProfileLegal, StandsFor, Tells, TellsLeft}
 
 -- ---- what a device tells
 
@@ -30,7 +29,7 @@ told_state (Some slots) base b same is = (slots, refl)
 told_state None base b same is = absurd (let yes : is_some base ≡ true = ap is_some is in cc)
 
 pub legal_over : (base : Option Persist) (state : Option SlotState) (history : List Entry) (tables : List (List (Option ℕ))) (held : Held) → is_some state ≡ is_some base → StandsFor base state history tables held
-    → IsLegalOver Legal base history
+    → IsLegalOver ProfileLegal base history
 legal_over base state history tables held same stands = λ b is. let told = told_state state base b same is in (stands b told.0 is told.1).legal
 
 pub untold : (base : Option Persist) (state : Option SlotState) (wrong_code : Option ℕ) → is_some state ≡ is_some base → (IsSome state → wrong_code ≡ None) → IsSome wrong_code → base ≡ None

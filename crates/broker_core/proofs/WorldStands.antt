@@ -2,9 +2,11 @@
 use Rattle.std.proofs.Common.{◌≡◌, ◌+◌, ◌*◌, ◌^◌, ◌<◌, ◌≤◌, ◌∙◌, ℕ, zero, suc, Bool, true, false, List, [], ◌∷◌, ◌++◌, length, set, refl, sym, ap, subst, arith}
 use Rattle.std.specs.Prelude.{◌==◌, not, Option, Some, None, Err, get_or, is_some, if◌then◌else◌}
 use Rattle.std.specs.List.{count_by, list_any}
-use Rattle.std.proofs.lemmas.Bool.{eqb-true, ne_eqb, or_parts}
+use Rattle.std.proofs.lemmas.Bool.{eq-eqb, eqb-false, eqb-true, ne_eqb, or_parts}
 use Rattle.std.proofs.lemmas.List.Sums.{sum_by_push}
+use Rattle.tab_spec.specs.declared.numbers.Numbers.{Numbers}
 use Rattle.tab_spec.specs.Admission.{client_admitted}
+use Rattle.tab_spec.specs.Numbers.{profile_numbers}
 use Rattle.tab_spec.specs.Object.{Object}
 use Rattle.tab_spec.specs.Reply.{error_reply}
 use Rattle.tab_spec.specs.Session.{Session}
@@ -31,6 +33,12 @@ use Rattle.client_machine.specs.Tables.{AreOpenOwners, IsPlaceOf, IsTable, objec
 use Rattle.broker_core.specs.Tables.{TablesStand, table_of, with_owners}
 use Rattle.client_machine.proofs.Seeing.{admitted_seen}
 use Rattle.broker_core.proofs.Tabling.{is_other, item_pushed, nobodys_sessions, table_other, table_own, table_pushed}
+
+-- ---- how much the device has room for
+
+-- what is held is held for a device of this profile
+held_profile : (world : World) (slots : SlotState) (tables : List (List (Option ℕ))) (held : Held) (n : ℕ) → Stands world slots tables held n → held.sessions.numbers ≡ profile_numbers
+held_profile world slots tables held n stands = sym stands.settled.sessions.numbers ∙ stands.profile
 
 -- ---- the numbers of contexts
 
@@ -88,6 +96,8 @@ pub stands-open : (world : World) (slots : SlotState) (tables : List (List (Opti
     → Stands world slots tables held n → Stands (opened_world world number) slots (tables ++ [] ∷ []) (with_owners held owners) (n + 1)
 stands-open world slots tables held owners n number stands = record {
   persist = stands.persist;
+  most = stands.most;
+  profile = stands.profile;
   settled = settled_owners slots held owners stands.settled;
   clients = λ client.
       opened_table world.clients number client ∙ stands.clients client
@@ -102,6 +112,8 @@ stands-open world slots tables held owners n number stands = record {
 pub stands-longer : (world : World) (slots : SlotState) (tables : List (List (Option ℕ))) (held : Held) (n : ℕ) → Stands world slots tables held n → Stands world slots tables held (n + 1)
 stands-longer world slots tables held n stands = record {
   persist = stands.persist;
+  most = stands.most;
+  profile = stands.profile;
   settled = stands.settled;
   clients = stands.clients;
   sessions = stands.sessions;
@@ -122,6 +134,7 @@ state_stands : (world : World) (slots : SlotState) (tables : List (List (Option 
 state_stands world slots tables held n client stands =
     λ i. record {
       persist = sym stands.persist i;
+      most = (stands.most ∙ ap (λ (numbers : Numbers). numbers.active) (sym (held_profile world slots tables held n stands))) i;
       objects = stands.clients client i;
       sessions = stands.sessions i;
       object_sequence = world.object_sequence;
@@ -149,16 +162,18 @@ clients_stepped false world slots new tables items new_items client other new_ta
 pub stands-step : (world : World) (slots new : SlotState) (tables : List (List (Option ℕ))) (held new_held : Held) (client : ℕ)
     (new_table : List (Option ℕ)) (handed : Sequences) (bytes reply : List ℕ) (pick : Pick) (n : ℕ) → Stands world slots tables held n
     → list_any (λ (c : Client). c.number == client) world.clients ≡ true → client < length tables → (present : List ℕ) → TablesStand present tables held.objects.items
-    → IsSettled new new_held → RoseBoth slots new → KeepsObjectsOf (other_than client) (Some slots) (Some new) held.objects.items new_held.objects.items
-    → AreBelow handed new
+    → IsSettled new new_held → new_held.sessions.numbers ≡ held.sessions.numbers → RoseBoth slots new
+    → KeepsObjectsOf (other_than client) (Some slots) (Some new) held.objects.items new_held.objects.items → AreBelow handed new
     → client_step client (client_state slots held (table_of tables client) (sequences_of world)) bytes pick ≡ Some (client_state new new_held new_table handed, reply)
     → Stepped world client bytes reply pick (world_with_state world client (client_state new new_held new_table handed)) new (set tables client new_table) new_held (n + 1)
-stands-step world slots new tables held new_held client new_table handed bytes reply pick n stands some inside present tabled settled rose keeps below ran = record {
+stands-step world slots new tables held new_held client new_table handed bytes reply pick n stands some inside present tabled settled numbers rose keeps below ran = record {
   stepped =
       plain_step_is world client bytes pick (Some (client_state new new_held new_table handed, reply))
       (ap (λ (state : ClientState). client_step client state bytes pick) (state_stands world slots tables held n client stands) ∙ ran);
   stands = record {
     persist = refl;
+    most = ap (λ (numbers : Numbers). numbers.active) (numbers ∙ held_profile world slots tables held n stands);
+    profile = settled.sessions.numbers ∙ numbers ∙ held_profile world slots tables held n stands;
     settled = settled;
     clients = λ other.
         clients_stepped (client == other) world slots new tables held.objects.items new_held.objects.items client other new_table refl (stands.clients other) some inside
@@ -182,12 +197,14 @@ clients_stay false slots new tables items new_items client other here table keep
     objects_stay slots new items new_items client other (table_of tables other) keeps here table
 
 pub stands-stay : (world : World) (slots new : SlotState) (tables : List (List (Option ℕ))) (held new_held : Held) (client n : ℕ)
-    → Stands world slots tables held n → (present : List ℕ) → TablesStand present tables held.objects.items → IsSettled new new_held → RoseBoth slots new
+    → Stands world slots tables held n → (present : List ℕ) → TablesStand present tables held.objects.items → IsSettled new new_held → new_held.sessions.numbers ≡ held.sessions.numbers → RoseBoth slots new
     → KeepsObjectsOf (other_than client) (Some slots) (Some new) held.objects.items new_held.objects.items
     → client_state new new_held (table_of tables client) (sequences_of world) ≡ client_state slots held (table_of tables client) (sequences_of world)
     → Stands world new tables new_held (n + 1)
-stands-stay world slots new tables held new_held client n stands present tabled settled rose keeps own = record {
+stands-stay world slots new tables held new_held client n stands present tabled settled numbers rose keeps own = record {
   persist = ap (λ (s : ClientState). s.persist) own ∙ stands.persist;
+  most = stands.most;
+  profile = settled.sessions.numbers ∙ numbers ∙ held_profile world slots tables held n stands;
   settled = settled;
   clients = λ other.
       stands.clients other
@@ -235,13 +252,15 @@ none_owned slots client (item ∷ items) none =
 
 pub stands-close : (world : World) (slots new : SlotState) (tables : List (List (Option ℕ))) (held new_held : Held) (client n : ℕ)
     → Stands world slots tables held n → count_by (λ (c : Client). c.number == client) world.clients ≤ 1 → client < length tables
-    → (present : List ℕ) → TablesStand present tables held.objects.items → IsSettled new new_held → RoseBoth slots new
+    → (present : List ℕ) → TablesStand present tables held.objects.items → IsSettled new new_held → new_held.sessions.numbers ≡ held.sessions.numbers → RoseBoth slots new
     → KeepsObjectsOf (other_than client) (Some slots) (Some new) held.objects.items new_held.objects.items → new.persist ≡ slots.persist
     → without_owner client (sessions_in new new_held.sessions.items) ≡ without_owner client (sessions_in slots held.sessions.items)
     → list_any (is_owned client) new_held.sessions.items ≡ false
     → Stands (closed_world world client) new (set tables client []) new_held (n + 1)
-stands-close world slots new tables held new_held client n stands once inside present tabled settled rose keeps persist others none = record {
+stands-close world slots new tables held new_held client n stands once inside present tabled settled numbers rose keeps persist others none = record {
   persist = persist ∙ stands.persist;
+  most = stands.most;
+  profile = settled.sessions.numbers ∙ numbers ∙ held_profile world slots tables held n stands;
   settled = settled;
   clients = λ other.
       clients_closed (client == other) world slots new tables held.objects.items new_held.objects.items client other refl (stands.clients other) once inside (tabled.each other) keeps;
@@ -288,6 +307,8 @@ pub stands-more : (world : World) (slots : SlotState) (tables : List (List (Opti
     → Stands world slots tables (with_items held (held.objects.items ++ no_item ∷ [])) n
 stands-more world slots tables held n stands = record {
   persist = stands.persist;
+  most = stands.most;
+  profile = stands.profile;
   settled = settled_pushed slots held stands.settled;
   clients = λ client. stands.clients client ∙ sym (objects_pushed slots held.objects.items (table_of tables client));
   sessions = stands.sessions;
@@ -298,44 +319,46 @@ stands-more world slots tables held n stands = record {
 
 -- ---- how much the device holds
 
--- the device has three slots
-taken_three : (held : List (Option Object)) → length held ≡ 3
-    → count_by is_some held ≡ one_if (is_some (get_or held 0 None)) + one_if (is_some (get_or held 1 None)) + one_if (is_some (get_or held 2 None))
-taken_three [] is = absurd (omega arith)
-taken_three (a ∷ []) is = absurd (omega arith)
-taken_three (a ∷ b ∷ []) is = absurd (omega arith)
-taken_three (a ∷ b ∷ c ∷ []) is =
-    omega (
-      arith,
-      count_cons (λ (slot : Option Object). is_some slot) a (b ∷ c ∷ []),
-      count_cons (λ (slot : Option Object). is_some slot) b (c ∷ []),
-      count_cons (λ (slot : Option Object). is_some slot) c [],
-    )
-taken_three (a ∷ b ∷ c ∷ d ∷ held) is = absurd (omega arith)
+-- the numbers above 0, each one less
+abbrev lowered : List ℕ → List ℕ
+lowered [] = []
+lowered (zero ∷ left) = lowered left
+lowered (suc n ∷ left) = n ∷ lowered left
 
-one_of_three : (n : ℕ) → one_if (n == 0) + one_if (n == 1) + one_if (n == 2) ≤ 1
-one_of_three zero = omega arith
-one_of_three (suc zero) = omega arith
-one_of_three (suc (suc zero)) = omega arith
-one_of_three (suc (suc (suc n))) =
-    let m = suc (suc (suc n)) in
+next_by : (n slot : ℕ) (same : Bool) → (n == slot) ≡ same → (suc n == suc slot) ≡ same
+next_by n slot true is = eq-eqb (suc n) (suc slot) (ap suc (eqb-true n slot is))
+next_by n slot false is = ne_eqb (suc n) (suc slot) (λ next. eqb-false n slot is (omega (arith, next)))
+
+lowered_length : (left : List ℕ) → length left ≡ count_by (λ (n : ℕ). n == 0) left + length (lowered left)
+lowered_length [] = refl
+lowered_length (zero ∷ left) = omega (arith, count_cons (λ (n : ℕ). n == 0) zero left, lowered_length left)
+lowered_length (suc n ∷ left) =
+    omega (arith, count_cons (λ (m : ℕ). m == 0) (suc n) left, ap one_if (ne_eqb (suc n) 0 (omega arith)), lowered_length left)
+
+lowered_count : (slot : ℕ) (left : List ℕ) → count_by (λ (n : ℕ). n == suc slot) left ≡ count_by (λ (n : ℕ). n == slot) (lowered left)
+lowered_count slot [] = refl
+lowered_count slot (zero ∷ left) =
+    omega (arith, count_cons (λ (n : ℕ). n == suc slot) zero left, ap one_if (ne_eqb zero (suc slot) (omega arith)), lowered_count slot left)
+lowered_count slot (suc n ∷ left) =
     omega (
       arith,
-      ap one_if (ne_eqb m 0 (λ same. omega (arith, same))),
-      ap one_if (ne_eqb m 1 (λ same. omega (arith, same))),
-      ap one_if (ne_eqb m 2 (λ same. omega (arith, same))),
+      count_cons (λ (m : ℕ). m == suc slot) (suc n) left,
+      count_cons (λ (m : ℕ). m == slot) n (lowered left),
+      ap one_if (next_by n slot (n == slot) refl),
+      lowered_count slot left,
     )
 
-count_three : (left : List ℕ) → count_by (λ (n : ℕ). n == 0) left + count_by (λ (n : ℕ). n == 1) left + count_by (λ (n : ℕ). n == 2) left ≤ length left
-count_three [] = omega arith
-count_three (n ∷ left) =
+-- where each slot that is taken is among these, no more are taken than these are
+taken_most : (held : List (Option Object)) (left : List ℕ)
+    → ((slot : ℕ) → one_if (is_some (get_or held slot None)) ≤ count_by (λ (n : ℕ). n == slot) left) → count_by is_some held ≤ length left
+taken_most [] left each = omega arith
+taken_most (o ∷ held) left each =
     omega (
       arith,
-      one_of_three n,
-      count_three left,
-      count_cons (λ (m : ℕ). m == 0) n left,
-      count_cons (λ (m : ℕ). m == 1) n left,
-      count_cons (λ (m : ℕ). m == 2) n left,
+      count_cons (λ (slot : Option Object). is_some slot) o held,
+      each 0,
+      lowered_length left,
+      taken_most held (lowered left) (λ slot. omega (arith, each (suc slot), lowered_count slot left)),
     )
 
 names_none : (named : Option ℕ) (slot : ℕ) → is_some named ≡ false → one_if (is_named named slot) ≡ 0
@@ -355,18 +378,7 @@ naming_none (item ∷ items) slot none =
 -- where no item is in a slot, each slot that is taken is that of an object of nobody
 slots_left : (slots : SlotState) (items : List Item) (left : List ℕ) → ObjectsStand slots items left → ((index : ℕ) → is_resident (item_at items index) ≡ false)
     → count_by is_some slots.slots ≤ length left
-slots_left slots items left stand none =
-    omega (
-      arith,
-      taken_three slots.slots stand.sound.count,
-      stand.owned 0,
-      stand.owned 1,
-      stand.owned 2,
-      naming_none items 0 none,
-      naming_none items 1 none,
-      naming_none items 2 none,
-      count_three left,
-    )
+slots_left slots items left stand none = taken_most slots.slots left (λ slot. omega (arith, stand.owned slot, naming_none items slot none))
 
 flags_same : (a b : Bool) → sessions.flag a ≡ sessions.flag b → a ≡ b
 flags_same true true is = refl
@@ -425,6 +437,8 @@ steps-refused world slots tables held client bytes code n stands present tabled 
       (refused-step world slots tables held client bytes code n stands present tabled refused);
   stands = record {
     persist = stands.persist;
+    most = stands.most;
+    profile = stands.profile;
     settled = stands.settled;
     clients = λ other. ap (λ (clients : List Client). table_in clients other) (same_clients world.clients client) ∙ stands.clients other;
     sessions = stands.sessions;

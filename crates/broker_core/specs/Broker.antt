@@ -1,19 +1,19 @@
 -- What is seen of a broker, and what holds of each one.
 use Rattle.std.specs.Prelude.{◌≡◌, ◌<◌, ◌≤◌, ◌⊎◌, ℕ, ◌+◌, ◌^◌, ◌==◌, true, List, [], ◌∷◌, ◌++◌, length, set, Option, Some, None, IsSome, IfSome, Result, Ok, Err}
 use Rattle.std.specs.List.{AllByRecursion, count_by}
-use Rattle.tab_spec.specs.declared.TheConstants.{MOST_BYTES, RC_DEVICE_ANSWER, RC_DEVICE_FAULT, RC_JOURNAL_FULL, OBJECT_SLOTS, RC_CANCELED}
+use Rattle.tab_spec.specs.declared.TheConstants.{ACTIVE_SESSIONS, MOST_BYTES, RC_CANCELED, RC_DEVICE_ANSWER, RC_DEVICE_FAULT, RC_JOURNAL_FULL}
 use Rattle.tab_spec.specs.declared.Admitted.{Admitted}
 use Rattle.tab_spec.specs.Count.{Rose, largest_count}
 use Rattle.tab_spec.specs.Admission.{Tables, client_admitted}
 use Rattle.tab_spec.specs.Frame.{is_frame}
+use Rattle.tab_spec.specs.Numbers.{profile_numbers}
 use Rattle.tab_spec.specs.Persist.{Persist}
 use Rattle.tab_spec.specs.Reply.{error_reply}
 use Rattle.device_spec.specs.Answers.{IsRight, IsWrongAnswer}
 use Rattle.device_spec.specs.Slots.{SlotState, IsSlots, held}
 use Rattle.device_port.specs.Device.{Seen, asked_of, last_of}
 use Rattle.device_start.specs.Start.{SendsStart}
-use Rattle.session_swap.specs.Items.{gap_kept}
-use Rattle.session_swap.specs.declared.TheConstants.{RENEWAL_GAP}
+use Rattle.session_swap.specs.Items.{gap_kept, renewal_gap}
 use Rattle.history_spec.specs.declared.EntryKind.{EntryKind}
 use Rattle.history_spec.specs.declared.EntryKind.TheVariants.{Open, Command, Fault, Close, Canceled}
 use Rattle.history_spec.specs.declared.TheConstants.{ENTRY_BYTES, SILENT_LIMIT}
@@ -52,7 +52,7 @@ pub record BrokerView (D : Type 0) : Type 0 where
   -- the device's fault count before Startup was sent
   pub began : ℕ
 
--- it is in a state that a device of this profile may be in
+-- it is in a state that a device may be in whose numbers are in range
 abbrev pub IsSound : Option SlotState → Type 0
 IsSound state = IfSome state (λ slots. IsSlots slots)
 
@@ -60,13 +60,19 @@ IsSound state = IfSome state (λ slots. IsSlots slots)
 pub record IsAtBase (base : Option Persist) (state : Option SlotState) : Type 0 where
   pub kept : (b : Persist) (slots : SlotState) → base ≡ Some b → state ≡ Some slots → slots.persist ≡ b
   pub sound : IsSound state
+  -- it is a device of this profile
+  pub profile : IfSome state (λ slots. slots.numbers ≡ profile_numbers)
   pub object_counter : IfSome state (λ slots. slots.object_counter ≤ 2 ^ 61)
   pub counter : IfSome state (λ slots. slots.counter ≤ 2 ^ 61)
 
+-- a legal history over a device of this profile, with this base
+abbrev pub ProfileLegal : Persist → List Entry → Type 0
+ProfileLegal base history = Legal base ACTIVE_SESSIONS history
+
 -- the journal is a legal history, and the device stands for the world after it, with these tables, objects and sessions
 pub record StandsAfter (base : Persist) (slots : SlotState) (history : List Entry) (tables : List (List (Option ℕ))) (held : Held) : Type 0 where
-  pub legal : Legal base history
-  pub stands : Stands (world_of base history) slots tables held (length history)
+  pub legal : ProfileLegal base history
+  pub stands : Stands (world_of base ACTIVE_SESSIONS history) slots tables held (length history)
 
 -- the same, where the device tells what it is in
 abbrev pub StandsFor : Option Persist → Option SlotState → List Entry → List (List (Option ℕ)) → Held → Type 0
@@ -132,7 +138,9 @@ pub record Holds (began : ℕ) (seen : Seen) (history : List Entry) (limit : ℕ
   pub objects : wrong_code ≡ None → HeldHolds began seen.faults history tables lists held
   pub answers : AnswersHold seen wrong_code
   pub faulted : FaultsCounted began seen.faults history 0
-  pub slots_are : held.objects.slots ≡ OBJECT_SLOTS
+  -- it is held for a device of this profile
+  pub slots_are : held.objects.slots ≡ held.sessions.numbers.slots
+  pub numbers_are : held.sessions.numbers ≡ profile_numbers
   -- a command that met a wrong answer may have made an item, and has no entry
   pub few : length held.objects.items ≤ length history + 1
   pub placed : length held.objects.items ≤ PLACES_MOST
@@ -190,7 +198,7 @@ pub record IsCarriedOut {D : Type 0} (seen : D → Seen) (old new : BrokerView D
   pub executes : Executes seen client old.device new.device old.held new.held
       (table_of old.tables client) (table_of new.tables client) a bytes e.reply
   -- where no renewal was due
-  pub stays : gap_kept old.held.sessions < RENEWAL_GAP → StaysIn 1 1 (saved_number a) old.held new.held
+  pub stays : gap_kept old.held.sessions < renewal_gap old.held.sessions.numbers → StaysIn 1 1 (saved_number a) old.held new.held
   pub tables : new.tables ≡ set old.tables client (table_of new.tables client)
 
 -- the entry of a command
@@ -220,7 +228,7 @@ Tells seen tolds.Answer old new client number bytes reply = (new.journal ≡ old
 
 -- what a command sends at the most, whatever is told, also over a device that shows nothing
 pub record Costs {D : Type 0} (seen : D → Seen) (old new : BrokerView D) (client : ℕ) (bytes : List ℕ) : Type 0 where
-  pub most : SendsUpTo seen (new_bound (orphan_count old.held) (gap_kept old.held.sessions)) old.device new.device
+  pub most : SendsUpTo seen (new_bound (orphan_count old.held) (gap_kept old.held.sessions) old.held.sessions.numbers) old.device new.device
   pub at_hand : (a : Admitted) → checked old client bytes ≡ Ok a → IsAtHand old.held (table_of old.tables client) a bytes
       → SendsUpTo seen 1 old.device new.device
   pub few : (a : Admitted) → checked old client bytes ≡ Ok a → IsCalm old.held

@@ -1,6 +1,7 @@
 -- Items, sessions and tables that the worked examples speak of.
 use Rattle.std.specs.Prelude.{ℕ, ◌-◌, List, [], ◌∷◌, ◌++◌, length, replicate, Option, Some, None}
 use Rattle.tab_spec.specs.declared.SessionKind.TheVariants as kinds
+use Rattle.tab_spec.specs.Numbers.{profile_numbers}
 use Rattle.device_spec.specs.Examples.{device_after}
 use Rattle.device_spec.specs.Slots.{SlotState, loaded}
 use Rattle.effect_spec.specs.Sessions.{initial_session}
@@ -37,7 +38,7 @@ two_sessions = Some (record { client = Some 0; handle = 0x03000000; saved = None
 abbrev pub held_with : List Item → List (Option sessions.Item) → Held
 held_with items first = record {
   objects = record { items = items; slots = 3; order = []; owners = []; left = [] };
-  sessions = record { items = first ++ replicate (64 - length first) None; next = 0; order = []; saved = [] };
+  sessions = record { numbers = profile_numbers; items = first ++ replicate (64 - length first) None; next = 0; order = []; saved = [] };
 }
 
 -- the same with an object of nobody in the slot 2

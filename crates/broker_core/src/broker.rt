@@ -3,6 +3,7 @@ ghost use Rattle.std.specs.Prelude.{◌≡◌, true, false, ◌≤◌, ◌<◌, 
 ghost use Rattle.std.specs.Prelude.{Some, None, Ok, Err, length, set};
 ghost use Rattle.std.specs.Prelude.{IsSome, IfOk, IfErr, OnOk, OnErr, IfSome};
 ghost use Rattle.tab_spec.specs.declared.TheConstants.{RC_CANCELED, RC_DEVICE_FAULT};
+ghost use Rattle.tab_spec.specs.Numbers.{profile_numbers};
 ghost use Rattle.tab_spec.specs.Reply.{error_reply};
 ghost use Rattle.device_spec.specs.Answers.{IsWrongAnswer};
 ghost use Rattle.device_port.specs.Device.{asked_of, last_of, sent_of};
@@ -45,8 +46,7 @@ use std::marker::Model;
 use std::sync::ledger::Ledger;
 use tab_bytes::Buffer;
 use tab_spec::{
-    Admitted, OBJECT_SLOTS, RC_CANCELED, RC_DEVICE_ANSWER, RC_DEVICE_FAULT, RC_JOURNAL_FULL,
-    RC_MEMORY,
+    Admitted, Numbers, RC_CANCELED, RC_DEVICE_ANSWER, RC_DEVICE_FAULT, RC_JOURNAL_FULL, RC_MEMORY,
 };
 
 /// Why a broker didn't begin.
@@ -273,7 +273,8 @@ impl<D: Device> Broker<D> {
         ensures empty { IfOk result
             (λ b. (b.journal ≡ []) × (b.tables ≡ []) × (b.held.objects.items ≡ [])
             × (b.held.sessions.items ≡ no_items) × (b.wrong_code ≡ None)) }
-        ensures fixed { IfOk result (λ b. (b.began ≡ (D.seen device).faults) × (b.limit ≡ limit)) }
+        ensures fixed { IfOk result (λ b. (b.began ≡ (D.seen device).faults) × (b.limit ≡ limit)
+            × (b.held.sessions.numbers ≡ profile_numbers)) }
         // The device was started, and flushed of all that it listed.
         ensures started { IfOk result
             (λ b. IsStarted (D.seen device).trace (D.seen b.device).trace) }
@@ -290,10 +291,11 @@ impl<D: Device> Broker<D> {
         let Ok(journal) = Journal::new(alloc, limit) else {
             return Err((BeginError::Memory, device));
         };
-        let Ok(objects) = Objects::new(alloc, OBJECT_SLOTS as u8) else {
+        let numbers = Numbers::of_the_profile();
+        let Ok(objects) = Objects::new(alloc, numbers.slots) else {
             return Err((BeginError::Memory, device));
         };
-        let Ok(sessions) = Sessions::new(alloc) else {
+        let Ok(sessions) = Sessions::new(alloc, numbers) else {
             return Err((BeginError::Memory, device));
         };
         let Ok(mut scratch) = Buffer::new(alloc) else {
@@ -397,7 +399,8 @@ impl<D: Device> Broker<D> {
         ensures keeps { Keeps D.seen self.old.device self.new.device }
         ensures costs { Costs D.seen self.old self.new client bytes.now }
         ensures left { orphan_count self.new.held ≤ orphan_count self.old.held }
-        ensures fixed { (self.new.began ≡ self.old.began) × (self.new.limit ≡ self.old.limit) }
+        ensures fixed { (self.new.began ≡ self.old.began) × (self.new.limit ≡ self.old.limit)
+            × (self.new.held.sessions.numbers ≡ self.old.held.sessions.numbers) }
     {
         if self.wrong_code.is_some() {
             tab_wire::error_reply(RC_DEVICE_ANSWER, reply);
@@ -492,7 +495,7 @@ impl<D: Device> Broker<D> {
           tables = set self.old.tables client [];
         } }
         ensures left { TellsLeft result self.old.held self.new.held }
-        // Each object and each session that is left has a failed transmission of its own.
+        // No more objects and sessions are left than transmissions failed.
         ensures more { AreLeftByFaults (orphan_count self.old.held) (D.seen self.old.device).faults
             (orphan_count self.new.held) (D.seen self.new.device).faults }
         // The sessions of other clients stay where they are.
@@ -503,7 +506,8 @@ impl<D: Device> Broker<D> {
             self.old.device self.new.device }
         // Nothing is sent but flushes, and no wrong answer to one is passed over.
         ensures sent { SendsFlushes D.seen self.old.device self.new.device (closes_wrong result) }
-        ensures fixed { (self.new.began ≡ self.old.began) × (self.new.limit ≡ self.old.limit) }
+        ensures fixed { (self.new.began ≡ self.old.began) × (self.new.limit ≡ self.old.limit)
+            × (self.new.held.sessions.numbers ≡ self.old.held.sessions.numbers) }
     {
         self.close_by(client, &mut Uncounted)
     }
@@ -521,14 +525,15 @@ impl<D: Device> Broker<D> {
           tables = set self.old.tables client [];
         } }
         ensures left { TellsLeft result self.old.held self.new.held }
-        // Each object and each session that is left has a failed transmission of its own.
+        // No more objects and sessions are left than transmissions failed.
         ensures more { AreLeftByFaults (orphan_count self.old.held) (D.seen self.old.device).faults
             (orphan_count self.new.held) (D.seen self.new.device).faults }
         // The sessions of other clients stay where they are.
         ensures others { KeepsOthers client self.old.held.sessions.items
             self.new.held.sessions.items }
         ensures keeps { Keeps D.seen self.old.device self.new.device
-            × (self.new.began ≡ self.old.began) × (self.new.limit ≡ self.old.limit) }
+            × (self.new.began ≡ self.old.began) × (self.new.limit ≡ self.old.limit)
+            × (self.new.held.sessions.numbers ≡ self.old.held.sessions.numbers) }
         ensures costs { SendsUpTo D.seen (close_bound client self.old.held)
             self.old.device self.new.device }
         // Nothing is sent but flushes, and no wrong answer to one is passed over.
@@ -611,14 +616,15 @@ impl<D: Device> Broker<D> {
           tables = set self.old.tables client [];
         } }
         ensures left { TellsLeft result self.old.held self.new.held }
-        // Each object and each session that is left has a failed transmission of its own.
+        // No more objects and sessions are left than transmissions failed.
         ensures more { AreLeftByFaults (orphan_count self.old.held) (D.seen self.old.device).faults
             (orphan_count self.new.held) (D.seen self.new.device).faults }
         // The sessions of other clients stay where they are.
         ensures others { KeepsOthers client self.old.held.sessions.items
             self.new.held.sessions.items }
         ensures keeps { Keeps D.seen self.old.device self.new.device
-            × (self.new.began ≡ self.old.began) × (self.new.limit ≡ self.old.limit) }
+            × (self.new.began ≡ self.old.began) × (self.new.limit ≡ self.old.limit)
+            × (self.new.held.sessions.numbers ≡ self.old.held.sessions.numbers) }
         ensures costs { SendsUpTo D.seen (close_bound client self.old.held)
             self.old.device self.new.device }
         // Nothing is sent but flushes, and no wrong answer to one is passed over.

@@ -1,9 +1,8 @@
 //! A broker under a lock: its history is its journal's.
 ghost use Rattle.std.specs.Prelude.{◌≡◌, ◌≤◌, None, IsSome, is_some};
 ghost use Rattle.tab_spec.specs.Count.{largest_count};
-ghost use Rattle.world_spec.specs.Legal.{Legal};
 ghost use Rattle.broker_lock.specs.Known.{IsLegalOver};
-ghost use Rattle.broker_core.specs.Broker.{FaultsCounted};
+ghost use Rattle.broker_core.specs.Broker.{FaultsCounted, ProfileLegal};
 
 use crate::broker::Broker;
 use broker_lock::{Closed, OpenClientError, Recorded, Serves, Told};
@@ -13,7 +12,7 @@ use tab_bytes::Buffer;
 impl<D: Device> Broker<D> {
     // What holds of each broker: a law, which does nothing when it runs.
     fn show_sound(&self)
-        ensures legal { IsLegalOver Legal (D.seen self.now.device).base self.now.journal }
+        ensures legal { IsLegalOver ProfileLegal (D.seen self.now.device).base self.now.journal }
         // Where the device tells what it kept, no wrong answer came.
         ensures untold { IsSome self.now.wrong_code → (D.seen self.now.device).base ≡ None }
         ensures began { self.now.began ≤ largest_count }
@@ -27,7 +26,7 @@ impl<D: Device> Broker<D> {
 impl<D: Device> Recorded for Broker<D> {
     ghost history = { λ b. b.journal };
 
-    ghost legal = { Legal };
+    ghost legal = { ProfileLegal };
 
     ghost fixed = { λ b.
         record { base = (D.seen b.device).base; limit = b.limit; began = b.began } };
@@ -75,7 +74,7 @@ impl<D: Device> Serves for Broker<D> {
 
 // Which histories the lock calls legal: those of worlds.
 fn legal_histories_are_of_worlds<D: Device>(broker: &Broker<D>)
-    ensures { IsLegalOver Legal (D.seen broker.now.device).base broker.now.journal }
+    ensures { IsLegalOver ProfileLegal (D.seen broker.now.device).base broker.now.journal }
 {
     broker.show_legal();
 }

@@ -11,7 +11,7 @@ use plain_machine::World;
 use std::alloc::Global;
 use std::test::Fail;
 use tab_bytes::Buffer;
-use tab_spec::{CC_CONTEXT_SAVE, CC_START_AUTH_SESSION};
+use tab_spec::{ACTIVE_SESSIONS, CC_CONTEXT_SAVE, CC_START_AUTH_SESSION};
 use tab_values::Persist;
 use tab_wire::{code_of, response_handle};
 
@@ -147,7 +147,7 @@ fn clients_go_on_after_an_object_is_left(rt: HostRuntime) -> Result<(), Fail> {
 
 // A world of the zero seed with so many clients.
 pub(crate) fn new_world(alloc: Global, clients: u32) -> Result<World, Fail> {
-    let mut world = World::new(alloc, Persist::new(alloc, [0; 32])?)?;
+    let mut world = World::new(alloc, Persist::new(alloc, [0; 32])?, ACTIVE_SESSIONS as u8)?;
     for _ in 0..clients {
         if world.opened() <= u64::from(u32::MAX) {
             world.open_client()?;

@@ -26,9 +26,9 @@ use device_port::Device;
 
 // After all clients were closed.
 fn a_device_stands_for_a_world()
-    ensures at_its_place { Stands (world_of (zero_persist 0) two_clients)
+    ensures at_its_place { Stands (world_of (zero_persist 0) 64 two_clients)
         (device_at 5) ([] ∷ [] ∷ []) (held_with [] []) 7 }
-    ensures behind { Stands (world_of (zero_persist 0) two_clients)
+    ensures behind { Stands (world_of (zero_persist 0) 64 two_clients)
         (device_at 4) ([] ∷ [] ∷ []) (held_with [] []) 7
         → ⊥ }
     ensures nobodys_object { IsSettled (with_slot (device_at 5) 0 (Some a_key)) (held_with [] [])
@@ -91,18 +91,21 @@ fn contexts_are_given_back()
 // "TPML_TAGGED_TPM_PROPERTY".
 #[tactic(auto, unfolding(client_machine::specs::Listing::sessions_had, effect_spec::specs::Capabilities::from_number, effect_spec::specs::Capabilities::property_items))]
 fn a_client_is_told_what_it_has()
-    ensures objects { own_capability (zero_persist 0) 0 first_table two_sessions
-        (asked 1 0x80000000 8)
+    ensures objects { own_capability (zero_persist 0) 0 first_table
+        (held_with [] two_sessions).sessions (asked 1 0x80000000 8)
         ≡ Ok (bytes_of 17 0x0000000001000000028000000080000002) }
-    ensures used { own_capability (zero_persist 0) 0 first_table handed_sessions
-        (asked 1 0x02000000 8)
+    ensures used { own_capability (zero_persist 0) 0 first_table
+        (held_with [] handed_sessions).sessions (asked 1 0x02000000 8)
         ≡ Ok (bytes_of 13 0x00000000010000000103000002) }
-    ensures saved { own_capability (zero_persist 0) 0 first_table handed_sessions
-        (asked 1 0x03000000 8)
+    ensures saved { own_capability (zero_persist 0) 0 first_table
+        (held_with [] handed_sessions).sessions (asked 1 0x03000000 8)
         ≡ Ok (bytes_of 13 0x00000000010000000102000000) }
-    ensures active { own_capability (zero_persist 0) 0 first_table handed_sessions (asked 6 0x205 1)
+    ensures active { own_capability (zero_persist 0) 0 first_table
+        (held_with [] handed_sessions).sessions (asked 6 0x205 1)
         ≡ Ok (bytes_of 17 0x0100000006000000010000020500000002) }
-    ensures more { own_capability (zero_persist 0) 0 first_table two_sessions [] ≡ Err 0x1da }
+    ensures more { own_capability (zero_persist 0) 0 first_table
+        (held_with [] two_sessions).sessions []
+        ≡ Err 0x1da }
 {}
 
 // The next context that a device makes is under no less a sequence than may be handed out.

@@ -1,7 +1,7 @@
 //! A device that tells nothing. Its contexts have a blob of one byte.
 ghost use Rattle.std.specs.Prelude.{◌≡◌, ◌≤◌, None, length, refl};
 
-use device_port::{Device, DeviceFailed, Numbers, Trace, profile_numbers};
+use device_port::{Device, DeviceFailed, Trace};
 use tab_bytes::Buffer;
 
 // The response to ContextSave of the session 0x02000001, with the number 5 (Part 2,
@@ -64,10 +64,6 @@ impl Device for Fake {
 
     fn sent_count(&self) -> u64 {
         self.trace.sent()
-    }
-
-    fn numbers(&self) -> Numbers {
-        profile_numbers()
     }
 }
 

@@ -8,6 +8,7 @@ use session_swap::{Sessions, refresh};
 use std::alloc::Global;
 use std::test::Fail;
 use tab_bytes::Buffer;
+use tab_spec::Numbers;
 
 // The handles of an HMAC session and of a policy session.
 const FIRST: u32 = 0x0200_0001;
@@ -55,7 +56,7 @@ impl Desk {
         ensures second { IfOk result
             (λ d. is_loaded_item (item_of d.sessions.items SECOND) ≡ true) }
     {
-        let mut sessions = Sessions::new(alloc)?;
+        let mut sessions = Sessions::new(alloc, Numbers::of_the_profile())?;
         sessions.adopt_session(7, FIRST);
         sessions.adopt_session(9, SECOND);
         Ok(Desk {

@@ -5,7 +5,7 @@ ghost use Rattle.std.specs.List.{AllByRecursion, list_any};
 ghost use Rattle.object_swap.specs.Items.{is_vacant, owner_at};
 
 use device_memory::MemoryDevice;
-use device_port::{Device, DeviceFailed, Numbers, Trace, profile_numbers};
+use device_port::{Device, DeviceFailed, Trace};
 use object_swap::Objects;
 use std::alloc::Global;
 use std::test::Fail;
@@ -55,10 +55,6 @@ impl Device for Silent {
 
     fn sent_count(&self) -> u64 {
         self.trace.sent()
-    }
-
-    fn numbers(&self) -> Numbers {
-        profile_numbers()
     }
 }
 

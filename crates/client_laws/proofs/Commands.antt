@@ -3,7 +3,7 @@ use Rattle.std.proofs.Common.{◌≡◌, ◌<◌, ◌≤◌, ℕ, Bool, true, fa
 use Rattle.std.specs.Prelude.{Some, None, Ok, Err, not, nat_le, nat_lt, ◌==◌, ◌||◌, ◌&&◌, if◌then◌else◌}
 use Rattle.std.specs.Int.{w32, from_be_bytes}
 use Rattle.std.proofs.lemmas.Bool.{and_parts, eqb-true, leb-true, ltb-false, ltb-true, or_left, or_parts}
-use Rattle.tab_spec.specs.declared.TheConstants.{ACTIVE_SESSIONS, CC_CONTEXT_LOAD, CC_CONTEXT_SAVE, CC_CREATE_PRIMARY, CC_FLUSH_CONTEXT, CC_GET_CAPABILITY, CC_LOAD, CC_START_AUTH_SESSION, HT_HMAC_SESSION, HT_NV_INDEX, HT_POLICY_SESSION, HT_TRANSIENT, RC_SUCCESS, RH_NULL, RH_OWNER, TRANSIENT_FIRST}
+use Rattle.tab_spec.specs.declared.TheConstants.{CC_CONTEXT_LOAD, CC_CONTEXT_SAVE, CC_CREATE_PRIMARY, CC_FLUSH_CONTEXT, CC_GET_CAPABILITY, CC_LOAD, CC_START_AUTH_SESSION, HT_HMAC_SESSION, HT_NV_INDEX, HT_POLICY_SESSION, HT_TRANSIENT, RC_SUCCESS, RH_NULL, RH_OWNER, SESSION_NUMBERS, TRANSIENT_FIRST}
 use Rattle.tab_spec.specs.declared.Kind.{Kind}
 use Rattle.tab_spec.specs.declared.Kind.TheVariants.{Absent, Owner, Pcr, Nv, NvAuth, Object, Policy, Entity, Saved, Null}
 use Rattle.tab_spec.specs.declared.SessionKind.{SessionKind}
@@ -393,21 +393,21 @@ kind_is_session sorts.Policy = refl
 kind_is_session sorts.Trial = refl
 
 abbrev pub IsNew : Bool → ℕ → Type 0
-IsNew is_taken handle = (is_taken ≡ false) × (is_session_handle handle ≡ true) × (number_of_session handle < ACTIVE_SESSIONS)
+IsNew is_taken handle = (is_taken ≡ false) × (is_session_handle handle ≡ true) × (number_of_session handle < SESSION_NUMBERS)
 
 started_handle : (is_taken : Bool) (read : Reading ℕ) (handle : ℕ) → is_started_handle is_taken read handle ≡ true → IsNew is_taken handle
 started_handle is_taken (Err code) handle e = absurd cc
 started_handle is_taken (Ok read) handle e =
-    let parts = four_parts (is_kind_number read.0) (octet_of handle == kind_octet (kind_of read.0)) (nat_lt (number_of_session handle) ACTIVE_SESSIONS) is_taken e in (
+    let parts = four_parts (is_kind_number read.0) (octet_of handle == kind_octet (kind_of read.0)) (nat_lt (number_of_session handle) SESSION_NUMBERS) is_taken e in (
       parts.2,
       ap is_session_octet (eqb-true (octet_of handle) (kind_octet (kind_of read.0)) parts.0) ∙ kind_is_session (kind_of read.0),
-      ltb-true (number_of_session handle) ACTIVE_SESSIONS parts.1,
+      ltb-true (number_of_session handle) SESSION_NUMBERS parts.1,
     )
 
 pub command_session : (is_taken : Bool) (tables : Tables) (bytes : List ℕ) (a : Admitted) (first : ℕ) (last : List ℕ) → client_admitted tables bytes ≡ Ok a
     → takes false is_taken (sent_for bytes a first) last ≡ true → tells_session a last ≡ true
     → (is_taken ≡ false) × (14 ≤ length last) × (is_session_handle (from_be_bytes w32 (take 4 (drop 10 last))) ≡ true)
-    × (number_of_session (from_be_bytes w32 (take 4 (drop 10 last))) < ACTIVE_SESSIONS)
+    × (number_of_session (from_be_bytes w32 (take 4 (drop 10 last))) < SESSION_NUMBERS)
 command_session is_taken tables bytes a first last e taken tells =
     let asked = sent_for bytes a first in
     let handle = from_be_bytes w32 (take 4 (drop 10 last)) in

@@ -159,9 +159,10 @@ row_same : (slots : SlotState) (client : ℕ) (state : ClientState) (params : Li
 row_same slots client state params persist of =
     let objects = transient_from TRANSIENT_FIRST slots.slots in
     let sessions = listed_from 0 slots.sessions in
-    ap (λ (p : Persist). capability_of device_limits all_commands p objects sessions (active_count slots.sessions) params) persist
-    ∙ capability_same device_limits client_limits all_commands state.persist objects (transient_from TRANSIENT_FIRST state.objects) sessions
-    (world.listed_sessions client 0 state.sessions) (active_count slots.sessions) (active state.sessions) params of
+    ap (λ (p : Persist). capability_of (device_limits slots.numbers) all_commands p objects sessions (active_count slots.sessions) params) persist
+    ∙ capability_same (device_limits slots.numbers) (client_limits state.most) all_commands state.persist objects
+    (transient_from TRANSIENT_FIRST state.objects) sessions (world.listed_sessions client 0 state.sessions) (active_count slots.sessions)
+    (active state.sessions) params of
 
 list_over : (slots : SlotState) (client : ℕ) (state : ClientState) (bytes : List ℕ) (a : Admitted) (first : ℕ)
     → client_admitted (tables_of client state) bytes ≡ Ok a → (a.shape.row.code == CC_GET_CAPABILITY) ≡ true → is_sent a bytes ≡ true
@@ -358,9 +359,10 @@ list_taken is_kept is_taken slots client state bytes a first e is sent started p
     let objects = transient_from TRANSIENT_FIRST state.objects in
     let sessions = world.listed_sessions client 0 state.sessions in
     let count = active state.sessions in
+    let limits = client_limits state.most in
     ap (λ (step : Step). takes is_kept is_taken asked step.1) (list_over slots client state bytes a first e is sent started persist)
     ∙ any_taken is_kept is_taken asked (told (client_capability client state params)) code
     (told_taken asked (client_capability client state params) asks
-    (fails_read (asked_of params) (list_of client_limits all_commands state.persist objects sessions count) (fails_asked params)
-    (fails_list client_limits all_commands state.persist objects sessions count))
-    (short_capability client_limits all_commands state.persist objects sessions count params))
+    (fails_read (asked_of params) (list_of limits all_commands state.persist objects sessions count) (fails_asked params)
+    (fails_list limits all_commands state.persist objects sessions count))
+    (short_capability limits all_commands state.persist objects sessions count params))

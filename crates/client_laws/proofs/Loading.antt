@@ -200,7 +200,7 @@ object_taken : (is_kept is_taken : Bool) (slots : SlotState) (sent : List ℕ) (
 object_taken is_kept is_taken slots sent o sound asks =
     let handle = TRANSIENT_FIRST + free_slot slots.slots in
     let body = to_be_bytes w32 handle ++ [] in
-    let few : free_slot slots.slots ≤ 3 = omega (arith, free_few slots.slots, sound.count) in
+    let few : free_slot slots.slots ≤ 254 = omega (arith, free_few slots.slots, sound.count, sound.range.slots_most) in
     success_taken is_kept is_taken sent (response ST_NO_SESSIONS RC_SUCCESS body) true (response_is_frame ST_NO_SESSIONS RC_SUCCESS body (omega arith))
     (code_of_response ST_NO_SESSIONS RC_SUCCESS body (omega arith)) (ap (λ (c : ℕ). has_response_handle (row_of c)) asks.code) (sym asks.tag)
     (record {

@@ -1,7 +1,6 @@
 -- What a device that is ready for a client's command does with it over its slots.
-use Rattle.std.proofs.Common.{◌≡◌, ◌<◌, ◌≤◌, ◌⊎◌, inl, inr, ℕ, Bool, true, false, List, drop, get_or, refl, sym, ◌∙◌, subst}
+use Rattle.std.proofs.Common.{◌≡◌, ℕ, Bool, true, false, List, drop, get_or, refl, ◌∙◌}
 use Rattle.std.specs.Prelude.{Option, Some, None, Ok}
-use Rattle.tab_spec.specs.declared.TheConstants.{ACTIVE_SESSIONS, LOADED_SESSIONS}
 use Rattle.tab_spec.specs.declared.Admitted.{Admitted}
 use Rattle.tab_spec.specs.Admission.{Tables, admitted, admitted_by, client_admitted}
 use Rattle.tab_spec.specs.Commands.{row_of}
@@ -11,18 +10,18 @@ use Rattle.tab_spec.specs.Shape.{row_in}
 use Rattle.tab_spec.specs.Values.{AreBytes}
 use Rattle.effect_spec.specs.Effect.{Effect, effect_of}
 use Rattle.effect_spec.specs.Operands.{Operands}
-use Rattle.world_spec.specs.World.{ClientState, active, room_for, tables_of}
+use Rattle.world_spec.specs.World.{ClientState, room_for, tables_of}
 use Rattle.device_spec.specs.Answers.{takes}
-use Rattle.device_spec.specs.Slots.{SlotState, IsSlots, active_count, effect_by, loaded_count, slot_step, slot_tables}
+use Rattle.device_spec.specs.Slots.{SlotState, IsSlots, effect_by, slot_step, slot_tables}
 use Rattle.tab_laws.specs.OtherHandles.{admitted_handled}
 use Rattle.tab_laws.proofs.Handled.{client_is, handled_admitted}
 use Rattle.device_laws.specs.Effects.{is_managed, is_of_effects}
 use Rattle.device_laws.proofs.Answering.{answers_rightly}
-use Rattle.client_laws.specs.Ready.{HasSessionRoom, IsReady, client_effect, sent_for, starts_session}
+use Rattle.client_laws.specs.Ready.{IsReady, client_effect, sent_for, starts_session}
 use Rattle.client_laws.proofs.Agreeing.{runs}
 use Rattle.client_laws.proofs.Commands.{unmanaged}
 use Rattle.client_laws.proofs.Made.{of_effects_only}
-use Rattle.client_laws.proofs.Room.{same_room}
+use Rattle.client_laws.proofs.Room.{HasPlace, active_in_range, has_place, same_room}
 use Rattle.client_laws.proofs.Running.{IsRun, over_run, run_with}
 use Rattle.client_laws.proofs.Starting.{start_taken}
 
@@ -43,9 +42,10 @@ sent_step slots client state bytes a first full e managed all ready room =
     let tables = tables_of client state in
     let params = drop a.auths.params bytes in
     let run = runs slots client state bytes a first e all ready in
+    let same = same_room slots state a.shape.row.code params (active_in_range slots ready.sound) ready.most ready.place in
     let effect : Persist → Operands → Effect = λ persist operands. effect_of persist operands a.shape a.auths bytes in
     over_run slots tables bytes a first (get_or a.shape.handles 1 0) ready.started run.whole run.are run.there (is_run tables bytes a e managed)
-    ∙ λ i. run_with slots (effect (ready.persist i) (run.operands i)) ((same_room slots state a.shape.row.code params ready.place ∙ room) i)
+    ∙ λ i. run_with slots (effect (ready.persist i) (run.operands i)) ((same ∙ room) i)
 
 pub command_full : (slots : SlotState) (client : ℕ) (state : ClientState) (bytes : List ℕ) (a : Admitted) (first code : ℕ)
     → client_admitted (tables_of client state) bytes ≡ Ok a → is_managed a.shape.row.code ≡ false → AreBytes bytes
@@ -65,22 +65,10 @@ admitted_here : (tables : Tables) (bytes : List ℕ) (a : Admitted) → admitted
 unfolding admitted
 admitted_here tables bytes a e = e
 
--- the device has a place for another session, or no number
-place_by : (loaded active plain : ℕ) → plain ≡ active → (loaded < LOADED_SESSIONS) ⊎ (ACTIVE_SESSIONS ≤ plain)
-    → (loaded < LOADED_SESSIONS) ⊎ (ACTIVE_SESSIONS ≤ active)
-place_by loaded active plain same (inl place) = inl place
-place_by loaded active plain same (inr all) = inr (subst (λ (n : ℕ). ACTIVE_SESSIONS ≤ n) same all)
-
-has_place : (slots : SlotState) (state : ClientState) → HasSessionRoom slots state
-    → (loaded_count slots.sessions < LOADED_SESSIONS) ⊎ (ACTIVE_SESSIONS ≤ active_count slots.sessions)
-has_place slots state room =
-    place_by (loaded_count slots.sessions) (active_count slots.sessions) (active state.sessions) (sym room.same) room.place
-
 -- of StartAuthSession, and of any other
 sort_taken : (slots : SlotState) (sent : List ℕ) (a : Admitted) (start : Bool) → starts_session a ≡ start → IsSlots slots → slots.started ≡ true
     → admitted row_of (slot_tables slots) sent ≡ Ok a → (starts_session a ≡ false → is_of_effects a.shape.row.code ≡ true)
-    → (starts_session a ≡ true → (loaded_count slots.sessions < LOADED_SESSIONS) ⊎ (ACTIVE_SESSIONS ≤ active_count slots.sessions))
-    → takes false false sent (slot_step slots sent).1 ≡ true
+    → (starts_session a ≡ true → HasPlace slots) → takes false false sent (slot_step slots sent).1 ≡ true
 sort_taken slots sent a true is sound started here only place = start_taken slots sent a sound started here is (place is)
 sort_taken slots sent a false is sound started here only place =
     answers_rightly slots sent a sound started (admitted_here (slot_tables slots) sent a here) (only is)
@@ -97,4 +85,4 @@ command_taken slots client state bytes a first e managed all ready =
     let here : admitted row_of (slot_tables slots) sent ≡ Ok over =
     handled_admitted tables (slot_tables slots) bytes a first second run.whole run.are run.there in
     sort_taken slots sent over (starts_session a) refl ready.sound ready.started here (of_effects_only tables bytes a e managed)
-    (λ so. has_place slots state (ready.place so))
+    (λ so. has_place slots state ready.most (ready.place so))

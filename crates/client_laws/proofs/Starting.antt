@@ -1,10 +1,10 @@
 -- A broker takes what a started device answers to StartAuthSession, where the device has room as its clients have.
-use Rattle.std.proofs.Common.{◌≡◌, ◌+◌, ◌*◌, ◌^◌, ◌<◌, ◌≤◌, ◌⊎◌, inl, inr, ℕ, suc, Bool, true, false, List, [], ◌∷◌, ◌++◌, length, get_or, drop, refl, ap, sym, ◌∙◌, subst, arith}
+use Rattle.std.proofs.Common.{◌≡◌, ◌+◌, ◌*◌, ◌^◌, ◌<◌, ◌≤◌, inl, inr, ℕ, suc, Bool, true, false, List, [], ◌∷◌, ◌++◌, length, get_or, drop, refl, ap, sym, ◌∙◌, subst, arith}
 use Rattle.std.specs.Prelude.{Option, Some, None, Result, Ok, Err, not, nat_le, nat_lt, ◌==◌, ◌||◌, ◌&&◌, if◌then◌else◌}
 use Rattle.std.specs.Int.{w32, to_be_bytes}
-use Rattle.std.proofs.lemmas.Bool.{and_parts, cond_both, cond-false, eq-eqb, eqb-true, leb-false, leb-true, lt-ltb, ltb-false, not_from_false, or_left}
+use Rattle.std.proofs.lemmas.Bool.{and_parts, cond_both, cond-false, eq-eqb, eqb-true, leb-false, leb-true, lt-ltb, ltb-false, not_from_false, or_left, or_parts}
 use Rattle.std.proofs.lemmas.List.Sums.{sum_by-cons}
-use Rattle.tab_spec.specs.declared.TheConstants.{ACTIVE_SESSIONS, CC_CONTEXT_LOAD, CC_CONTEXT_SAVE, CC_FLUSH_CONTEXT, CC_GET_CAPABILITY, CC_START_AUTH_SESSION, CC_STARTUP, HT_TRANSIENT, LOADED_SESSIONS, RC_SESSION_HANDLES, RC_SESSION_MEMORY, RC_SUCCESS, RH_NULL, ST_SESSIONS}
+use Rattle.tab_spec.specs.declared.TheConstants.{CC_CONTEXT_LOAD, CC_CONTEXT_SAVE, CC_FLUSH_CONTEXT, CC_GET_CAPABILITY, CC_START_AUTH_SESSION, CC_STARTUP, HT_TRANSIENT, RC_SESSION_HANDLES, RC_SESSION_MEMORY, RC_SUCCESS, RH_NULL, SESSION_NUMBERS, ST_SESSIONS}
 use Rattle.tab_spec.specs.declared.Kind.{Kind}
 use Rattle.tab_spec.specs.declared.Kind.TheVariants.{Absent, Null}
 use Rattle.tab_spec.specs.declared.SessionKind.{SessionKind}
@@ -35,6 +35,7 @@ use Rattle.device_laws.proofs.Frames.{code_of_response}
 use Rattle.device_laws.proofs.Replies.{step_replies}
 use Rattle.client_laws.proofs.Commands.{another_code, row_as}
 use Rattle.client_laws.proofs.NoAuths.{NoAuths, no_auths, none_spare}
+use Rattle.client_laws.proofs.Room.{HasPlace}
 use Rattle.client_laws.proofs.Running.{IsRun, device_run, run_with}
 use Rattle.client_laws.proofs.Starts.{IsChecked, IsStarted, StartsIn, outcome_starts, type_checked}
 
@@ -146,7 +147,7 @@ record Asks (bytes : List ℕ) (a : Admitted) : Type 0 where
   first : is_session_handle (get_or a.shape.handles 0 0) ≡ false
   second : is_session_handle (get_or a.shape.handles 1 0) ≡ false
 
-started_handle : (params : List ℕ) (b : StartParameters) (number : ℕ) (kind : SessionKind) → IsChecked params b → kind ≡ kind_of b.kind → number < ACTIVE_SESSIONS
+started_handle : (params : List ℕ) (b : StartParameters) (number : ℕ) (kind : SessionKind) → IsChecked params b → kind ≡ kind_of b.kind → number < SESSION_NUMBERS
     → is_started_handle false (session_type_of params) (kind_octet kind * 2 ^ 24 + number) ≡ true
 started_handle params b number kind checked same few =
     let octet = kind_octet kind in
@@ -154,9 +155,9 @@ started_handle params b number kind checked same few =
     let octet_is : octet_of handle ≡ octet = omega (arith, few) in
     let number_is : number_of_session handle ≡ number = omega (arith, few) in
     ap (λ (read : Reading ℕ). is_started_handle false read handle) checked.1.1
-    ∙ four_from (is_kind_number b.kind) (octet_of handle == kind_octet (kind_of b.kind)) (nat_lt (number_of_session handle) ACTIVE_SESSIONS) checked.0
+    ∙ four_from (is_kind_number b.kind) (octet_of handle == kind_octet (kind_of b.kind)) (nat_lt (number_of_session handle) SESSION_NUMBERS) checked.0
     (eq-eqb (octet_of handle) (kind_octet (kind_of b.kind)) (octet_is ∙ ap kind_octet same))
-    (lt-ltb (number_of_session handle) ACTIVE_SESSIONS (subst (λ (n : ℕ). n < ACTIVE_SESSIONS) (sym number_is) few))
+    (lt-ltb (number_of_session handle) SESSION_NUMBERS (subst (λ (n : ℕ). n < SESSION_NUMBERS) (sym number_is) few))
 
 handle_fits : (start started other : Bool) → start ≡ true → started ≡ true → (if start then started else other) ≡ true
 handle_fits start started other a b = rw (a, b) refl
@@ -184,7 +185,7 @@ refused : (bytes : List ℕ) (a : Admitted) (code : ℕ) → Asks bytes a → Is
 refused bytes a code asks hidden frame = error_taken bytes code (own_none bytes asks.code) hidden
 
 session_told : (bytes : List ℕ) (a : Admitted) (number : ℕ) (kind : SessionKind) (b : StartParameters) (body : List ℕ) → Asks bytes a
-    → start_check (drop a.auths.params bytes) ≡ Ok b → kind ≡ kind_of b.kind → number < ACTIVE_SESSIONS
+    → start_check (drop a.auths.params bytes) ≡ Ok b → kind ≡ kind_of b.kind → number < SESSION_NUMBERS
     → Taken bytes (response a.shape.tag RC_SUCCESS (to_be_bytes w32 (kind_octet kind * 2 ^ 24 + number) ++ body))
 session_told bytes a number kind b body asks checked same few frame =
     let handle = kind_octet kind * 2 ^ 24 + number in
@@ -205,7 +206,7 @@ session_told bytes a number kind b body asks checked same few frame =
     (another (code_of bytes) CC_CONTEXT_SAVE asks.code refl) (no_handles_asked bytes (another (code_of bytes) CC_GET_CAPABILITY asks.code refl))
 
 made_told : (slots : SlotState) (created : Created) (named : Bool) (params answer : List ℕ) (bytes : List ℕ) (a : Admitted) → Asks bytes a → named ≡ true
-    → IsStarted (drop a.auths.params bytes) created → free_number slots.sessions < ACTIVE_SESSIONS
+    → IsStarted (drop a.auths.params bytes) created → free_number slots.sessions < SESSION_NUMBERS
     → Taken bytes (made_by slots created (response a.shape.tag RC_SUCCESS (handle_area named ++ response_body a.shape.tag params answer))).1
 made_told slots nothing named params answer bytes a asks has started few = absurd started
 made_told slots (new_object o) named params answer bytes a asks has started few = absurd started
@@ -214,7 +215,7 @@ made_told slots (new_session s) true params answer bytes a asks has started few 
 made_told slots (new_session s) false params answer bytes a asks has started few = absurd cc
 
 done_told : (slots : SlotState) (operands : Operands) (bytes : List ℕ) (a : Admitted) (done : RowOutcome) (closed : Result ResponseAuth ℕ) (given : ResponseAuth)
-    → Asks bytes a → NoSessions operands → StartsIn (drop a.auths.params bytes) (Ok done) → free_number slots.sessions < ACTIVE_SESSIONS → closed ≡ Ok given
+    → Asks bytes a → NoSessions operands → StartsIn (drop a.auths.params bytes) (Ok done) → free_number slots.sessions < SESSION_NUMBERS → closed ≡ Ok given
     → Taken bytes (effect_by slots (effect_authorized slots.persist operands a.shape a.auths done closed)).1
 done_told slots operands bytes a done closed given asks apart starts few is =
     let ended = ends_session operands a.shape a.auths in
@@ -223,17 +224,17 @@ done_told slots operands bytes a done closed given asks apart starts few is =
     subst (λ (closed : Result ResponseAuth ℕ). Taken bytes (effect_by slots (effect_authorized slots.persist operands a.shape a.auths done closed)).1) (sym is)
     (made_told (record slots { persist = given.persist; sessions = left }) done.created a.shape.row.response_handle done.params given.answer bytes a asks
     (ap (λ (row : CommandRow). row.response_handle) asks.row) starts.1
-    (subst (λ (sessions : List SessionPlace). free_number sessions < ACTIVE_SESSIONS) (sym back) few))
+    (subst (λ (sessions : List SessionPlace). free_number sessions < SESSION_NUMBERS) (sym back) few))
 
-started_few : (params : List ℕ) (created : Created) (number : ℕ) → IsStarted params created → ((b : StartParameters) → start_check params ≡ Ok b → number < ACTIVE_SESSIONS)
-    → number < ACTIVE_SESSIONS
+started_few : (params : List ℕ) (created : Created) (number : ℕ) → IsStarted params created → ((b : StartParameters) → start_check params ≡ Ok b → number < SESSION_NUMBERS)
+    → number < SESSION_NUMBERS
 started_few params nothing number started few = absurd started
 started_few params (new_object o) number started few = absurd started
 started_few params (new_session s) number started few = few started.0 started.1.0
 
 row_told : (slots : SlotState) (operands : Operands) (bytes : List ℕ) (a : Admitted) (row : Result RowOutcome ℕ) → Asks bytes a → NoSessions operands
     → Fails IsPlain row → StartsIn (drop a.auths.params bytes) row
-    → ((b : StartParameters) → start_check (drop a.auths.params bytes) ≡ Ok b → free_number slots.sessions < ACTIVE_SESSIONS)
+    → ((b : StartParameters) → start_check (drop a.auths.params bytes) ≡ Ok b → free_number slots.sessions < SESSION_NUMBERS)
     → Taken bytes (effect_by slots (effect_in slots.persist operands a.shape a.auths bytes row)).1
 row_told slots operands bytes a (Err code) asks apart fails starts few = refused bytes a code asks fails
 row_told slots operands bytes a (Ok done) asks apart fails starts few =
@@ -246,7 +247,7 @@ row_told slots operands bytes a (Ok done) asks apart fails starts few =
     (cond-false (a.shape.tag == ST_SESSIONS) (response_auth done.persist entity session (command_auth a.auths) bytes hash) (Ok given) asks.none.sessions)
 
 effect_told : (slots : SlotState) (bytes : List ℕ) (a : Admitted) → Asks bytes a
-    → ((b : StartParameters) → start_check (drop a.auths.params bytes) ≡ Ok b → free_number slots.sessions < ACTIVE_SESSIONS)
+    → ((b : StartParameters) → start_check (drop a.auths.params bytes) ≡ Ok b → free_number slots.sessions < SESSION_NUMBERS)
     → Taken bytes (effect_by slots (effect_of slots.persist (slot_operands slots a.shape a.auths) a.shape a.auths bytes)).1
 unfolding effect_of
 effect_told slots bytes a asks few =
@@ -263,25 +264,27 @@ effect_told slots bytes a asks few =
 
 -- ---- where there is room
 
-abbrev HasPlace : SlotState → Type 0
-HasPlace slots = (loaded_count slots.sessions < LOADED_SESSIONS) ⊎ (ACTIVE_SESSIONS ≤ active_count slots.sessions)
-
-no_memory : (slots : SlotState) → HasPlace slots → active_count slots.sessions < ACTIVE_SESSIONS → nat_le LOADED_SESSIONS (loaded_count slots.sessions) ≡ true → ⊥
-no_memory slots (inl place) few full = omega (arith, place, leb-true LOADED_SESSIONS (loaded_count slots.sessions) full)
+no_memory : (slots : SlotState) → HasPlace slots → active_count slots.sessions < slots.numbers.active
+    → nat_le slots.numbers.loaded (loaded_count slots.sessions) ≡ true → ⊥
+no_memory slots (inl place) few full = omega (arith, place, leb-true slots.numbers.loaded (loaded_count slots.sessions) full)
 no_memory slots (inr all) few full = omega (arith, all, few)
 
 room_told : (slots : SlotState) (bytes : List ℕ) (a : Admitted) (effect : Effect) (check : Result StartParameters ℕ) → IsSlots slots → Asks bytes a → HasPlace slots
-    → (((b : StartParameters) → check ≡ Ok b → free_number slots.sessions < ACTIVE_SESSIONS) → Taken bytes (effect_by slots effect).1)
+    → (((b : StartParameters) → check ≡ Ok b → free_number slots.sessions < SESSION_NUMBERS) → Taken bytes (effect_by slots effect).1)
     → Taken bytes (run_with slots effect (session_too_many slots check)).1
 room_told slots bytes a effect (Err code) sound asks place told = told (λ b is. absurd cc)
 room_told slots bytes a effect (Ok b) sound asks place told =
     let P : Option ℕ → Type 0 = λ room. Taken bytes (run_with slots effect room).1 in
     let active = active_count slots.sessions in
     let loaded = loaded_count slots.sessions in
-    cond_both (nat_le ACTIVE_SESSIONS active) (Some RC_SESSION_HANDLES) (if nat_le LOADED_SESSIONS loaded then Some RC_SESSION_MEMORY else None) P
+    let places = slots.numbers.loaded in
+    let most = slots.numbers.active in
+    cond_both (nat_le most active || nat_le SESSION_NUMBERS active) (Some RC_SESSION_HANDLES)
+    (if nat_le places loaded then Some RC_SESSION_MEMORY else None) P
     (λ full. refused bytes a RC_SESSION_HANDLES asks refl) (λ free.
-    let few = leb-false ACTIVE_SESSIONS active free in
-    cond_both (nat_le LOADED_SESSIONS loaded) (Some RC_SESSION_MEMORY) None P (λ none. absurd (no_memory slots place few none))
+    let parts = or_parts (nat_le most active) (nat_le SESSION_NUMBERS active) free in
+    let few = leb-false SESSION_NUMBERS active parts.1 in
+    cond_both (nat_le places loaded) (Some RC_SESSION_MEMORY) None P (λ none. absurd (no_memory slots place (leb-false most active parts.0) none))
     (λ there. told (λ b is.
     subst (λ (size : ℕ). free_number slots.sessions < size) sound.numbers
     (free_below slots.sessions (subst (λ (size : ℕ). active < size) (sym sound.numbers) few)))))

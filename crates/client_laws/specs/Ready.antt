@@ -2,7 +2,7 @@
 -- sent, and what the response tells.
 use Rattle.std.specs.Prelude.{◌≡◌, ◌⊎◌, ◌<◌, ◌≤◌, ◌^◌, ◌==◌, ◌&&◌, not, ℕ, Bool, true, false, List, [], ◌∷◌, length, get_or, drop, Option, Ok, IfSome, if◌then◌else◌}
 use Rattle.std.specs.List.{AllByRecursion, filter, list_any}
-use Rattle.tab_spec.specs.declared.TheConstants.{ACTIVE_SESSIONS, CC_CONTEXT_LOAD, CC_CONTEXT_SAVE, CC_FLUSH_CONTEXT, CC_GET_CAPABILITY, CC_START_AUTH_SESSION, HT_TRANSIENT, LOADED_SESSIONS, RC_SUCCESS, ST_SESSIONS}
+use Rattle.tab_spec.specs.declared.TheConstants.{CC_CONTEXT_LOAD, CC_CONTEXT_SAVE, CC_FLUSH_CONTEXT, CC_GET_CAPABILITY, CC_START_AUTH_SESSION, HT_TRANSIENT, RC_SUCCESS, ST_SESSIONS}
 use Rattle.tab_spec.specs.declared.Admitted.{Admitted}
 use Rattle.tab_spec.specs.Admission.{is_session_handle}
 use Rattle.tab_spec.specs.Frame.{code_of}
@@ -29,17 +29,19 @@ abbrev pub named_sessions : Admitted → List ℕ
 named_sessions a =
     filter is_session_handle (get_or a.shape.handles 0 0 ∷ get_or a.shape.handles 1 0 ∷ (command_auth a.auths).session ∷ [])
 
--- the device has a session for each number that a client has, and either a place for another one or no number
+-- the device has a session for each number that a client has, and either a place for another one or as many as may be
 pub record HasSessionRoom (slots : SlotState) (state : ClientState) : Type 0 where
   pub same : active_count slots.sessions ≡ active state.sessions
-  pub place : (loaded_count slots.sessions < LOADED_SESSIONS) ⊎ (ACTIVE_SESSIONS ≤ active state.sessions)
+  pub place : (loaded_count slots.sessions < slots.numbers.loaded) ⊎ (state.most ≤ active state.sessions)
 
 -- a device is ready for a client's command over this first handle: it is started and keeps what is kept, the client's object
--- is in that slot, the sessions that the command names are loaded, and there is room for what it may make
+-- is in that slot, the sessions that the command names are loaded, and there is room for what it may make, and as many sessions
+-- may be active in the world as on the device
 pub record IsReady (slots : SlotState) (client : ℕ) (state : ClientState) (a : Admitted) (bytes : List ℕ) (first : ℕ) : Type 0 where
   pub started : slots.started ≡ true
   pub sound : IsSlots slots
   pub persist : slots.persist ≡ state.persist
+  pub most : state.most ≡ slots.numbers.active
   pub fits : first < 2 ^ 32
   pub stands : StandsFor slots state.objects (get_or a.shape.handles 0 0) first
   pub sessions : AllByRecursion (λ handle. loaded_session slots handle ≡ session_of state.sessions client handle) (named_sessions a)

@@ -1,9 +1,10 @@
 ghost use Rattle.std.specs.Prelude.{◌≡◌, ◌==◌, ◌≤◌, ◌<◌, ℕ, Bool, true, false, List, Option};
 ghost use Rattle.std.specs.Prelude.{length, get_or, take, drop, Some, None, Ok, Err};
 ghost use Rattle.std.specs.Int.{w32, from_be_bytes};
-ghost use Rattle.tab_spec.specs.declared.TheConstants.{ACTIVE_SESSIONS, CC_CONTEXT_LOAD};
-ghost use Rattle.tab_spec.specs.declared.TheConstants.{CC_CONTEXT_SAVE, CC_FLUSH_CONTEXT};
-ghost use Rattle.tab_spec.specs.declared.TheConstants.{CC_GET_CAPABILITY, CC_STARTUP, HT_TRANSIENT};
+ghost use Rattle.tab_spec.specs.declared.TheConstants.{CC_CONTEXT_LOAD, CC_CONTEXT_SAVE};
+ghost use Rattle.tab_spec.specs.declared.TheConstants.{CC_FLUSH_CONTEXT, CC_GET_CAPABILITY};
+ghost use Rattle.tab_spec.specs.declared.TheConstants.{CC_STARTUP};
+ghost use Rattle.tab_spec.specs.declared.TheConstants.{HT_TRANSIENT, SESSION_NUMBERS};
 ghost use Rattle.tab_spec.specs.declared.Admitted.{Admitted};
 ghost use Rattle.tab_spec.specs.Admission.{Tables, client_admitted, is_session_handle};
 ghost use Rattle.tab_spec.specs.Commands.{row_of};
@@ -78,9 +79,9 @@ pub fn clients_steps_go_by_their_code()
 
 /// A client's command that is admitted over the client's objects and sessions, and that is none of
 /// those that a resource manager carries out by itself, does the same on a device that is ready
-/// for it, with the handle of a slot in place of the client's: it is refused for want of a session
-/// number, or it does its effect over them. A broker whose clients have no session with the number
-/// of a new one takes the response. The effect tells the handle of what it made.
+/// for it, with the handle of a slot in place of the client's: it is refused where as many sessions
+/// are active as may be, or it does its effect over them. A broker whose clients have no session
+/// with the number of a new one takes the response. The effect tells the handle of what it made.
 pub fn clients_commands_run_over_slots()
     ensures full { (slots : SlotState) (client : ℕ) (state : ClientState) (bytes : List ℕ)
         (a : Admitted) (first code : ℕ) → client_admitted (tables_of client state) bytes ≡ Ok a
@@ -140,5 +141,5 @@ pub fn clients_commands_go_over_other_handles()
         → takes false is_taken (sent_for bytes a first) last ≡ true → tells_session a last ≡ true
         → (is_taken ≡ false) × (14 ≤ length last)
         × (is_session_handle (from_be_bytes w32 (take 4 (drop 10 last))) ≡ true)
-        × (number_of_session (from_be_bytes w32 (take 4 (drop 10 last))) < ACTIVE_SESSIONS) }
+        × (number_of_session (from_be_bytes w32 (take 4 (drop 10 last))) < SESSION_NUMBERS) }
 {}

@@ -5,7 +5,7 @@ use Rattle.std.proofs.lemmas.Result.{on_ok_weaker}
 use Rattle.std.proofs.lemmas.List.{length-map}
 use Rattle.std.specs.Prelude.{Option, Some, None, Result, Ok, IfSome, is_some, not, ◌==◌, ◌||◌, if◌then◌else◌}
 use Rattle.std.specs.List.{count_by, list_any}
-use Rattle.tab_spec.specs.declared.TheConstants.{HT_TRANSIENT, LOADED_SESSIONS, RC_REFERENCE_H0}
+use Rattle.tab_spec.specs.declared.TheConstants.{HT_TRANSIENT, RC_REFERENCE_H0}
 use Rattle.tab_spec.specs.declared.Admitted.{Admitted}
 use Rattle.tab_spec.specs.Admission.{Tables, admitted, client_admitted, is_missing, missing_handle}
 use Rattle.tab_spec.specs.Commands.{row_of}
@@ -22,6 +22,7 @@ use Rattle.object_swap.specs.Items as objects
 use Rattle.object_swap.specs.Items.{AreFree, AreResident, Item, MakesRoom, Moved, Names, ObjectsView, evictions, handle_in, is_resident, is_unsaved, is_vacant, item_at, item_object, missing, no_item, objects_of, owners}
 use Rattle.object_swap.proofs.Order.{leaves_few}
 use Rattle.session_swap.specs.Items as sessions
+use Rattle.session_swap.specs.Items.{SessionsView}
 use Rattle.history_laws.proofs.Counts.{count_cons, one_if}
 use Rattle.history_laws.proofs.Tables.{held_all}
 use Rattle.history_spec.specs.Table.{held_under}
@@ -129,6 +130,7 @@ objects_moved seen most old new held view moved none counter settled =
       };
       orphans = omega (arith, ap (λ (l : List ℕ). length l) moved.left);
       slots = moved.slots;
+      numbers = refl;
       length_is = length_same held.objects.items view.items owners;
     }
 
@@ -329,15 +331,15 @@ places_free old None n same free = tt
 places_free None (Some after) n same free = absurd cc
 places_free (Some slots) (Some after) n same free =
     let places : after.sessions ≡ slots.sessions = ap (λ (s : SlotState). s.sessions) (some_same same) in
-    omega (arith, free, ap (λ (l : List SessionPlace). loaded_count l) places)
+    omega (arith, free, ap (λ (l : List SessionPlace). loaded_count l) places, ap (λ (s : SlotState). s.numbers.loaded) (some_same same))
 
 -- the room for a session stays where objects move
-pub room_kept : (old new : Option SlotState) (items new_items : List (Option sessions.Item)) → objects.rest_of new ≡ objects.rest_of old → new_items ≡ items
-    → (sessions.AreFree old 1 × (sessions.loaded_items items < LOADED_SESSIONS)) ⊎ AreTaken items
-    → (sessions.AreFree new 1 × (sessions.loaded_items new_items < LOADED_SESSIONS)) ⊎ AreTaken new_items
-room_kept old new items new_items rest same (inl free) = inl (
+pub room_kept : (old new : Option SlotState) (view new_view : SessionsView) → objects.rest_of new ≡ objects.rest_of old → new_view ≡ view
+    → (sessions.AreFree old 1 × (sessions.loaded_items view.items < view.numbers.loaded)) ⊎ AreTaken view
+    → (sessions.AreFree new 1 × (sessions.loaded_items new_view.items < new_view.numbers.loaded)) ⊎ AreTaken new_view
+room_kept old new view new_view rest same (inl free) = inl (
   places_free old new 1 rest free.0,
-  subst (λ (l : List (Option sessions.Item)). sessions.loaded_items l < LOADED_SESSIONS) (sym same) free.1,
+  subst (λ (v : SessionsView). sessions.loaded_items v.items < v.numbers.loaded) (sym same) free.1,
 )
-room_kept old new items new_items rest same (inr full) =
+room_kept old new view new_view rest same (inr full) =
     inr (subst AreTaken (sym same) full)

@@ -2,7 +2,8 @@
 use Rattle.std.proofs.Common.{◌≡◌, ◌≤◌, ◌+◌, inl, inr, ℕ, Bool, true, false, List, ap, arith}
 use Rattle.std.specs.Prelude.{◌*◌, ◌<◌, if◌then◌else◌, Option, Some, None, is_some, MatchOption, Result, Ok}
 use Rattle.std.proofs.lemmas.Bool.{cases_lt, le-ltb}
-use Rattle.tab_spec.specs.declared.TheConstants.{ACTIVE_SESSIONS, TRANSIENT_FIRST}
+use Rattle.tab_spec.specs.declared.TheConstants.{SESSION_NUMBERS, TRANSIENT_FIRST}
+use Rattle.tab_spec.specs.declared.numbers.Numbers.{Numbers}
 use Rattle.tab_spec.specs.Count.{one_more}
 use Rattle.device_spec.specs.ContextCommands.{flush_context_command}
 use Rattle.device_port.specs.Device.{Seen, sent_of}
@@ -10,7 +11,7 @@ use Rattle.device_port.specs.Own.{Asks}
 use Rattle.device_port.specs.declared.own.SwapError.{SwapError}
 use Rattle.object_swap.specs.Items.{handle_in}
 use Rattle.history_laws.proofs.Counts.{one_if}
-use Rattle.session_swap.specs.declared.TheConstants.{RENEWAL_GAP}
+use Rattle.session_swap.specs.Items.{renewal_gap}
 use Rattle.client_machine.specs.Costs.{SendsUpTo, renewal_bound}
 
 -- ---- one command
@@ -44,13 +45,15 @@ one_most false = omega arith
 -- ---- old contexts
 
 -- nothing is sent where no renewal was due before; the gap is no larger now
-pub renews_few : {D : Type 0} (seen : D → Seen) (between new : D) (gap gap_left saved : ℕ) → gap_left ≤ gap → (gap_left < RENEWAL_GAP → new ≡ between)
-    → SendsUpTo seen (2 * saved + 1) between new → saved ≤ ACTIVE_SESSIONS → SendsUpTo seen (renewal_bound gap) between new
-renews_few seen between new gap gap_left saved less still sent few =
-    elim (cases_lt gap_left RENEWAL_GAP) [
+pub renews_few : {D : Type 0} (seen : D → Seen) (between new : D) (gap gap_left saved : ℕ) (numbers numbers_left : Numbers) → numbers_left ≡ numbers
+    → gap_left ≤ gap → (gap_left < renewal_gap numbers_left → new ≡ between)
+    → SendsUpTo seen (2 * saved + 1) between new → saved ≤ SESSION_NUMBERS → SendsUpTo seen (renewal_bound gap numbers) between new
+renews_few seen between new gap gap_left saved numbers numbers_left same less still sent few =
+    elim (cases_lt gap_left (renewal_gap numbers_left)) [
       | inl narrow ↦ omega (arith, ap (λ (d : _). sent_of (seen d)) (still narrow))
       | inr wide ↦
-          let due : renewal_bound gap ≡ 2 * ACTIVE_SESSIONS + 1 =
-          ap {B = ℕ} (λ (test : Bool). if test then 0 else 2 * ACTIVE_SESSIONS + 1) (le-ltb gap RENEWAL_GAP (omega (arith, less, wide))) in
+          let due : renewal_bound gap numbers ≡ 2 * SESSION_NUMBERS + 1 =
+          ap {B = ℕ} (λ (test : Bool). if test then 0 else 2 * SESSION_NUMBERS + 1)
+          (le-ltb gap (renewal_gap numbers) (omega (arith, less, wide, ap renewal_gap same))) in
           omega (arith, due, sent, few)
     ]

@@ -164,6 +164,7 @@ saved_runs slots held client table a bytes may alone saves sound =
                 ∙ (λ i. Some (
                   record {
                     persist = slots.persist;
+                    most = held.sessions.numbers.active;
                     objects = sym (same_objects slots after items table refl refl) i;
                     sessions = sym (ap (sessions_in after) items_are ∙ sessions_over_objects slots after old refl) i;
                     object_sequence = number + 1;
@@ -286,7 +287,7 @@ abbrev pub IsTaken : SlotState → Held → ℕ → List (Option ℕ) → Admitt
 IsTaken slots held client table a bytes =
     let sent = sent_over bytes a table held.objects.items in
     let answer = (slot_step slots sent).1 in
-    takes (loads_kept held.objects.items sent) (number_taken held.sessions.items answer) sent answer ≡ true
+    takes (loads_kept held.objects.items sent) (number_taken held.sessions answer) sent answer ≡ true
 
 effect_taken : (slots : SlotState) (held : Held) (client : ℕ) (table : List (Option ℕ)) (a : Admitted) (bytes : List ℕ) → MayRun slots held client table a bytes
     → is_managed a.shape.row.code ≡ false → IsTaken slots held client table a bytes
@@ -300,8 +301,8 @@ effect_taken slots held client table a bytes may not =
     let taken : takes false false sent answer ≡ true =
     command_taken slots client (state_here slots held table) bytes a first (admitted_here slots held client table no_sequences a bytes may) not may.all
     (ready_here slots held client table no_sequences a bytes may) in
-    ap (λ (kept : Bool). takes kept (number_taken held.sessions.items answer) sent answer) (no_start (code_of sent == CC_CONTEXT_LOAD) _ load)
-    ∙ kept_by (starts_session a) (code_of answer == RC_SUCCESS) (number_taken held.sessions.items answer) sent answer a refl refl load
+    ap (λ (kept : Bool). takes kept (number_taken held.sessions answer) sent answer) (no_start (code_of sent == CC_CONTEXT_LOAD) _ load)
+    ∙ kept_by (starts_session a) (code_of answer == RC_SUCCESS) (number_taken held.sessions answer) sent answer a refl refl load
     (λ other. ap (λ (c : ℕ). c == CC_START_AUTH_SESSION) code ∙ other) taken
     (λ told. free_by slots (slot_step slots sent).0 held client table a bytes did.created did.effect_reply answer may did.left taken told)
 
@@ -364,7 +365,7 @@ taken_here : (slots : SlotState) (held : Held) (client : ℕ) (table : List (Opt
     → saves_one a ≡ false → let sent = sent_over bytes a table held.objects.items in takes false false sent (slot_step slots sent).1 ≡ true
 taken_here slots held client table a bytes may alone =
     let sent = sent_over bytes a table held.objects.items in
-    takes_more (loads_kept held.objects.items sent) (number_taken held.sessions.items (slot_step slots sent).1) sent (slot_step slots sent).1
+    takes_more (loads_kept held.objects.items sent) (number_taken held.sessions (slot_step slots sent).1) sent (slot_step slots sent).1
     (all_taken slots held client table a bytes may alone)
 
 -- ---- the plain machine does the same

@@ -341,6 +341,7 @@ dropped seen client old new held new_view item d at settled =
       failures = inl (omega (arith, d.rest.count));
       right = rightly seen old new d.taken;
       slots = d.slots;
+      numbers = refl;
       length_is = ap length d.items_are ∙ length-set items item no_item;
     }
 
@@ -389,6 +390,7 @@ left seen client old new held new_view item slot view_is slot_is same rest rose 
       failures = counted_once (seen old).faults (seen new).faults rose;
       right = inr (right_none (asked_of (seen new)) (last_of (seen new)) none);
       slots = ap (λ (v : ObjectsView). v.slots) view_is;
+      numbers = refl;
       length_is = ap length items_are ∙ length-set items item no_item;
     }
 
@@ -412,6 +414,7 @@ drops_none seen client old held settled = record {
   failures = inl (omega arith);
   right = inl refl;
   slots = refl;
+  numbers = refl;
   length_is = refl;
 }
 
@@ -437,6 +440,7 @@ drops_then {D} seen client old middle new held between new_held n m first second
   failures = counted_both (seen old).faults (seen middle).faults (seen new).faults n m second.keeps.count first.failures second.failures;
   right = answered_then (λ (d : D). IsRight (asked_of (seen d)) (last_of (seen d))) old middle new first.right second.right;
   slots = second.slots ∙ first.slots;
+  numbers = second.numbers ∙ first.numbers;
   length_is = second.length_is ∙ first.length_is;
 }
 
@@ -469,6 +473,7 @@ drops_ended seen client old new held new_held view list n drops view_is =
       failures = drops.failures;
       right = drops.right;
       slots = drops.slots;
+      numbers = drops.numbers;
       length_is = drops.length_is;
     })
 
@@ -476,7 +481,7 @@ drops_ended seen client old new held new_held view list n drops view_is =
 
 pub disowns_none : {D : Type 0} (seen : D → Seen) (device : D) (held : Held) (n : ℕ) → Disowns seen device device held held (Ok n)
 disowns_none seen device held n =
-    record { keeps = keeps_same seen device; slots = refl; length_is = refl; lists = tt; left = inl (omega arith); err = tt; sent = none_tried seen device }
+    record { keeps = keeps_same seen device; slots = refl; numbers = refl; length_is = refl; lists = tt; left = inl (omega arith); err = tt; sent = none_tried seen device }
 
 lists_after : {B : Type 0} (result : Result B ℕ) (owners between after : List (Option ℕ)) → between ≡ owners → OnErr result (after ≡ between)
     → OnErr result (after ≡ owners)
@@ -489,6 +494,7 @@ pub disowns_then : {D A B : Type 0} (seen : D → Seen) (old middle new : D) (he
 disowns_then seen old middle new held between new_held x result lists first second = record {
   keeps = keeps_then seen old middle new first.keeps second.keeps;
   slots = second.slots ∙ first.slots;
+  numbers = second.numbers ∙ first.numbers;
   length_is = second.length_is ∙ first.length_is;
   lists = lists_after result held.objects.owners between.objects.owners new_held.objects.owners lists second.lists;
   left = left_then _ _ _ _ _ _ second.keeps.count first.left second.left;
@@ -511,6 +517,7 @@ pub disowns_left : {D A : Type 0} (seen : D → Seen) (old new : D) (held : Held
 disowns_left seen old new held new_view item slot x view_is rest rose sent = record {
   keeps = keeps_over_objects seen old new rest;
   slots = ap (λ (v : ObjectsView). v.slots) view_is;
+  numbers = refl;
   length_is = ap (λ (v : ObjectsView). length v.items) view_is ∙ length-set held.objects.items item no_item;
   lists = tt;
   left = left_once _ _ _ _ (omega (arith, ap (λ (v : ObjectsView). length v.left) view_is, length-append held.objects.left (slot ∷ []))) rose;
@@ -522,7 +529,7 @@ disowns_left seen old new held new_view item slot x view_is rest rose sent = rec
 pub disowns_ok : {D A B : Type 0} (seen : D → Seen) (old new : D) (held new_held : Held) (x : A) (y : B)
     → Disowns seen old new held new_held (Ok x) → Disowns seen old new held new_held (Ok y)
 disowns_ok seen old new held new_held x y done =
-    record { keeps = done.keeps; slots = done.slots; length_is = done.length_is; lists = tt; left = done.left; err = tt; sent = done.sent }
+    record { keeps = done.keeps; slots = done.slots; numbers = done.numbers; length_is = done.length_is; lists = tt; left = done.left; err = tt; sent = done.sent }
 
 -- and where its client's list is nobody's then
 pub disowns_ended : {D A B : Type 0} (seen : D → Seen) (old new : D) (held new_held : Held) (view : ObjectsView) (list : ℕ) (x : A) (y : B)
@@ -530,7 +537,7 @@ pub disowns_ended : {D A B : Type 0} (seen : D → Seen) (old new : D) (held new
     → Disowns seen old new held (with_objects new_held view) (Ok y)
 disowns_ended {B = B} seen old new held new_held view list x y done view_is =
     subst (λ (v : ObjectsView). Disowns {A = B} seen old new held (with_objects new_held v) (Ok y)) (sym view_is)
-    (record { keeps = done.keeps; slots = done.slots; length_is = done.length_is; lists = tt; left = done.left; err = tt; sent = done.sent })
+    (record { keeps = done.keeps; slots = done.slots; numbers = done.numbers; length_is = done.length_is; lists = tt; left = done.left; err = tt; sent = done.sent })
 
 pub disowns_failed : {D A B : Type 0} (seen : D → Seen) (old new : D) (held new_held : Held) (code : ℕ) (result : Result B ℕ)
     → (other : ℕ) × (result ≡ Err other) × (other ≡ code) → Disowns {A = A} seen old new held new_held (Err code)
@@ -539,4 +546,4 @@ disowns_failed {A = A} {B = B} seen old new held new_held code result (other, is
     let failed : Disowns {A = A} seen old new held new_held (Err other) =
     subst (λ (code : ℕ). Disowns {A = A} seen old new held new_held (Err code)) (sym same) done in
     subst (λ (r : Result B ℕ). Disowns seen old new held new_held r) (sym is)
-    (record { keeps = failed.keeps; slots = failed.slots; length_is = failed.length_is; lists = failed.lists; left = failed.left; err = failed.err; sent = failed.sent })
+    (record { keeps = failed.keeps; slots = failed.slots; numbers = failed.numbers; length_is = failed.length_is; lists = failed.lists; left = failed.left; err = failed.err; sent = failed.sent })

@@ -31,6 +31,7 @@ with_sessions held view = record { objects = held.objects; sessions = view }
 -- what a flush of one session gives
 pub record Ended {D : Type 0} (seen : D → Seen)
     (old new : D) (view new_view : SessionsView) (n : ℕ) : Type 0 where
+  pub numbers : new_view.numbers ≡ view.numbers
   pub items_are : new_view.items ≡ set view.items n None
   pub sessions : sessions_of (seen new).state new_view.items ≡ without_session n (sessions_of (seen old).state view.items)
   pub stand : Stand (seen new).state new_view []
@@ -69,6 +70,7 @@ ended seen client old new held new_view n e at settled =
       failures = inl (omega (arith, e.rest.count));
       right = inr (right_of (asked_of (seen new)) (last_of (seen new)) e.answered);
       slots = refl;
+      numbers = e.numbers;
       length_is = refl;
     }
 
@@ -120,6 +122,7 @@ left seen client old new held new_view handle view_is same rest rose none names 
       failures = counted_once (seen old).faults (seen new).faults rose;
       right = inr (right_none (asked_of (seen new)) (last_of (seen new)) none);
       slots = refl;
+      numbers = ap (λ (v : SessionsView). v.numbers) view_is;
       length_is = refl;
     }
 

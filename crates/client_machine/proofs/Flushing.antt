@@ -31,20 +31,19 @@ use Rattle.client_machine.proofs.Settling.{persist_over_objects, rest_over_objec
 
 -- ---- what a client has, after another step
 
-abbrev state_of : Persist → List (Option Object) → List (Option Owned) → Sequences → ClientState
-state_of persist objects sessions least = record {
+abbrev state_of : ℕ → Persist → List (Option Object) → List (Option Owned) → Sequences → ClientState
+state_of most persist objects sessions least = record {
   persist = persist;
+  most = most;
   objects = objects;
   sessions = sessions;
   object_sequence = least.object;
   session_sequence = least.session;
 }
 
-pub state_is : (persist other : Persist) (objects others : List (Option Object)) (owned own : List (Option Owned)) (least : Sequences)
-    → persist ≡ other → objects ≡ others → owned ≡ own → state_of persist objects owned least ≡ state_of other others own least
-state_is persist other objects others owned own least p o s =
-    ap (λ (x : Persist). state_of x objects owned least) p ∙ ap (λ (x : List (Option Object)). state_of other x owned least) o
-    ∙ ap (λ (x : List (Option Owned)). state_of other others x least) s
+pub state_is : (most there : ℕ) (persist other : Persist) (objects others : List (Option Object)) (owned own : List (Option Owned)) (least : Sequences)
+    → most ≡ there → persist ≡ other → objects ≡ others → owned ≡ own → state_of most persist objects owned least ≡ state_of there other others own least
+state_is most there persist other objects others owned own least m p o s = λ i. state_of (m i) (p i) (o i) (s i) least
 
 leaves_by : (change : ClientState → ClientState) (old middle new : Option SlotState) (held between new_held : Held)
     (table new_table : List (Option ℕ)) → is_some middle ≡ is_some old → StaysAs old middle held between table
@@ -88,6 +87,7 @@ moves_after seen client old middle new held between new_held new_table p d is = 
       d.owners present (open_same present held.sessions.items between.sessions.items p.session_owners owners);
   orphans = omega (arith, p.orphans, d.orphans);
   slots = d.slots ∙ p.slots;
+  numbers = d.numbers ∙ p.numbers;
   length_is = d.length_is ∙ p.length_is;
 }
 
@@ -161,9 +161,9 @@ object_leaves seen client old new held new_view table new_table handle item same
     let now = client_state slots held table least in
     let settled_here = settled_at (seen old).state slots held settled is_old in
     let rest = rest_over_objects (seen old).state (seen new).state slots after keeps.rest is_old is_new in
-    state_is after.persist slots.persist (objects_in after new_view.items new_table)
+    state_is held.sessions.numbers.active held.sessions.numbers.active after.persist slots.persist (objects_in after new_view.items new_table)
     (without_handle (objects_in slots held.objects.items table) handle) (sessions_in after held.sessions.items)
-    (sessions_in slots held.sessions.items) least (persist_over_objects (seen old).state (seen new).state keeps.rest slots after is_old is_new)
+    (sessions_in slots held.sessions.items) least refl (persist_over_objects (seen old).state (seen new).state keeps.rest slots after is_old is_new)
     (ap (λ (l : List (Option ℕ)). objects_in after new_view.items l) without_is
     ∙ objects_left (seen old).state (seen new).state slots after held.objects.items new_view.items client table handle item same are is_old is_new
     settled_here.objects is held_here)

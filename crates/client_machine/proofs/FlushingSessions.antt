@@ -6,6 +6,7 @@ use Rattle.std.proofs.lemmas.Bool.{eq-eqb}
 use Rattle.std.proofs.lemmas.List.{map-set}
 use Rattle.tab_spec.specs.declared.TheConstants.{CC_CONTEXT_SAVE, CC_FLUSH_CONTEXT, CC_START_AUTH_SESSION, HT_TRANSIENT, RC_1, RC_HANDLE, RC_P, RC_SUCCESS, RC_VALUE, ST_NO_SESSIONS}
 use Rattle.tab_spec.specs.declared.Admitted.{Admitted}
+use Rattle.tab_spec.specs.declared.numbers.Numbers.{Numbers}
 use Rattle.tab_spec.specs.Admission.{Tables, client_admitted, is_session_handle}
 use Rattle.tab_spec.specs.Frame.{code_of, is_frame}
 use Rattle.tab_spec.specs.Object.{Object}
@@ -85,17 +86,18 @@ owner_named client handle items own = there_by client (with_handle handle (item_
 pub session_leaves : {D : Type 0} (seen : D → Seen) (old new : D)
     (held : Held) (new_view : SessionsView) (table : List (Option ℕ)) (handle : ℕ)
     → sessions_of (seen new).state new_view.items ≡ without_session (number_of_session handle) (sessions_of (seen old).state held.sessions.items)
-    → new_view.items ≡ set held.sessions.items (number_of_session handle) None → KeepsRest seen old new
+    → new_view.numbers ≡ held.sessions.numbers → new_view.items ≡ set held.sessions.items (number_of_session handle) None → KeepsRest seen old new
     → (octet_of handle == HT_TRANSIENT) ≡ false
     → LeavesState (λ client_state. without_named client_state handle) (seen old).state (seen new).state held
     (record { objects = held.objects; sessions = new_view }) table table
-session_leaves seen old new held new_view table handle same are keeps plain =
+session_leaves seen old new held new_view table handle same numbers are keeps plain =
     λ slots after least is_old is_new.
     let now = client_state slots held table least in
     let n = number_of_session handle in
     let items = held.sessions.items in
-    state_is after.persist slots.persist (objects_in after held.objects.items table) (objects_in slots held.objects.items table)
-    (sessions_in after new_view.items) (set (sessions_in slots items) n None) least
+    state_is new_view.numbers.active held.sessions.numbers.active after.persist slots.persist (objects_in after held.objects.items table)
+    (objects_in slots held.objects.items table)
+    (sessions_in after new_view.items) (set (sessions_in slots items) n None) least (ap (λ (n : Numbers). n.active) numbers)
     (persist_over_sessions (seen old).state (seen new).state keeps.rest slots after is_old is_new)
     (table_over_sessions slots after held.objects.items table
     (rest_over_sessions (seen old).state (seen new).state slots after keeps.rest is_old is_new))

@@ -6,7 +6,7 @@ use Rattle.std.specs.List.{count_by}
 use Rattle.std.specs.Option.{option_or}
 use Rattle.std.proofs.lemmas.Bool.{le-leb, lt-leb}
 use Rattle.std.proofs.lemmas.List.{get_or-replicate, take_all}
-use Rattle.tab_spec.specs.declared.TheConstants.{ACTIVE_SESSIONS, CC_CONTEXT_LOAD, CC_CONTEXT_SAVE, CC_GET_CAPABILITY, HT_HMAC_SESSION, HT_POLICY_SESSION, RC_SUCCESS, ST_NO_SESSIONS, TRANSIENT_FIRST}
+use Rattle.tab_spec.specs.declared.TheConstants.{CC_CONTEXT_LOAD, CC_CONTEXT_SAVE, CC_GET_CAPABILITY, HT_HMAC_SESSION, HT_POLICY_SESSION, RC_SUCCESS, SESSION_NUMBERS, ST_NO_SESSIONS, TRANSIENT_FIRST}
 use Rattle.tab_spec.specs.declared.Admitted.{Admitted}
 use Rattle.tab_spec.specs.Commands.{all_commands}
 use Rattle.tab_spec.specs.Persist.{Persist}
@@ -21,7 +21,7 @@ use Rattle.fx_capability.specs.declared.viewed.Viewed.TheVariants.{Answered, Dev
 use Rattle.fx_capability.specs.Views.{listed_of}
 use Rattle.fx_capability.proofs.Numbered.{first_of_items, session_found}
 use Rattle.fx_capability.proofs.Objects.{objects_counted}
-use Rattle.session_swap.specs.Items.{Item, has_owner}
+use Rattle.session_swap.specs.Items.{Item, SessionsView, has_owner}
 use Rattle.history_spec.specs.declared.TheConstants.{CLIENT_OBJECTS}
 use Rattle.world_spec.specs.World.{load_parameters, save_parameters}
 use Rattle.history_spec.specs.Table.{count_held, first_taken, handle_from, handle_of_number, number_of_object}
@@ -105,9 +105,9 @@ found_listed listed count n all inside within =
     ∙ ap (λ (taken : Bool). first_of_items (at_number listed n taken)) (get_or-replicate count n true false inside)
     ∙ first_of_only (listed n)
 
-session_had : (client n : ℕ) (items : List (Option Item)) → n < ACTIVE_SESSIONS → session_in n (sessions_had client items) ≡ listed_number client items n
+session_had : (client n : ℕ) (items : List (Option Item)) → n < SESSION_NUMBERS → session_in n (sessions_had client items) ≡ listed_number client items n
 unfolding sessions_had
-session_had client n items few = found_listed (listed_number client items) ACTIVE_SESSIONS n (are_numbered client items) few (omega arith)
+session_had client n items few = found_listed (listed_number client items) SESSION_NUMBERS n (are_numbered client items) few (omega arith)
 
 -- whether a session of a client was found
 abbrev pub IsListed : Option HeldSession → Option Listed → Type 0
@@ -125,13 +125,13 @@ other_by None (Some s) one other found is none told also = is ∙ (λ i. option_
 other_by (Some first) result one other found is none told also = absurd cc
 
 -- an HMAC session with this number, or else a policy session
-pub hmac_had : (client n : ℕ) (items : List (Option Item)) (result : Option HeldSession) → n < ACTIVE_SESSIONS → is_some result ≡ true
+pub hmac_had : (client n : ℕ) (items : List (Option Item)) (result : Option HeldSession) → n < SESSION_NUMBERS → is_some result ≡ true
     → IsListed result (listed_under client items (HT_HMAC_SESSION * 2 ^ 24 + n)) → IsListed result (session_in n (sessions_had client items))
 hmac_had client n items result few there told =
     first_had result (listed_under client items (HT_HMAC_SESSION * 2 ^ 24 + n)) (listed_under client items (HT_POLICY_SESSION * 2 ^ 24 + n))
     (session_in n (sessions_had client items)) (session_had client n items few) there told
 
-pub policy_had : (client n : ℕ) (items : List (Option Item)) (first result : Option HeldSession) → n < ACTIVE_SESSIONS → is_some first ≡ false
+pub policy_had : (client n : ℕ) (items : List (Option Item)) (first result : Option HeldSession) → n < SESSION_NUMBERS → is_some first ≡ false
     → IsListed first (listed_under client items (HT_HMAC_SESSION * 2 ^ 24 + n))
     → IsListed result (listed_under client items (HT_POLICY_SESSION * 2 ^ 24 + n)) → IsListed result (session_in n (sessions_had client items))
 policy_had client n items first result few none told also =
@@ -141,31 +141,31 @@ policy_had client n items first result few none told also =
 -- ---- what is told
 
 -- what is told over the objects and the sessions that are listed
-abbrev pub told_of : ℕ → List (Option ℕ) → List (Option Item) → ℕ → List ℕ → Persist → Result (List ℕ) ℕ
-told_of client table items active params persist =
-    capability_of client_limits all_commands persist (objects_had table) (sessions_had client items) active params
+abbrev pub told_of : ℕ → List (Option ℕ) → List (Option Item) → (active most : ℕ) → List ℕ → Persist → Result (List ℕ) ℕ
+told_of client table items active most params persist =
+    capability_of (client_limits most) all_commands persist (objects_had table) (sessions_had client items) active params
 
-own_told : (client : ℕ) (table : List (Option ℕ)) (items : List (Option Item)) (active : ℕ) (params : List ℕ) (persist : Persist)
-    → length table ≤ CLIENT_OBJECTS → active ≡ count_by has_owner items
-    → told_of client table items active params persist ≡ own_capability persist client table items params
-own_told client table items active params persist short count =
-    λ i. capability_of client_limits all_commands persist (objects_all table short i) (sessions_had client items) (count i) params
+own_told : (client : ℕ) (table : List (Option ℕ)) (view : SessionsView) (active most : ℕ) (params : List ℕ) (persist : Persist)
+    → length table ≤ CLIENT_OBJECTS → active ≡ count_by has_owner view.items → most ≡ view.numbers.active
+    → told_of client table view.items active most params persist ≡ own_capability persist client table view params
+own_told client table view active most params persist short count limit =
+    λ i. capability_of (client_limits (limit i)) all_commands persist (objects_all table short i) (sessions_had client view.items) (count i) params
 
-pub answered_had : (client : ℕ) (table : List (Option ℕ)) (items : List (Option Item)) (active : ℕ) (params begun whole reply : List ℕ)
-    → length table ≤ CLIENT_OBJECTS → active ≡ count_by has_owner items → begun ≡ response ST_NO_SESSIONS RC_SUCCESS []
-    → AppendsAlways (told_of client table items active params) begun whole
+pub answered_had : (client : ℕ) (table : List (Option ℕ)) (view : SessionsView) (active most : ℕ) (params begun whole reply : List ℕ)
+    → length table ≤ CLIENT_OBJECTS → active ≡ count_by has_owner view.items → most ≡ view.numbers.active → begun ≡ response ST_NO_SESSIONS RC_SUCCESS []
+    → AppendsAlways (told_of client table view.items active most params) begun whole
     → reply ≡ take 2 whole ++ to_be_bytes w32 (length whole) ++ drop 6 whole
-    → (persist : Persist) → reply ≡ reply_of (own_capability persist client table items params)
-answered_had client table items active params begun whole reply short count begun_is told ended = λ persist.
+    → (persist : Persist) → reply ≡ reply_of (own_capability persist client table view params)
+answered_had client table view active most params begun whole reply short count limit begun_is told ended = λ persist.
     response_ended ST_NO_SESSIONS RC_SUCCESS begun told.0 whole reply begun_is told.2 ended
-    ∙ sym (ap reply_of (sym (own_told client table items active params persist short count) ∙ told.1 persist))
+    ∙ sym (ap reply_of (sym (own_told client table view active most params persist short count limit) ∙ told.1 persist))
 
-pub refused_had : (client : ℕ) (table : List (Option ℕ)) (items : List (Option Item)) (active code : ℕ) (params reply : List ℕ)
-    → length table ≤ CLIENT_OBJECTS → active ≡ count_by has_owner items
-    → ((persist : Persist) → told_of client table items active params persist ≡ Err code) → reply ≡ error_reply code
-    → (persist : Persist) → reply ≡ reply_of (own_capability persist client table items params)
-refused_had client table items active code params reply short count told reply_is = λ persist.
-    reply_is ∙ sym (ap reply_of (sym (own_told client table items active params persist short count) ∙ told persist))
+pub refused_had : (client : ℕ) (table : List (Option ℕ)) (view : SessionsView) (active most code : ℕ) (params reply : List ℕ)
+    → length table ≤ CLIENT_OBJECTS → active ≡ count_by has_owner view.items → most ≡ view.numbers.active
+    → ((persist : Persist) → told_of client table view.items active most params persist ≡ Err code) → reply ≡ error_reply code
+    → (persist : Persist) → reply ≡ reply_of (own_capability persist client table view params)
+refused_had client table view active most code params reply short count limit told reply_is = λ persist.
+    reply_is ∙ sym (ap reply_of (sym (own_told client table view active most params persist short count limit) ∙ told persist))
 
 -- and is its own
 pub answered_own : (viewed : Viewed) (own : Bool) → ((viewed ≡ Device) ↔ (own ≡ true)) → viewed ≡ Answered → own ≡ false
@@ -176,22 +176,22 @@ pub refused_own : (viewed : Viewed) (own : Bool) (code : ℕ) → ((viewed ≡ D
 refused_own viewed true code device is = absurd (let other : viewed ≡ Device = device.1 refl in cc)
 refused_own viewed false code device is = refl
 
-own_lists : (persist : Persist) (client : ℕ) (table : List (Option ℕ)) (items : List (Option Item)) (a : Admitted) (bytes params : List ℕ)
+own_lists : (persist : Persist) (client : ℕ) (table : List (Option ℕ)) (view : SessionsView) (a : Admitted) (bytes params : List ℕ)
     → a.shape.row.code ≡ CC_GET_CAPABILITY → params ≡ drop a.auths.params bytes
-    → own_capability persist client table items params ≡ own_answer persist client table items a bytes
-own_lists persist client table items a bytes params is same =
+    → own_capability persist client table view params ≡ own_answer persist client table view a bytes
+own_lists persist client table view a bytes params is same =
     let read = drop a.auths.params bytes in
-    ap (λ (params : List ℕ). own_capability persist client table items params) same
+    ap (λ (params : List ℕ). own_capability persist client table view params) same
     ∙ sym (ap (λ (code : ℕ).
     if code == CC_CONTEXT_SAVE then nothing_told (save_parameters read)
-    else if code == CC_CONTEXT_LOAD then handle_told (given_back client items read (load_parameters read))
-    else own_capability persist client table items read) is)
+    else if code == CC_CONTEXT_LOAD then handle_told (given_back client view.items read (load_parameters read))
+    else own_capability persist client table view read) is)
 
 -- as what the broker answers by itself
-pub own_reply : (alone own : Bool) (client : ℕ) (table : List (Option ℕ)) (items : List (Option Item)) (a : Admitted) (bytes params reply : List ℕ)
-    → MatchBool alone ((own ≡ false) × ((persist : Persist) → reply ≡ reply_of (own_capability persist client table items params))) (own ≡ true)
+pub own_reply : (alone own : Bool) (client : ℕ) (table : List (Option ℕ)) (view : SessionsView) (a : Admitted) (bytes params reply : List ℕ)
+    → MatchBool alone ((own ≡ false) × ((persist : Persist) → reply ≡ reply_of (own_capability persist client table view params))) (own ≡ true)
     → alone ≡ true → a.shape.row.code ≡ CC_GET_CAPABILITY → params ≡ drop a.auths.params bytes
-    → (persist : Persist) → reply ≡ reply_of (own_answer persist client table items a bytes)
-own_reply true own client table items a bytes params reply told alone is same = λ persist.
-    told.1 persist ∙ ap reply_of (own_lists persist client table items a bytes params is same)
-own_reply false own client table items a bytes params reply told alone is same = absurd cc
+    → (persist : Persist) → reply ≡ reply_of (own_answer persist client table view a bytes)
+own_reply true own client table view a bytes params reply told alone is same = λ persist.
+    told.1 persist ∙ ap reply_of (own_lists persist client table view a bytes params is same)
+own_reply false own client table view a bytes params reply told alone is same = absurd cc

@@ -9,6 +9,7 @@ pub mod SessionsAfter
 pub mod SessionsStanding
 pub mod Seeing
 pub mod Ready
+pub mod NewSessions
 pub mod Handing
 pub mod Adopting
 pub mod Started

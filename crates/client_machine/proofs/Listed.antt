@@ -5,7 +5,7 @@ use Rattle.std.specs.List.{AllByRecursion, count_by}
 use Rattle.std.specs.Option.{option_or}
 use Rattle.std.proofs.lemmas.Bool.{eq-eqb, eqb-true, ne_eqb}
 use Rattle.std.proofs.lemmas.List.{length-map}
-use Rattle.tab_spec.specs.declared.TheConstants.{ACTIVE_SESSIONS, HT_HMAC_SESSION, HT_POLICY_SESSION, TRANSIENT_FIRST}
+use Rattle.tab_spec.specs.declared.TheConstants.{HT_HMAC_SESSION, HT_POLICY_SESSION, SESSION_NUMBERS, TRANSIENT_FIRST}
 use Rattle.tab_spec.specs.Commands.{all_commands}
 use Rattle.tab_spec.specs.Object.{Object}
 use Rattle.tab_spec.specs.Session.{Session}
@@ -162,7 +162,7 @@ sessions_listed : (slots : SlotState) (view : SessionsView) (client : ℕ) → S
 unfolding sessions_had
 sessions_listed slots view client stand =
     let places = sessions_in slots view.items in
-    let long : length places ≡ ACTIVE_SESSIONS = length-map view.items (owned_in slots) ∙ stand.count in
+    let long : length places ≡ SESSION_NUMBERS = length-map view.items (owned_in slots) ∙ stand.count in
     all_listed client (listed_number client view.items) 0 places (λ k inside.
     let from_first : k ≡ 0 + k = omega arith in
     let here : listed_owned client k (get_or places k None) ≡ listed_only (listed_number client view.items k) =
@@ -194,11 +194,11 @@ active_had slots view stand =
 
 pub capability_had : (slots : SlotState) (held : Held) (client : ℕ) (table : List (Option ℕ)) (least : Sequences) (params : List ℕ) → IsSettled slots held
     → IsTable held.objects.items client table
-    → client_capability client (client_state slots held table least) params ≡ own_capability slots.persist client table held.sessions.items params
+    → client_capability client (client_state slots held table least) params ≡ own_capability slots.persist client table held.sessions params
 capability_had slots held client table least params settled is =
     let items = held.objects.items in
     let objects : transient_from TRANSIENT_FIRST (objects_in slots items table) ≡ transient_from TRANSIENT_FIRST table =
     objects_listed (λ place. place_object slots items place) TRANSIENT_FIRST table (seen_places slots items client table settled.objects is) in
     let sessions = sessions_listed slots held.sessions client settled.sessions in
     let count = active_had slots held.sessions settled.sessions in
-    λ i. capability_of client_limits all_commands slots.persist (objects i) (sessions i) (count i) params
+    λ i. capability_of (client_limits held.sessions.numbers.active) all_commands slots.persist (objects i) (sessions i) (count i) params

@@ -1,22 +1,23 @@
 -- What a call that moves sessions alone leaves: what clients have stands as before, and whose it is.
 use mir.Val.{bool_byte}
 use Rattle.std.proofs.Common.{◌≡◌, ◌+◌, ◌≤◌, ◌<◌, ◌⊎◌, inl, inr, ℕ, Bool, true, false, ltb, List, [], ◌∷◌, length, get_or, refl, ap, sym, ◌∙◌, subst, arith}
-use Rattle.std.specs.Prelude.{Option, Some, None, ◌==◌, ◌&&◌, ◌||◌, is_some, nat_lt, not, Result, if◌then◌else◌}
+use Rattle.std.specs.Prelude.{Option, Some, None, IfSome, ◌==◌, ◌&&◌, ◌||◌, is_some, nat_lt, not, Result, if◌then◌else◌}
 use Rattle.std.specs.List.{count_by}
 use Rattle.std.proofs.lemmas.Bool.{cases_lt, ltb-false, ltb-true}
 use Rattle.std.proofs.lemmas.Result.{on_ok_weaker}
 use Rattle.std.proofs.Math.ListN as lists
 use Rattle.std.proofs.lemmas.List.{length-map}
-use Rattle.tab_spec.specs.declared.TheConstants.{ACTIVE_SESSIONS, LOADED_SESSIONS}
+use Rattle.tab_spec.specs.declared.TheConstants.{SESSION_NUMBERS}
+use Rattle.tab_spec.specs.declared.numbers.Numbers.{Numbers}
 use Rattle.tab_spec.specs.declared.Admitted.{Admitted}
 use Rattle.client_laws.specs.Ready.{named_sessions, starts_session}
-use Rattle.device_spec.specs.Slots.{SlotState, loaded_count}
+use Rattle.device_spec.specs.Slots.{SlotState, gap_of, loaded_count}
 use Rattle.device_port.specs.Device.{Seen}
 use Rattle.device_port.specs.Use.{is_among}
 use Rattle.device_port.specs.declared.own.SwapError.{SwapError}
 use Rattle.session_swap.specs.Items as sessions
-use Rattle.session_swap.specs.Items.{AreFree, AreLoaded, HasGapRoom, Holder, Item, MakesRoom, Moved, SessionsView, evictions, flag, gap_in, has_owner, holder_of, holders, is_loaded_item, is_orphan, item_at, item_of, loaded_items, missing, owner_by}
-use Rattle.session_swap.specs.declared.TheConstants.{RENEWAL_GAP}
+use Rattle.session_swap.specs.Items.{AreFree, AreLoaded, HasGapRoom, Holder, Item, MakesRoom, Moved, SessionsView, evictions, flag, gap_in, has_owner, holder_of, holders, is_loaded_item, is_orphan, item_at, item_of, loaded_items, missing, owner_by, renewal_gap}
+use Rattle.session_swap.specs.declared.TheConstants.{NEEDED_MOST}
 use Rattle.history_laws.proofs.Counts.{count_cons, one_if}
 use Rattle.client_machine.specs.declared.held.Held.{Held}
 use Rattle.client_machine.specs.Costs.{places_of}
@@ -129,6 +130,7 @@ sessions_moved seen most old new held view moved room counter settled =
       };
       orphans = omega (arith, orphans_same held.sessions.items view.items holders);
       slots = refl;
+      numbers = moved.numbers;
       length_is = refl;
     }
 
@@ -139,23 +141,44 @@ flag_most true = omega arith
 flag_most false = omega arith
 
 -- a gap with room for one more context
-pub gap_room : (state : Option SlotState) → gap_in state < RENEWAL_GAP + LOADED_SESSIONS → HasGapRoom state
+abbrev pub HasRoomForOne : Option SlotState → Type 0
+HasRoomForOne state = IfSome state (λ slots. gap_of slots < renewal_gap slots.numbers + NEEDED_MOST)
+
+pub gap_room : (state : Option SlotState) → HasRoomForOne state → HasGapRoom state
 gap_room None less = tt
-gap_room (Some slots) less = omega (arith, less, flag_most (loaded_count slots.sessions == LOADED_SESSIONS))
+gap_room (Some slots) less = omega (arith, less, flag_most (loaded_count slots.sessions == slots.numbers.loaded))
+
+-- by the numbers that are kept
+pub room_told : (state : Option SlotState) (numbers : Numbers) (view : SessionsView) → sessions.Stand state view [] → view.numbers ≡ numbers
+    → gap_in state < renewal_gap numbers + NEEDED_MOST → HasRoomForOne state
+room_told None numbers view stand same less = tt
+room_told (Some slots) numbers view stand same less =
+    subst (λ (n : Numbers). gap_of slots < renewal_gap n + NEEDED_MOST) (sym (stand.numbers ∙ same)) less
 
 -- ---- a place for one more
 
--- a place is free where clients have fewer sessions than there are numbers; else, as no session is nobody's, every number is taken
-pub room_made : (state : Option SlotState) (items new_items : List (Option Item)) (few : Bool) (places active : ℕ) → length items ≡ ACTIVE_SESSIONS
-    → places ≡ bool_byte few → few ≡ ltb active ACTIVE_SESSIONS → active ≡ count_by has_owner items → count_by is_orphan items ≡ 0 → holders new_items ≡ holders items
-    → AreFree state places → loaded_items new_items + places ≤ LOADED_SESSIONS
-    → (AreFree state 1 × (loaded_items new_items < LOADED_SESSIONS)) ⊎ AreTaken new_items
-room_made state items new_items true places active long places_is few_is active_is none same free room =
+-- a place is free where clients have fewer sessions than may be active; else, as no session is nobody's, as many are active as may be
+pub room_made : (state : Option SlotState) (view new_view : SessionsView) (few : Bool) (places active most : ℕ) → length view.items ≡ SESSION_NUMBERS
+    → places ≡ bool_byte few → few ≡ ltb active most → most ≡ view.numbers.active → active ≡ count_by has_owner view.items
+    → count_by is_orphan view.items ≡ 0 → new_view.numbers ≡ view.numbers → holders new_view.items ≡ holders view.items
+    → AreFree state places → loaded_items new_view.items + places ≤ new_view.numbers.loaded
+    → (AreFree state 1 × (loaded_items new_view.items < new_view.numbers.loaded)) ⊎ AreTaken new_view
+room_made state view new_view true places active most long places_is few_is most_is active_is none numbers same free room =
     inl (subst (λ (count : ℕ). AreFree state count) places_is free, omega (arith, places_is, room))
-room_made state items new_items false places active long places_is few_is active_is none same free room =
+room_made state view new_view false places active most long places_is few_is most_is active_is none numbers same free room =
+    let items = view.items in
     inr (record {
-      long = sym (length-map new_items holder_of) ∙ ap length same ∙ length-map items holder_of ∙ long;
-      full = omega (arith, ltb-false active ACTIVE_SESSIONS (sym few_is), active_is, none, owners_and_orphans items, active_same items new_items same);
+      long = sym (length-map new_view.items holder_of) ∙ ap length same ∙ length-map items holder_of ∙ long;
+      full = omega (
+        arith,
+        ltb-false active most (sym few_is),
+        most_is,
+        ap (λ (n : Numbers). n.active) numbers,
+        active_is,
+        none,
+        owners_and_orphans items,
+        active_same items new_view.items same,
+      );
     })
 
 -- one at the most, where a session is started, and else none
@@ -169,12 +192,12 @@ pub no_places : (starts few : Bool) (places : ℕ) → places ≡ bool_byte few 
 no_places starts few places is none some =
     omega (arith, few_places starts few places is some, ap {B = ℕ} (λ (test : Bool). if test then 1 else 0) none)
 
--- none is needed where clients have as many sessions as there are numbers
-pub no_place : (few : Bool) (places active count : ℕ) → places ≡ bool_byte few → few ≡ ltb active ACTIVE_SESSIONS → active ≡ count
-    → ACTIVE_SESSIONS ≤ count → places ≡ 0
-no_place true places active count places_is few_is active_is full =
-    absurd (omega (arith, ltb-true active ACTIVE_SESSIONS (sym few_is), active_is, full))
-no_place false places active count places_is few_is active_is full = places_is
+-- none is needed where clients have as many sessions as may be active
+pub no_place : (few : Bool) (places active most count : ℕ) → places ≡ bool_byte few → few ≡ ltb active most → active ≡ count
+    → most ≤ count → places ≡ 0
+no_place true places active most count places_is few_is active_is full =
+    absurd (omega (arith, ltb-true active most (sym few_is), active_is, full))
+no_place false places active most count places_is few_is active_is full = places_is
 
 -- ---- what it costs
 
@@ -219,27 +242,28 @@ byte_is true = refl
 byte_is false = refl
 
 -- the places that are asked for are those that are needed
-pub places_are : (starts few : Bool) (places active : ℕ) (items : List (Option Item)) → places ≡ bool_byte few → few ≡ ltb active ACTIVE_SESSIONS
-    → active ≡ count_by has_owner items → starts ≡ true
-    → places ≡ (if starts && nat_lt (count_by has_owner items) ACTIVE_SESSIONS then 1 else 0)
-places_are true few places active items is few_is active_is starts =
-    is ∙ ap bool_byte (few_is ∙ ap (λ (n : ℕ). ltb n ACTIVE_SESSIONS) active_is) ∙ byte_is (nat_lt (count_by has_owner items) ACTIVE_SESSIONS)
-places_are false few places active items is few_is active_is starts = absurd cc
+pub places_are : (starts few : Bool) (places active most : ℕ) (view : SessionsView) → places ≡ bool_byte few → few ≡ ltb active most
+    → most ≡ view.numbers.active → active ≡ count_by has_owner view.items → starts ≡ true
+    → places ≡ (if starts && nat_lt (count_by has_owner view.items) view.numbers.active then 1 else 0)
+places_are true few places active most view is few_is most_is active_is starts =
+    is ∙ ap bool_byte (few_is ∙ (λ i. ltb (active_is i) (most_is i))) ∙ byte_is (nat_lt (count_by has_owner view.items) view.numbers.active)
+places_are false few places active most view is few_is most_is active_is starts = absurd cc
 
-pub no_place_needed : (starts few : Bool) (places : ℕ) (items : List (Option Item)) → places ≡ bool_byte few → few ≡ starts → starts ≡ false
-    → places ≡ (if starts && nat_lt (count_by has_owner items) ACTIVE_SESSIONS then 1 else 0)
-no_place_needed true few places items is few_is none = absurd cc
-no_place_needed false few places items is few_is none = is ∙ ap bool_byte few_is
+pub no_place_needed : (starts few : Bool) (places : ℕ) (view : SessionsView) → places ≡ bool_byte few → few ≡ starts → starts ≡ false
+    → places ≡ (if starts && nat_lt (count_by has_owner view.items) view.numbers.active then 1 else 0)
+no_place_needed true few places view is few_is none = absurd cc
+no_place_needed false few places view is few_is none = is ∙ ap bool_byte few_is
 
 -- two commands for each session that is needed, and one for a place; a session leaves for room alone
 loads_needed : {D : Type 0} (seen : D → Seen) (old new : D) (held : Held) (view : SessionsView) (a : Admitted)
-    (result : Result (Unit {0}) SwapError)
-    → MakesRoom seen old new (named_sessions a) (places_needed held.sessions.items a) held.sessions view result
-    → length (named_sessions a) + places_needed held.sessions.items a ≤ LOADED_SESSIONS
+    (result : Result (Unit {0}) SwapError) → view.numbers ≡ held.sessions.numbers
+    → MakesRoom seen old new (named_sessions a) (places_needed held.sessions a) held.sessions view result
+    → length (named_sessions a) + places_needed held.sessions a ≤ NEEDED_MOST
     → MovesSessions seen old new held (record { objects = held.objects; sessions = view }) a result
-loads_needed seen old new held view a result room fits =
+loads_needed seen old new held view a result numbers room fits =
     let items = held.sessions.items in
-    let few : places_needed items a ≤ places_of a = place_by (starts_session a) (nat_lt (count_by has_owner items) ACTIVE_SESSIONS) in
+    let few : places_needed held.sessions a ≤ places_of a =
+    place_by (starts_session a) (nat_lt (count_by has_owner items) held.sessions.numbers.active) in
     record {
       sent = room.sent;
       most = omega (arith, room.few, missing_few (named_sessions a) items, fits);
@@ -247,8 +271,8 @@ loads_needed seen old new held view a result room fits =
           (λ full. record {
             objects = λ index resident. inl resident;
             sessions = λ number loaded.
-                elim (cases_lt 0 (evictions (named_sessions a) (places_needed items a) items)) [
-                  | inl some ↦ inr (inr (inr (omega (arith, some, full, few))))
+                elim (cases_lt 0 (evictions (named_sessions a) (places_needed held.sessions a) held.sessions)) [
+                  | inl some ↦ inr (inr (inr (omega (arith, some, full, few, ap (λ (n : Numbers). n.loaded) numbers))))
                   | inr none ↦ inl (ap is_loaded_item (room.rest (omega (arith, none)) number loaded) ∙ loaded)
                 ];
           }) room.full;
@@ -256,11 +280,11 @@ loads_needed seen old new held view a result room fits =
     }
 
 pub loads_few : {D : Type 0} (seen : D → Seen) (old new : D) (held : Held) (view : SessionsView) (a : Admitted) (needed : List ℕ) (places : ℕ)
-    (result : Result (Unit {0}) SwapError) → MakesRoom seen old new needed places held.sessions view result
-    → length needed + places ≤ LOADED_SESSIONS → needed ≡ named_sessions a → places ≡ places_needed held.sessions.items a
+    (result : Result (Unit {0}) SwapError) → view.numbers ≡ held.sessions.numbers → MakesRoom seen old new needed places held.sessions view result
+    → length needed + places ≤ NEEDED_MOST → needed ≡ named_sessions a → places ≡ places_needed held.sessions a
     → MovesSessions seen old new held (record { objects = held.objects; sessions = view }) a result
-loads_few seen old new held view a needed places result room fits named_is places_is =
-    loads_needed seen old new held view a result
+loads_few seen old new held view a needed places result numbers room fits named_is places_is =
+    loads_needed seen old new held view a result numbers
     (subst (λ (n : ℕ). MakesRoom seen old new (named_sessions a) n held.sessions view result) places_is
     (subst (λ (l : List ℕ). MakesRoom seen old new l places held.sessions view result) named_is room))
     (omega (arith, fits, ap (λ (l : List ℕ). length l) named_is, places_is))

@@ -112,12 +112,14 @@ left_still slots held client table a bytes reply started sound untold unended un
   started = started;
   sound = sound;
   seed = refl;
+  numbers = refl;
   object_counter = refl;
   counter = refl;
   slots_are = refl;
   sessions_are = refl;
   answer_is = refl;
   tells = untold;
+  few = tt;
   ended_is = sym unended;
   own = record {
     named = [];
@@ -226,6 +228,7 @@ left_loaded slots held client table a bytes o may is sound steps =
       started = may.settled.objects.started;
       sound = sound;
       seed = refl;
+      numbers = refl;
       object_counter = refl;
       counter = refl;
       slots_are = refl;
@@ -236,6 +239,7 @@ left_loaded slots held client table a bytes o may is sound steps =
         omega arith,
         loads_one _ (a.shape.row.code == CC_CONTEXT_LOAD) _ is (sent_load a bytes may.sort is),
       );
+      few = tt;
       ended_is = sym (one.ends loaded_reply);
       own = record {
         named = [];

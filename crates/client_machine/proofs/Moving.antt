@@ -36,7 +36,7 @@ sent_then seen n old mid new sent once = omega (arith, sent, once)
 -- ---- what is moved
 
 abbrev pub session_moves : Admitted → SessionsView → ℕ
-session_moves a view = sessions.moves_of (named_sessions a) (places_needed view.items a) view.items
+session_moves a view = sessions.moves_of (named_sessions a) (places_needed view a) view
 
 -- as many sessions as from what was held
 pub sessions_moved_from : {D : Type 0} (seen : D → Seen) (old between new : D) (held cleared : Held) (a : Admitted)
@@ -72,7 +72,7 @@ moved_from seen old mid new held table a bytes first second =
 
 abbrev sessions_used : Admitted → SessionsView → List ℕ
 sessions_used a view = all_used
-    (without_first (sessions.evictions (named_sessions a) (places_needed view.items a) view.items) (sessions.numbers_of (named_sessions a)) view.order)
+    (without_first (sessions.evictions (named_sessions a) (places_needed view a) view) (sessions.numbers_of (named_sessions a)) view.order)
     (sessions.numbers_of (named_sessions a))
 
 abbrev objects_used : List ℕ → ℕ → ObjectsView → List ℕ

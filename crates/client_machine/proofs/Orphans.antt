@@ -98,6 +98,7 @@ prepares_still seen old new held keeps same settled = record {
   gone = loses_gone held held (loses_none held);
   orphans = omega arith;
   slots = refl;
+  numbers = refl;
   length_is = refl;
 }
 
@@ -126,6 +127,7 @@ prepares_then {n = n} {m = m} {most = most} seen old middle new held between new
   gone = gone_then held between new_held first.gone second.gone;
   orphans = omega (arith, first.orphans, second.orphans);
   slots = second.slots ∙ first.slots;
+  numbers = second.numbers ∙ first.numbers;
   length_is = second.length_is ∙ first.length_is;
 }
 
@@ -273,12 +275,13 @@ not_here items n m is other = λ same.
 pub clears_session : {D : Type 0} (seen : D → Seen) (old new : D)
     (held : Held) (new_view : SessionsView) (handle : ℕ)
     → sessions.is_orphan (sessions.item_at held.sessions.items (number_of_session handle)) ≡ true
-    → new_view.items ≡ set held.sessions.items (number_of_session handle) None → new_view.next ≡ held.sessions.next
+    → new_view.numbers ≡ held.sessions.numbers → new_view.items ≡ set held.sessions.items (number_of_session handle) None
+    → new_view.next ≡ held.sessions.next
     → sessions_of (seen new).state new_view.items ≡ without_session (number_of_session handle) (sessions_of (seen old).state held.sessions.items)
     → sessions.Stand (seen new).state new_view [] → sessions.counter_of (seen new).state ≡ sessions.counter_of (seen old).state
     → HasGapRoom (seen new).state → sessions.KeepsRest seen old new → Settled (seen old).state held
     → Clears seen old new held (record { objects = held.objects; sessions = new_view })
-clears_session seen old new held new_view handle orphan items_are next_is same stand counter room keeps settled =
+clears_session seen old new held new_view handle orphan numbers items_are next_is same stand counter room keeps settled =
     let n = number_of_session handle in
     let items = held.sessions.items in
     let loses = loses_session held new_view n items_are in
@@ -309,6 +312,7 @@ clears_session seen old new held new_view handle orphan items_are next_is same s
         gone = loses_gone held (record { objects = held.objects; sessions = new_view }) loses;
         orphans = omega (arith, fewer);
         slots = refl;
+        numbers = numbers;
         length_is = refl;
       };
       objects = refl;
@@ -352,6 +356,7 @@ clears_orphan seen old new held new_view lost keeps settled =
         gone = loses_gone held (record { objects = new_view; sessions = held.sessions }) loses;
         orphans = omega (arith, fewer);
         slots = ap (λ (v : ObjectsView). v.slots) lost.same;
+        numbers = refl;
         length_is = ap (λ (l : List Item). length l) items_are;
       };
       objects = lost.same;

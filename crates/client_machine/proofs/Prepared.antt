@@ -1,6 +1,8 @@
 -- What two steps leave, one after the other, before a client's command.
-use Rattle.std.proofs.Common.{◌≡◌, ◌+◌, ◌≤◌, ℕ, ◌∙◌, arith}
+use Rattle.std.proofs.Common.{◌≡◌, ◌+◌, ◌≤◌, ℕ, ap, sym, ◌∙◌, subst, arith}
 use Rattle.std.specs.Prelude.{Option}
+use Rattle.tab_spec.specs.declared.numbers.Numbers.{Numbers}
+use Rattle.tab_spec.specs.Numbers.{AreInRange}
 use Rattle.device_spec.specs.Slots.{SlotState}
 use Rattle.device_port.specs.Device.{Seen}
 use Rattle.object_swap.specs.Items as objects
@@ -29,7 +31,8 @@ counts_then n m most old mid new few first second = record {
 pub may_then : {D : Type 0} (seen : D → Seen) (n left most : ℕ) (old new : D) (held new_held : Held)
     → n + left ≤ most → MayMove most seen old held → Prepares n seen old new held new_held → MayMove left seen new new_held
 may_then seen n left most old new held new_held few may prepares = record {
-  slots = prepares.slots ∙ may.slots;
+  slots = prepares.slots ∙ may.slots ∙ sym (ap (λ (n : Numbers). n.slots) prepares.numbers);
+  range = subst AreInRange (sym prepares.numbers) may.range;
   settled = prepares.settled;
   object_counter = omega (arith, few, may.object_counter, prepares.counts.objects_on);
   counter = omega (arith, few, may.counter, prepares.counts.sessions_on);

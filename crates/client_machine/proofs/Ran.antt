@@ -3,8 +3,9 @@ use Rattle.std.proofs.Common.{◌≡◌, ◌⊎◌, ◌+◌, ◌-◌, ◌<◌, �
 use Rattle.std.proofs.lemmas.Bool.{and_parts, true≢false}
 use Rattle.std.specs.Prelude.{◌==◌, ◌&&◌, not, Option, Some, None, is_some, IfSome, Result, Ok, Err, if◌then◌else◌}
 use Rattle.std.specs.List.{AllByRecursion, count_by, filter}
-use Rattle.tab_spec.specs.declared.TheConstants.{ACTIVE_SESSIONS, CONTEXT_LIMIT, HEADER_BYTES, HT_TRANSIENT, LOADED_SESSIONS, RC_OBJECT_MEMORY, RC_SUCCESS, ST_SESSIONS, TRANSIENT_FIRST}
+use Rattle.tab_spec.specs.declared.TheConstants.{CONTEXT_LIMIT, HEADER_BYTES, HT_TRANSIENT, RC_OBJECT_MEMORY, RC_SUCCESS, ST_SESSIONS, TRANSIENT_FIRST}
 use Rattle.tab_spec.specs.declared.Admitted.{Admitted}
+use Rattle.tab_spec.specs.declared.numbers.Numbers.{Numbers}
 use Rattle.tab_spec.specs.Admission.{client_admitted, is_session_handle, object_too_many}
 use Rattle.tab_spec.specs.Frame.{code_of, is_frame}
 use Rattle.tab_spec.specs.Reply.{with_response_handle}
@@ -25,8 +26,7 @@ use Rattle.client_laws.proofs.Steps.{looked_up}
 use Rattle.object_swap.specs.Items as objects
 use Rattle.object_swap.specs.Items.{Item, Names, ObjectsView, handle_in, item_at, item_object, new_item}
 use Rattle.session_swap.specs.Items as sessions
-use Rattle.session_swap.specs.Items.{Rise, SessionsView, gap_kept, is_loaded_item, is_user, item_of, loaded_items, numbers_along, saved_by_client}
-use Rattle.session_swap.specs.declared.TheConstants.{RENEWAL_GAP}
+use Rattle.session_swap.specs.Items.{Rise, SessionsView, gap_kept, has_owner, is_loaded_item, is_user, item_of, loaded_items, numbers_along, renewal_gap, saved_by_client}
 use Rattle.history_spec.specs.Table.{held_under, is_full, next_handle, put_least}
 use Rattle.world_spec.specs.World.{ClientState, client_step}
 use Rattle.session_swap.proofs.Counts.{is_false}
@@ -46,11 +46,12 @@ use Rattle.client_machine.proofs.Orphans.{zero_set}
 use Rattle.client_machine.proofs.Ready.{MayRun, sent_over}
 use Rattle.client_machine.proofs.Doing.{all_taken, runs_else, runs_then}
 use Rattle.client_machine.proofs.Running.{Runs, held_after}
+use Rattle.client_machine.proofs.Loading.{owners_and_orphans}
 use Rattle.client_machine.proofs.Prepared.{counts_then}
 use Rattle.client_machine.proofs.PreparedSessions.{owner_kept}
 use Rattle.client_machine.proofs.Sending.{taken_more, taken_right}
 use Rattle.client_machine.proofs.Started.{none_told}
-use Rattle.client_machine.proofs.Staying.{KeepsLoaded, KeepsResidents, count_short, loaded_after, residents_same, residents_with, stays_over}
+use Rattle.client_machine.proofs.Staying.{KeepsLoaded, KeepsResidents, loaded_after, residents_same, residents_with, stays_over}
 
 some_of : {A : Type 0} (x : Option A) → is_some x ≡ true → (y : A) × (x ≡ Some y)
 some_of None there = absurd cc
@@ -206,6 +207,7 @@ prepares_moves {held = held} {new_held = new_held} client table few prepares is 
   owners = λ present open_here all. open_same present held.sessions.items new_held.sessions.items prepares.session_owners all;
   orphans = prepares.orphans;
   slots = prepares.slots;
+  numbers = prepares.numbers;
   length_is = prepares.length_is;
 }
 
@@ -222,6 +224,7 @@ prepares_stays {seen = seen} {old = old} {new = new} {held = held} {new_held = n
     is.named) in
     λ i. record {
       persist = prepares.persist slots after was now i;
+      most = ap (λ (n : Numbers). n.active) prepares.numbers i;
       objects = objects_are i;
       sessions = prepares.sessions slots after was now i;
       object_sequence = least.object;
@@ -232,7 +235,7 @@ prepares_stays {seen = seen} {old = old} {new = new} {held = held} {new_held = n
 pub serves_failed : {D B : Type 0} {contexts : ℕ} {seen : D → Seen} {old new : D} {held new_held : Held} {e : SwapError}
     (client : ℕ) (table : List (Option ℕ)) (result : Result B SwapError) → (f : SwapError) × (result ≡ Err f) × (f ≡ e) → contexts ≤ 100
     → Prepares contexts seen old new held new_held → IsTable held.objects.items client table → HasCause seen e old new
-    → SendsUpTo seen (new_bound (orphan_count held) (gap_kept held.sessions)) old new → FailsAtLast seen old new
+    → SendsUpTo seen (new_bound (orphan_count held) (gap_kept held.sessions) held.sessions.numbers) old new → FailsAtLast seen old new
     → Serves seen client old new held new_held table table result
 serves_failed {B = B} {seen = seen} {old = old} {new = new} {held = held} {new_held = new_held} client table result (f, result_is, same) few prepares is cause costs fails =
     subst (λ (r : Result B SwapError). Serves seen client old new held new_held table table r) (sym result_is)
@@ -322,10 +325,10 @@ adopted_device named adopts is =
 
 -- ---- in every state
 
-place_or_full : (Free : Type 0) (items : List (Option sessions.Item)) → (Free × (loaded_items items < LOADED_SESSIONS)) ⊎ AreTaken items
-    → Free ⊎ (ACTIVE_SESSIONS ≤ count_by is_some items)
-place_or_full Free items (inl free) = inl free.0
-place_or_full Free items (inr taken) = inr taken.full
+place_or_full : (Free : Type 0) (view : SessionsView) → (Free × (loaded_items view.items < view.numbers.loaded)) ⊎ AreTaken view
+    → Free ⊎ (view.numbers.active ≤ count_by is_some view.items)
+place_or_full Free view (inl free) = inl free.0
+place_or_full Free view (inr taken) = inr taken.full
 
 may_run : (state : Option SlotState) (held : Held) (client : ℕ) (table : List (Option ℕ)) (a : Admitted) (bytes : List ℕ) {command : List ℕ} → Settled state held
     → IsTable held.objects.items client table → client_admitted (tables_seen client table held.sessions.items) bytes ≡ Ok a
@@ -343,7 +346,7 @@ may_run (Some slots) held client table a bytes settled is e sort all ready of_ob
   loaded_all = ready.sessions.loaded;
   nobodys = omega (arith, ready.nobodys);
   room = λ makes. (ready.free makes).0;
-  place = λ starts. place_or_full (sessions.AreFree (Some slots) 1) held.sessions.items (ready.sessions.room starts);
+  place = λ starts. place_or_full (sessions.AreFree (Some slots) 1) held.sessions (ready.sessions.room starts);
   gap = ready.gap;
   object_numbers = of_objects;
   session_numbers = of_sessions;
@@ -426,7 +429,7 @@ settled_in : (state : Option SlotState) (held : Held) (used loaded listed : List
 settled_in None held used loaded listed rise settled = tt
 settled_in (Some slots) held used loaded listed rise settled = record {
   objects = settled.objects;
-  sessions = stands_alike slots held.sessions (record held.sessions { order = loaded; saved = listed }) [] refl refl
+  sessions = stands_alike slots held.sessions (record held.sessions { order = loaded; saved = listed }) [] refl refl refl
       (rise held.sessions.items settled.sessions.rise) settled.sessions;
   gap = settled.gap;
 }
@@ -473,11 +476,11 @@ done_then {new_items = new_items} {new_table = new_table} (Some slots) new held 
 
 state_taken : (state : Option SlotState) (held : Held) (client : ℕ) (table : List (Option ℕ)) (a : Admitted) (bytes command : List ℕ)
     → IfSome state (λ slots. MayRun slots held client table a bytes) → saves_one a ≡ false → command ≡ sent_over bytes a table held.objects.items
-    → IfSome state (λ slots. takes (loads_kept held.objects.items command) (number_taken held.sessions.items (slot_step slots command).1) command (slot_step slots command).1 ≡ true)
+    → IfSome state (λ slots. takes (loads_kept held.objects.items command) (number_taken held.sessions (slot_step slots command).1) command (slot_step slots command).1 ≡ true)
 state_taken None held client table a bytes command may alone is = tt
 state_taken (Some slots) held client table a bytes command may alone is =
     subst (λ (command : List ℕ).
-    takes (loads_kept held.objects.items command) (number_taken held.sessions.items (slot_step slots command).1) command (slot_step slots command).1 ≡ true) (sym is)
+    takes (loads_kept held.objects.items command) (number_taken held.sessions (slot_step slots command).1) command (slot_step slots command).1 ≡ true) (sym is)
     (all_taken slots held client table a bytes may alone)
 
 -- ---- a command that is ready to be sent
@@ -492,16 +495,16 @@ pub record Prepared {D : Type 0} (seen : D → Seen) (old between : D)
   pub admitted : client_admitted (tables_seen client table mid.sessions.items) bytes ≡ Ok a
   pub sort : is_sent a bytes ≡ true
   pub may : IfSome (seen between).state (λ slots. MayRun slots mid client table a bytes)
-  pub costs : SendsUpTo seen (11 + orphan_count held + renewal_bound (gap_kept held.sessions)) old between
-  pub stays : gap_kept held.sessions < RENEWAL_GAP → StaysIn 1 (places_of a) None held mid
+  pub costs : SendsUpTo seen (11 + orphan_count held + renewal_bound (gap_kept held.sessions) held.sessions.numbers) old between
+  pub stays : gap_kept held.sessions < renewal_gap held.sessions.numbers → StaysIn 1 (places_of a) None held mid
   pub used : IsCalm held → UsesNamed held mid table a bytes
 
 pub prepared : {D : Type 0} {seen : D → Seen} {old between : D} {held mid : Held}
     (client : ℕ) (table : List (Option ℕ)) (a : Admitted) (bytes : List ℕ) {translated command : List ℕ} → Prepares 100 seen old between held mid
     → IsTable held.objects.items client table → client_admitted (tables_seen client table held.sessions.items) bytes ≡ Ok a → is_sent a bytes ≡ true
     → MayMove call_contexts seen old held → ((i : ℕ) → Fits w8 (get_or bytes i 0)) → IsPrepared (seen between).state mid table a bytes translated
-    → SendsUpTo seen (11 + orphan_count held + renewal_bound (gap_kept held.sessions)) old between
-    → (gap_kept held.sessions < RENEWAL_GAP → StaysIn 1 (places_of a) None held mid) → (IsCalm held → UsesNamed held mid table a bytes)
+    → SendsUpTo seen (11 + orphan_count held + renewal_bound (gap_kept held.sessions) held.sessions.numbers) old between
+    → (gap_kept held.sessions < renewal_gap held.sessions.numbers → StaysIn 1 (places_of a) None held mid) → (IsCalm held → UsesNamed held mid table a bytes)
     → command ≡ translated → Prepared seen old between held mid client table a bytes command
 prepared {seen = seen} {between = between} {held = held} {mid = mid} client table a bytes prepares is e sort may all ready costs stays used same =
     let here = prepares_table client table prepares is in
@@ -531,52 +534,46 @@ pub prepared_taken : {D : Type 0} {seen : D → Seen} {old between : D} {held mi
     {client : ℕ} {table : List (Option ℕ)} {a : Admitted} {bytes command : List ℕ}
     → Prepared seen old between held mid client table a bytes command → saves_one a ≡ false
     → IfSome (seen between).state (λ slots.
-    takes (loads_kept mid.objects.items command) (number_taken mid.sessions.items (slot_step slots command).1) command (slot_step slots command).1 ≡ true)
+    takes (loads_kept mid.objects.items command) (number_taken mid.sessions (slot_step slots command).1) command (slot_step slots command).1 ≡ true)
 prepared_taken {seen = seen} {between = between} {mid = mid} {client = client} {table = table} {a = a} {bytes = bytes} {command = command} p alone =
     state_taken (seen between).state mid client table a bytes command p.may alone p.ready.written
 
 pub sent_right : {D : Type 0} {seen : D → Seen} {between new : D} {mid : Held} {command reply : List ℕ} → IsTaken seen between new mid command reply
     → IsRight (asked_of (seen new)) (last_of (seen new))
 sent_right {seen = seen} {new = new} {mid = mid} {command = command} {reply = reply} sent =
-    taken_right (loads_kept mid.objects.items command) (number_taken mid.sessions.items reply) command (asked_of (seen new)) reply (last_of (seen new)) sent.taken
+    taken_right (loads_kept mid.objects.items command) (number_taken mid.sessions reply) command (asked_of (seen new)) reply (last_of (seen new)) sent.taken
     sent.sent.asked_is sent.last_is
 
 -- a broker that keeps no contexts takes it too
 taken_unkept : {D : Type 0} {seen : D → Seen} {between new : D} {mid : Held} {command reply : List ℕ}
-    → IsTaken seen between new mid command reply → takes false (number_taken mid.sessions.items reply) command reply ≡ true
+    → IsTaken seen between new mid command reply → takes false (number_taken mid.sessions reply) command reply ≡ true
 taken_unkept {mid = mid} {command = command} {reply = reply} sent =
-    let is_taken = number_taken mid.sessions.items reply in
+    let is_taken = number_taken mid.sessions reply in
     taken_more (loads_kept mid.objects.items command) false is_taken is_taken command reply (λ so. absurd (true≢false (sym so))) (λ so. so) sent.taken
 
 -- ---- the session that it started, or that ended
 
--- there is a place for it: where all numbers are taken, none is told
-place_for : (Free : Type 0) (items : List (Option sessions.Item)) (n : ℕ) → n < ACTIVE_SESSIONS → sessions.item_at items n ≡ None
-    → (Free × (loaded_items items < LOADED_SESSIONS)) ⊎ AreTaken items → loaded_items items < LOADED_SESSIONS
-place_for Free items n inside none (inl free) = free.1
-place_for Free items n inside none (inr taken) =
-    absurd (omega (
-      arith,
-      taken.full,
-      taken.long,
-      count_short is_some items n None (omega (arith, taken.long, inside)) (ap (λ (item : Option sessions.Item). is_some item) none),
-    ))
+-- there is a place for it: where as many are active as may be, none is told
+place_for : (Free : Type 0) (view : SessionsView) → count_by has_owner view.items < view.numbers.active → count_by sessions.is_orphan view.items ≡ 0
+    → (Free × (loaded_items view.items < view.numbers.loaded)) ⊎ AreTaken view → loaded_items view.items < view.numbers.loaded
+place_for Free view few none (inl free) = free.1
+place_for Free view few none (inr taken) = absurd (omega (arith, taken.full, few, none, owners_and_orphans view.items))
 
 pub may_start : {D : Type 0} {seen : D → Seen} {old between new : D} {held mid : Held}
     {client : ℕ} {table : List (Option ℕ)} {a : Admitted} {bytes command reply : List ℕ}
     → Prepared seen old between held mid client table a bytes command → IsTaken seen between new mid command reply
-    → tells_session a reply ≡ true → MayStart reply mid.sessions.items
+    → tells_session a reply ≡ true → MayStart reply mid.sessions
 may_start {mid = mid} {client = client} {table = table} {a = a} {bytes = bytes} {reply = reply} p sent tells =
-    let is_taken = number_taken mid.sessions.items reply in
+    let is_taken = number_taken mid.sessions reply in
     let told = command_session is_taken (tables_seen client table mid.sessions.items) bytes a (device_handle table mid.objects.items (first_handle a)) reply p.admitted
     (ap (λ (command : List ℕ). takes false is_taken command reply) (sym p.ready.written) ∙ taken_unkept sent) tells in
-    let none = none_told mid.sessions.items reply told.1 told.0 in
+    let free = none_told mid.sessions reply told.1 told.0 in
     record {
       long = told.1;
       handle = told.2;
       number = told.3;
-      vacant = none;
-      place = place_for _ mid.sessions.items (number_of_session (told_handle reply)) told.3 none
+      vacant = free.none;
+      place = place_for _ mid.sessions free.few (omega (arith, p.ready.nobodys))
           (p.ready.sessions.room (and_parts (starts_session a) (code_of reply == RC_SUCCESS) tells).0);
     }
 
@@ -649,10 +646,10 @@ pub stays_after : {D : Type 0} {seen : D → Seen} {old between : D} {held mid :
     {client : ℕ} {table : List (Option ℕ)} {a : Admitted} {bytes command : List ℕ} (new_held : Held) (reply : List ℕ)
     → Prepared seen old between held mid client table a bytes command → saves_session a reply ≡ false
     → KeepsResidents mid.objects.items new_held.objects.items → new_held.objects.slots ≡ mid.objects.slots
-    → new_held.sessions.items ≡ sessions_held_after client a reply mid.sessions.items
-    → gap_kept held.sessions < RENEWAL_GAP → StaysIn 1 1 (saved_number a) held new_held
-stays_after {held = held} {mid = mid} {client = client} {a = a} new_held reply p none residents slots_are items_are narrow =
-    stays_over held mid new_held (places_of a) (saved_number a) (p.stays narrow) residents slots_are
+    → new_held.sessions.numbers ≡ mid.sessions.numbers → new_held.sessions.items ≡ sessions_held_after client a reply mid.sessions.items
+    → gap_kept held.sessions < renewal_gap held.sessions.numbers → StaysIn 1 1 (saved_number a) held new_held
+stays_after {held = held} {mid = mid} {client = client} {a = a} new_held reply p none residents slots_are numbers items_are narrow =
+    stays_over held mid new_held (places_of a) (saved_number a) (p.stays narrow) residents slots_are numbers
     (subst (KeepsLoaded (places_of a) (saved_number a) mid.sessions.items) (sym items_are)
     (loaded_after (places_of a) (saved_number a) client a reply mid.sessions.items none (places_few a) (ends_apart reply p)))
 
@@ -666,12 +663,12 @@ pub record Outcome {D : Type 0} (seen : D → Seen) (old new : D) (client : ℕ)
 pub ran_moves : {D : Type 0} {seen : D → Seen} {old between : D} {held mid : Held}
     {client : ℕ} {table : List (Option ℕ)} {a : Admitted} {bytes command : List ℕ} (new : D) (new_items : List Item) (new_view : SessionsView) (new_table : List (Option ℕ))
     (used : List ℕ) (answer reply : List ℕ) → Prepared seen old between held mid client table a bytes command → (seen new).base ≡ (seen between).base → (seen between).faults ≤ (seen new).faults
-    → new_view.items ≡ sessions_held_after client a answer mid.sessions.items
+    → new_view.items ≡ sessions_held_after client a answer mid.sessions.items → new_view.numbers ≡ mid.sessions.numbers
     → let new_held : Held = record { objects = record mid.objects { items = new_items; order = used }; sessions = new_view } in
     Done (seen between).state (seen new).state mid new_held client table new_table a bytes reply
     → KeepsOwners (other_than client) mid.objects.items new_items → GainsNone (other_than client) mid.objects.items new_items
     → IsTable new_items client new_table → length new_items ≡ length mid.objects.items → Moves seen client old new held new_held new_table
-ran_moves {seen = seen} {old = old} {between = between} {held = held} {mid = mid} {client = client} {table = table} {a = a} {bytes = bytes} new new_items new_view new_table used answer reply p base_is count view_is done others gained is long =
+ran_moves {seen = seen} {old = old} {between = between} {held = held} {mid = mid} {client = client} {table = table} {a = a} {bytes = bytes} new new_items new_view new_table used answer reply p base_is count view_is numbers done others gained is long =
     let prepares = p.prepares in
     let none_left : count_by sessions.is_orphan new_view.items ≡ 0 =
     ap (count_by sessions.is_orphan) view_is ∙ none_after client a answer mid.sessions.items (omega (arith, p.ready.nobodys)) in
@@ -700,6 +697,7 @@ ran_moves {seen = seen} {old = old} {between = between} {held = held} {mid = mid
           (open_same present held.sessions.items mid.sessions.items prepares.session_owners all));
       orphans = omega (arith, none_left, p.ready.nobodys);
       slots = prepares.slots;
+      numbers = numbers ∙ prepares.numbers;
       length_is = long ∙ prepares.length_is;
     }
 
@@ -733,7 +731,7 @@ pub may_adopt : {D : Type 0} {seen : D → Seen} {old between new : D} {held mid
     → HasRoomFor a bytes spare held.objects.items → tells_object a reply ≡ true → MayAdopt mid.objects table spare reply
 may_adopt {mid = mid} {client = client} {table = table} {a = a} {bytes = bytes} {reply = reply} spare p sent room tells =
     let tables = tables_seen client table mid.sessions.items in
-    let is_taken = number_taken mid.sessions.items reply in
+    let is_taken = number_taken mid.sessions reply in
     let makes : makes_object_by (Ok a.shape) bytes ≡ true = command_makes tables bytes a reply p.admitted p.sort tells in
     let told = command_object is_taken tables bytes a (device_handle table mid.objects.items (first_handle a)) reply p.admitted p.sort
     (ap (λ (command : List ℕ). takes false is_taken command reply) (sym p.ready.written) ∙ taken_unkept sent) tells in
@@ -755,6 +753,18 @@ pub order_plain : (told : Bool) (item : ℕ) (order : List ℕ) → told ≡ fal
 order_plain true item order is = absurd cc
 order_plain false item order is = refl
 
+-- the response is taken by the numbers of the device, which stay
+taken_held : {D : Type 0} {seen : D → Seen} {old between new : D} {held mid : Held}
+    {client : ℕ} {table : List (Option ℕ)} {a : Admitted} {bytes command reply : List ℕ}
+    → Prepared seen old between held mid client table a bytes command → IsTaken seen between new mid command reply
+    → takes (loads_kept mid.objects.items command) (number_taken (record held.sessions { items = mid.sessions.items }) reply) command reply ≡ true
+taken_held {held = held} {mid = mid} {command = command} {reply = reply} p sent =
+    ap
+    (λ (n : Numbers).
+    takes (loads_kept mid.objects.items command) (number_taken (record held.sessions { numbers = n; items = mid.sessions.items }) reply) command reply)
+    (sym p.prepares.numbers)
+    ∙ sent.taken
+
 -- what became of the command, where it made an object
 pub ran_then : {D : Type 0} {old between new : D} {held mid : Held}
     {client : ℕ} {new_items : List Item} {table new_table : List (Option ℕ)} {a : Admitted} {bytes command reply new_reply : List ℕ}
@@ -765,7 +775,7 @@ pub ran_then : {D : Type 0} {old between new : D} {held mid : Held}
     → new_reply ≡ with_response_handle reply (next_handle table) → (IsAtHand held table a bytes → between ≡ old)
     → Ran seen client old new held (in_orders (held_after mid new_items client a reply) used (order_after a reply mid.sessions.order)
     (saved_list_after a reply mid.sessions.saved)) table new_table a bytes new_reply
-ran_then {between = between} {new = new} {mid = mid} {client = client} {new_items = new_items} {table = table} {a = a} {bytes = bytes} {command = command} {reply = reply} seen used p sent own tells adopts used_is reply_is still =
+ran_then {between = between} {new = new} {held = held} {mid = mid} {client = client} {new_items = new_items} {table = table} {a = a} {bytes = bytes} {command = command} {reply = reply} seen used p sent own tells adopts used_is reply_is still =
     let command_is = p.ready.written ∙ ap (λ (handle : ℕ). sent_for bytes a handle) (adopted_device (first_handle a) adopts p.here) in
     record {
       sort = p.sort;
@@ -784,10 +794,10 @@ ran_then {between = between} {new = new} {mid = mid} {client = client} {new_item
       table_is = adopts.table_is ∙ table_told table adopts.item a reply tells;
       object_is = λ told. adopted_new adopts;
       taken = subst
-          (λ (command : List ℕ). takes (loads_kept new_items command) (number_taken mid.sessions.items reply) command reply ≡ true)
+          (λ (command : List ℕ). takes (loads_kept new_items command) (number_taken (record held.sessions { items = mid.sessions.items }) reply) command reply ≡ true)
           (sym sent.sent.asked_is)
-          (ap (λ (kept : Bool). takes kept (number_taken mid.sessions.items reply) command reply) (adopted_loads command adopts)
-          ∙ sent.taken);
+          (ap (λ (kept : Bool). takes kept (number_taken (record held.sessions { items = mid.sessions.items }) reply) command reply) (adopted_loads command adopts)
+          ∙ taken_held p sent);
       sessions_are = refl;
       nobodys = omega (arith, p.ready.nobodys, none_after client a reply mid.sessions.items (omega (arith, p.ready.nobodys)));
       used = λ calm. record {
@@ -806,7 +816,7 @@ pub ran_else : {D : Type 0} {old between new : D} {held mid : Held}
     → SentBefore seen (orphan_count held) old between → tells_object a reply ≡ false → (IsAtHand held table a bytes → between ≡ old)
     → Ran seen client old new held (in_orders (held_after mid mid.objects.items client a reply) mid.objects.order (order_after a reply mid.sessions.order)
     (saved_list_after a reply mid.sessions.saved)) table table a bytes reply
-ran_else {between = between} {new = new} {mid = mid} {client = client} {table = table} {a = a} {bytes = bytes} {reply = reply} seen p sent own plain still = record {
+ran_else {between = between} {new = new} {held = held} {mid = mid} {client = client} {table = table} {a = a} {bytes = bytes} {reply = reply} seen p sent own plain still = record {
   sort = p.sort;
   before = between;
   own_before = own;
@@ -824,8 +834,8 @@ ran_else {between = between} {new = new} {mid = mid} {client = client} {table = 
   object_is = λ told. absurd (true≢false (sym told ∙ plain));
   taken = subst
       (λ (command : List ℕ).
-      takes (loads_kept mid.objects.items command) (number_taken mid.sessions.items reply) command reply ≡ true)
-      (sym sent.sent.asked_is) sent.taken;
+      takes (loads_kept mid.objects.items command) (number_taken (record held.sessions { items = mid.sessions.items }) reply) command reply ≡ true)
+      (sym sent.sent.asked_is) (taken_held p sent);
   sessions_are = refl;
   nobodys = omega (arith, none_after client a reply mid.sessions.items (omega (arith, p.ready.nobodys)), p.ready.nobodys);
   used = λ calm. record {
@@ -886,7 +896,7 @@ outcome_else {seen = seen} {old = old} {between = between} {new = new} {held = h
     subst (λ (h : Held). Outcome seen old new client held h table table a bytes reply) (held_else mid new_sessions client a shown reply is same)
     (record {
       serves = record {
-        moves = ran_moves new mid.objects.items new_held.sessions table mid.objects.order reply reply p sent.base_is sent.count refl done
+        moves = ran_moves new mid.objects.items new_held.sessions table mid.objects.order reply reply p sent.base_is sent.count refl refl done
             (λ index owner names own mine. (names, own)) (λ index owner own mine. own) p.here refl;
         right = inr (sent_right sent);
         stays = tt;
@@ -897,8 +907,8 @@ outcome_else {seen = seen} {old = old} {between = between} {new = new} {held = h
       carries = record {
         did = inr (inr (ran_else seen p sent own plain still));
         steps = ran_steps new new_held table reply p done;
-        whole = taken_frame (loads_kept mid.objects.items command) (number_taken mid.sessions.items reply) command reply sent.taken;
-        stays = stays_after new_held reply p (unsaved (saves_one a) (code_of reply == RC_SUCCESS) alone) (residents_same mid.objects.items) refl refl;
+        whole = taken_frame (loads_kept mid.objects.items command) (number_taken mid.sessions reply) command reply sent.taken;
+        stays = stays_after new_held reply p (unsaved (saves_one a) (code_of reply == RC_SUCCESS) alone) (residents_same mid.objects.items) refl refl refl;
       };
     })
 
@@ -922,7 +932,7 @@ outcome_then {seen = seen} {old = old} {between = between} {new = new} {held = h
     subst (λ (h : Held). Outcome seen old new client held h table new_table a bytes new_reply) (held_then mid new_objects new_sessions client a shown reply is same rest)
     (record {
       serves = record {
-        moves = ran_moves new new_objects.items new_held.sessions new_table new_objects.order reply new_reply p sent.base_is sent.count refl done
+        moves = ran_moves new new_objects.items new_held.sessions new_table new_objects.order reply new_reply p sent.base_is sent.count refl refl done
             (adopted_others (other_than client) adopts) (adopted_gained adopts) (adopted_table adopts p.here may.few) (adopted_length adopts);
         right = inr (sent_right sent);
         stays = tt;
@@ -934,8 +944,8 @@ outcome_then {seen = seen} {old = old} {between = between} {new = new} {held = h
         did = inr (inr (ran_then seen new_objects.order p sent own tells adopts used_is reply_is still));
         steps = ran_steps new new_held new_table new_reply p done;
         whole = ap (λ (reply : List ℕ). is_frame reply) reply_is ∙ handed_frame reply (next_handle table) may.long
-            ∙ taken_frame (loads_kept mid.objects.items command) (number_taken mid.sessions.items reply) command reply sent.taken;
+            ∙ taken_frame (loads_kept mid.objects.items command) (number_taken mid.sessions reply) command reply sent.taken;
         stays = stays_after new_held reply p (unsaved (saves_one a) (code_of reply == RC_SUCCESS) alone)
-            (residents_with mid.objects.items new_objects.items adopts.item (new_item client (told_handle reply - TRANSIENT_FIRST)) adopts.items_are refl) refl refl;
+            (residents_with mid.objects.items new_objects.items adopts.item (new_item client (told_handle reply - TRANSIENT_FIRST)) adopts.items_are refl) refl refl refl;
       };
     })

@@ -4,8 +4,9 @@ use Rattle.std.specs.Prelude.{◌==◌, ◌&&◌, not, Option, Some, None, Ok, I
 use Rattle.std.specs.List.{AllByRecursion, count_by, list_any}
 use Rattle.std.proofs.lemmas.Bool.{and_parts, eq-eqb, eqb-true}
 use Rattle.std.proofs.lemmas.List.{length-map}
-use Rattle.tab_spec.specs.declared.TheConstants.{ACTIVE_SESSIONS, CONTEXT_LIMIT, HT_TRANSIENT, LOADED_SESSIONS, OBJECT_SLOTS, TRANSIENT_FIRST}
+use Rattle.tab_spec.specs.declared.TheConstants.{CONTEXT_LIMIT, HT_TRANSIENT, TRANSIENT_FIRST}
 use Rattle.tab_spec.specs.declared.Admitted.{Admitted}
+use Rattle.tab_spec.specs.declared.numbers.Numbers.{Numbers}
 use Rattle.tab_spec.specs.Admission.{client_admitted}
 use Rattle.tab_spec.specs.Session.{Session}
 use Rattle.tab_spec.specs.Shape.{makes_object_by, number_of_session, octet_of}
@@ -16,9 +17,9 @@ use Rattle.device_spec.specs.Slots.{SessionPlace, SlotState, active_count, gap_o
 use Rattle.device_laws.proofs.AnswerForms.{transient_octet}
 use Rattle.client_laws.specs.Ready.{HasSessionRoom, IsReady, StandsBy, is_sent, named_sessions, sent_for, starts_session}
 use Rattle.object_swap.specs.Items.{Item, handle_in, is_named, item_at, no_item, taken}
-use Rattle.session_swap.specs.declared.TheConstants.{RENEWAL_GAP}
+use Rattle.session_swap.specs.declared.TheConstants.{NEEDED_MOST}
 use Rattle.session_swap.specs.Items as sessions
-use Rattle.session_swap.specs.Items.{AreLoaded, Saved, SessionsStand, SessionsView, flag, is_loaded_item, is_orphan, is_user, item_session, new_item, owner_by, owner_in, owner_of_item, place_at, with_handle}
+use Rattle.session_swap.specs.Items.{AreLoaded, Saved, SessionsStand, SessionsView, flag, is_loaded_item, is_orphan, is_user, item_session, new_item, owner_by, owner_in, owner_of_item, place_at, renewal_gap, with_handle}
 use Rattle.session_swap.proofs.Counts as flags
 use Rattle.session_swap.proofs.Moved as moved
 use Rattle.history_laws.proofs.Counts.{count_one, one_true}
@@ -46,7 +47,7 @@ inside_some (x ∷ xs) zero there = omega arith
 inside_some (x ∷ xs) (suc n) there = omega (arith, inside_some xs n there)
 
 -- the slot of an item is one that the device has
-slot_inside : (slots : SlotState) (held : Held) (index n : ℕ) → IsSettled slots held → (item_at held.objects.items index).slot ≡ Some n → n < OBJECT_SLOTS
+slot_inside : (slots : SlotState) (held : Held) (index n : ℕ) → IsSettled slots held → (item_at held.objects.items index).slot ≡ Some n → n < 254
 slot_inside slots held index n settled is =
     let items = held.objects.items in
     let named : is_named (item_at items index).slot n ≡ true = ap (λ (slot : Option ℕ). is_named slot n) is ∙ eq-eqb n n refl in
@@ -56,13 +57,18 @@ slot_inside slots held index n settled is =
       one_true (is_named (item_at items index).slot n) named,
       settled.objects.owned n,
     ) in
-    omega (arith, inside_some slots.slots n (flags.is_true (is_some (get_or slots.slots n None)) some), settled.objects.sound.count)
+    omega (
+      arith,
+      inside_some slots.slots n (flags.is_true (is_some (get_or slots.slots n None)) some),
+      settled.objects.sound.count,
+      settled.objects.sound.range.slots_most,
+    )
 
 -- a place whose object is in a slot
 record IsInSlot (slots : SlotState) (items : List Item) (place : Option ℕ) : Type 0 where
   slot : ℕ
   handle : slot_handle items place ≡ Some (TRANSIENT_FIRST + slot)
-  inside : slot < OBJECT_SLOTS
+  inside : slot < 254
   object : place_object slots items place ≡ get_or slots.slots slot None
 
 is_in_slot : (slots : SlotState) (held : Held) (place : Option ℕ) → IsSettled slots held → is_some (slot_handle held.objects.items place) ≡ true
@@ -223,8 +229,9 @@ pub record MayRun (slots : SlotState) (held : Held) (client : ℕ) (table : List
   pub loaded_all : AreLoaded (named_sessions a) held.sessions.items
   pub nobodys : count_by is_orphan held.sessions.items ≡ 0
   pub room : makes_object_by (Ok a.shape) bytes ≡ true → list_any is_free slots.slots ≡ true
-  pub place : starts_session a ≡ true → (loaded_count slots.sessions + 1 ≤ LOADED_SESSIONS) ⊎ (ACTIVE_SESSIONS ≤ count_by is_some held.sessions.items)
-  pub gap : gap_of slots < RENEWAL_GAP + LOADED_SESSIONS
+  pub place : starts_session a ≡ true → (loaded_count slots.sessions + 1 ≤ slots.numbers.loaded)
+      ⊎ (held.sessions.numbers.active ≤ count_by is_some held.sessions.items)
+  pub gap : gap_of slots < renewal_gap slots.numbers + NEEDED_MOST
   pub object_numbers : slots.object_counter < CONTEXT_LIMIT
   pub session_numbers : slots.counter < CONTEXT_LIMIT
 
@@ -242,10 +249,9 @@ pub own_here : (slots : SlotState) (held : Held) (client : ℕ) (table : List (O
 own_here slots held client table a bytes may =
     own_all held.sessions.items client (named_sessions a) (named_own (tables_seen client table held.sessions.items) bytes a may.admitted) may.loaded_all
 
-place_by : (few known all : ℕ) → all ≡ known → (few + 1 ≤ LOADED_SESSIONS) ⊎ (ACTIVE_SESSIONS ≤ known)
-    → (few < LOADED_SESSIONS) ⊎ (ACTIVE_SESSIONS ≤ all)
-place_by few known all same (inl place) = inl (omega (arith, place))
-place_by few known all same (inr full) = inr (omega (arith, full, same))
+place_by : (few known all room most : ℕ) → all ≡ known → (few + 1 ≤ room) ⊎ (most ≤ known) → (few < room) ⊎ (most ≤ all)
+place_by few known all room most same (inl place) = inl (omega (arith, place))
+place_by few known all room most same (inr full) = inr (omega (arith, full, same))
 
 session_room : (slots : SlotState) (held : Held) (client : ℕ) (table : List (Option ℕ)) (least : Sequences) (a : Admitted) (bytes : List ℕ)
     → MayRun slots held client table a bytes → starts_session a ≡ true → HasSessionRoom slots (client_state slots held table least)
@@ -254,7 +260,8 @@ session_room slots held client table least a bytes may start =
     let seen = active_seen slots view may.settled.sessions may.nobodys in
     record {
       same = active_told slots view may.settled.sessions ∙ sym seen;
-      place = place_by (loaded_count slots.sessions) (count_by is_some view.items) (active (sessions_in slots view.items)) seen (may.place start);
+      place = place_by (loaded_count slots.sessions) (count_by is_some view.items) (active (sessions_in slots view.items)) slots.numbers.loaded
+          view.numbers.active seen (may.place start);
     }
 
 pub ready_here : (slots : SlotState) (held : Held) (client : ℕ) (table : List (Option ℕ)) (least : Sequences) (a : Admitted) (bytes : List ℕ)
@@ -269,6 +276,7 @@ ready_here slots held client table least a bytes may =
       started = may.settled.objects.started;
       sound = may.settled.objects.sound;
       persist = refl;
+      most = sym (ap (λ (n : Numbers). n.active) may.settled.sessions.numbers);
       fits = stands.0;
       stands = stands.1;
       sessions = same_sessions slots held.sessions client (named_sessions a) may.settled.sessions (own_here slots held client table a bytes may);

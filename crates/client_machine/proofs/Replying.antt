@@ -325,7 +325,7 @@ pub record MayReply (slots : SlotState) (held : Held) (client : ℕ) (table : Li
 
 -- and what it answers, and leaves of the sessions
 pub record IsOwnReply (held : Held) (new_view : SessionsView) (client : ℕ) (table : List (Option ℕ)) (a : Admitted) (bytes reply : List ℕ) : Type 0 where
-  pub reply_is : (persist : Persist) → reply ≡ reply_of (own_answer persist client table held.sessions.items a bytes)
+  pub reply_is : (persist : Persist) → reply ≡ reply_of (own_answer persist client table held.sessions a bytes)
   pub view_is : new_view ≡ record held.sessions { items = sessions_given client a bytes held.sessions.items }
 
 admitted_there : (slots : SlotState) (held : Held) (client : ℕ) (table : List (Option ℕ)) (least : Sequences) (a : Admitted) (bytes : List ℕ)
@@ -337,6 +337,12 @@ admitted_there slots held client table least a bytes may =
 abbrev state_with : SlotState → Held → List (Option ℕ) → Sequences → List (Option Item) → ClientState
 state_with slots held table least items = record (client_state slots held table least) { sessions = sessions_in slots items }
 
+state_given : (slots : SlotState) (held : Held) (new_view : SessionsView) (table : List (Option ℕ)) (least : Sequences) (items : List (Option Item))
+    → new_view.numbers ≡ held.sessions.numbers → new_view.items ≡ items
+    → client_state slots (held_with held new_view) table least ≡ state_with slots held table least items
+state_given slots held new_view table least items numbers items_are =
+    λ i. record (client_state slots held table least) { most = (numbers i).active; sessions = sessions_in slots (items_are i) }
+
 step_saves : (slots : SlotState) (held : Held) (new_view : SessionsView) (client : ℕ) (table : List (Option ℕ)) (least : Sequences) (a : Admitted) (bytes reply : List ℕ)
     → MayReply slots held client table a bytes → IsOwnReply held new_view client table a bytes reply → (a.shape.row.code == CC_CONTEXT_SAVE) ≡ true
     → client_step client (client_state slots held table least) bytes (pick_of a reply) ≡ Some (client_state slots (held_with held new_view) table least, reply)
@@ -347,18 +353,18 @@ step_saves slots held new_view client table least a bytes reply may own is =
     let params = drop a.auths.params bytes in
     let read = nothing_read params (something_follows a bytes may.sort is) in
     let not_load = other_code code CC_CONTEXT_SAVE CC_CONTEXT_LOAD is refl in
-    let failed = save_refused client table items a bytes reply may.sort is own.reply_is in
+    let failed = save_refused client table held.sessions a bytes reply may.sort is own.reply_is in
     let pick_is : pick_of a reply ≡ picks.Nothing =
     pick_none (tells_session a reply) (tells_context a reply) (number_of_session (told_handle reply)) (told_sequence reply)
     (not_success (starts_session a) (code_of reply == RC_SUCCESS) failed) (not_success (code == CC_CONTEXT_SAVE) (code_of reply == RC_SUCCESS) failed) in
     let items_are : new_view.items ≡ items = ap (λ (v : SessionsView). v.items) own.view_is ∙ no_given (code == CC_CONTEXT_LOAD) items _ not_load in
-    let answer : own_answer slots.persist client table items a bytes ≡ Err RC_SIZE =
+    let answer : own_answer slots.persist client table held.sessions a bytes ≡ Err RC_SIZE =
     own_save (code == CC_CONTEXT_SAVE) (code == CC_CONTEXT_LOAD) (nothing_told (save_parameters params)) _ _ is ∙ ap nothing_told read in
     step_saved client state bytes (pick_of a reply) a (admitted_there slots held client table least a bytes may) is
     ∙ ap (λ (read : Result ℕ ℕ). save_step client state (get_or a.shape.handles 0 0) read (pick_of a reply)) read
     ∙ ap (choosing_nothing (refused_step state RC_SIZE)) pick_is
     ∙ same_step state (client_state slots (held_with held new_view) table least) (error_reply RC_SIZE) reply
-    (ap (state_with slots held table least) items_are) (own.reply_is slots.persist ∙ ap reply_of answer)
+    (state_given slots held new_view table least _ (ap (λ (v : SessionsView). v.numbers) own.view_is) items_are) (own.reply_is slots.persist ∙ ap reply_of answer)
 
 step_loads : (slots : SlotState) (held : Held) (new_view : SessionsView) (client : ℕ) (table : List (Option ℕ)) (least : Sequences) (a : Admitted) (bytes reply : List ℕ)
     → MayReply slots held client table a bytes → IsOwnReply held new_view client table a bytes reply → (a.shape.row.code == CC_CONTEXT_LOAD) ≡ true
@@ -375,7 +381,7 @@ step_loads slots held new_view client table least a bytes reply may own is =
     let pick_is : pick_of a reply ≡ picks.Nothing = picks_none a reply not_save starts_none in
     let items_are : new_view.items ≡ with_given items given =
     ap (λ (v : SessionsView). v.items) own.view_is ∙ some_given (code == CC_CONTEXT_LOAD) items (with_given items given) is in
-    let answer : own_answer slots.persist client table items a bytes ≡ handle_told given =
+    let answer : own_answer slots.persist client table held.sessions a bytes ≡ handle_told given =
     load_kept (code == CC_CONTEXT_SAVE) (code == CC_CONTEXT_LOAD) _ (handle_told given) _ not_save is in
     step_loaded client state bytes (pick_of a reply) a (admitted_there slots held client table least a bytes may) is
     ∙ ap (λ (pick : Pick). choosing_nothing (load_step client state params read) pick) pick_is
@@ -385,7 +391,7 @@ step_loads slots held new_view client table least a bytes reply may own is =
     handle_other bytes params c (unsent_loads a bytes may.sort is)
     (params_here (tables_seen client table items) bytes a may.admitted is) read_is))
     ∙ same_step (state_with slots held table least (with_given items given)) (client_state slots (held_with held new_view) table least) (reply_of (handle_told given)) reply
-    (ap (state_with slots held table least) items_are) (own.reply_is slots.persist ∙ ap reply_of answer)
+    (state_given slots held new_view table least _ (ap (λ (v : SessionsView). v.numbers) own.view_is) items_are) (own.reply_is slots.persist ∙ ap reply_of answer)
 
 told_by : (save load : Bool) (saved loaded told : Result (List ℕ) ℕ) → save ≡ false → load ≡ false → (if save then saved else if load then loaded else told) ≡ told
 told_by save load saved loaded told is also = rw (is, also) refl
@@ -402,20 +408,20 @@ step_lists slots held new_view client table least a bytes reply may own is =
     let code = a.shape.row.code in
     let items = held.sessions.items in
     let params = drop a.auths.params bytes in
-    let told = own_capability slots.persist client table items params in
+    let told = own_capability slots.persist client table held.sessions params in
     let not_save = other_code code CC_GET_CAPABILITY CC_CONTEXT_SAVE is refl in
     let not_load = other_code code CC_GET_CAPABILITY CC_CONTEXT_LOAD is refl in
     let starts_none = ap (λ (start : Bool). start && (code_of reply == RC_SUCCESS)) (unsent_starts a bytes may.sort) in
     let pick_is : pick_of a reply ≡ picks.Nothing = picks_none a reply not_save starts_none in
     let items_are : new_view.items ≡ items = ap (λ (v : SessionsView). v.items) own.view_is ∙ no_given (code == CC_CONTEXT_LOAD) items _ not_load in
-    let answer : own_answer slots.persist client table items a bytes ≡ told =
+    let answer : own_answer slots.persist client table held.sessions a bytes ≡ told =
     told_by (code == CC_CONTEXT_SAVE) (code == CC_CONTEXT_LOAD) _ _ told not_save not_load in
     step_listed client state bytes (pick_of a reply) a (admitted_there slots held client table least a bytes may) is
     ∙ ap (λ (pick : Pick). choosing_nothing (capability_step state (client_capability client state params)) pick) pick_is
     ∙ ap (λ (step : ClientStep). Some step)
     (ap (capability_step state) (capability_had slots held client table least params may.settled may.is) ∙ told_step state told)
     ∙ same_step state (client_state slots (held_with held new_view) table least) (reply_of told) reply
-    (ap (state_with slots held table least) items_are) (own.reply_is slots.persist ∙ ap reply_of answer)
+    (state_given slots held new_view table least _ (ap (λ (v : SessionsView). v.numbers) own.view_is) items_are) (own.reply_is slots.persist ∙ ap reply_of answer)
 
 replied_step : (slots : SlotState) (held : Held) (new_view : SessionsView) (client : ℕ) (table : List (Option ℕ)) (least : Sequences) (a : Admitted) (bytes reply : List ℕ)
     → MayReply slots held client table a bytes → IsOwnReply held new_view client table a bytes reply
@@ -520,6 +526,7 @@ replied_moves seen device held new_view client table a bytes reply settled is ow
       owners = λ present open_here all. leaves.open_owners present all;
       orphans = omega (arith, leaves.orphans);
       slots = refl;
+      numbers = ap (λ (v : SessionsView). v.numbers) own.view_is;
       length_is = refl;
     }
 

@@ -3,7 +3,7 @@ use Rattle.std.proofs.Common.{◌≡◌, ◌+◌, ◌*◌, ◌^◌, ◌≤◌, �
 use Rattle.std.specs.Prelude.{◌==◌, ◌&&◌, not, nat_le, Option, Some, None, is_some, IfSome, Result, Ok, Err, if◌then◌else◌}
 use Rattle.std.specs.List.{list_any}
 use Rattle.std.proofs.lemmas.Bool.{and_parts}
-use Rattle.tab_spec.specs.declared.TheConstants.{ACTIVE_SESSIONS, CC_CONTEXT_SAVE, CC_START_AUTH_SESSION, HEADER_BYTES, RC_SESSION_HANDLES, RC_SUCCESS, ST_SESSIONS, TRANSIENT_FIRST}
+use Rattle.tab_spec.specs.declared.TheConstants.{CC_CONTEXT_SAVE, CC_START_AUTH_SESSION, HEADER_BYTES, RC_SESSION_HANDLES, RC_SUCCESS, ST_SESSIONS, TRANSIENT_FIRST}
 use Rattle.tab_spec.specs.declared.Admitted.{Admitted}
 use Rattle.tab_spec.specs.Admission.{is_session_handle}
 use Rattle.tab_spec.specs.Frame.{code_of}
@@ -20,7 +20,7 @@ use Rattle.device_spec.specs.Slots.{IsSlots, SessionPlace, SlotState, Step, free
 use Rattle.device_laws.specs.Effects.{is_managed}
 use Rattle.device_laws.specs.OtherHandles.{slots_with}
 use Rattle.device_laws.proofs.Replies.{step_keeps}
-use Rattle.device_laws.proofs.Seeds.{step_seed}
+use Rattle.device_laws.proofs.Seeds.{step_numbers, step_seed}
 use Rattle.client_laws.specs.Ready.{AreAmong, TellsMade, client_effect, ends_session, named_sessions, starts_session, tells_object, tells_session}
 use Rattle.client_laws.proofs.Commands.{command_session, unmanaged}
 use Rattle.client_laws.proofs.Made.{command_made}
@@ -44,11 +44,12 @@ use Rattle.client_machine.proofs.Adopting.{Adopted, Filled, adopted, filled, ite
 use Rattle.client_machine.proofs.Handing.{handed, handed_ends, handed_tells, handed_tells_session, handed_told, handed_twice, sent_bytes}
 use Rattle.client_laws.proofs.NameSessions.{authorization_ends, left_among, named_none}
 use Rattle.client_machine.proofs.NamedSessions.{left_authorized}
+use Rattle.client_machine.proofs.NewSessions.{HasFew, few_made, has_few}
 use Rattle.client_machine.proofs.Ready.{MayRun, admitted_here, own_here, ready_here, sent_over}
 use Rattle.client_machine.proofs.Seeing.{seen_places}
 use Rattle.client_machine.proofs.SessionsAfter.{AreOwn, IsOwn, items_ended, left_in, numbered, one_among}
 use Rattle.client_machine.proofs.SessionsStanding.{left_stand, room_ended}
-use Rattle.client_machine.proofs.Started.{Started, free_is, new_handle, none_after, started, taken_told, unused_item}
+use Rattle.client_machine.proofs.Started.{Started, free_is, free_told, new_handle, none_after, started, unused_item}
 
 -- ---- what a command makes, over the slots and the numbers of a device
 
@@ -88,6 +89,7 @@ made_so slots persist places (new_session s) reply =
 abbrev pub state_left : SlotState → SlotState → Held → ℕ → List (Option ℕ) → Sequences → Operands → Bool → ClientState
 state_left slots after held client table least operands ended = record {
   persist = after.persist;
+  most = held.sessions.numbers.active;
   objects = objects_in slots held.objects.items table;
   sessions = sessions_after (own_place client) None (sessions_in slots held.sessions.items) operands ended;
   object_sequence = least.object;
@@ -100,12 +102,14 @@ pub record Left (slots after : SlotState) (held : Held) (client : ℕ) (table : 
   pub started : after.started ≡ true
   pub sound : IsSlots after
   pub seed : after.persist.seed ≡ slots.persist.seed
+  pub numbers : after.numbers ≡ slots.numbers
   pub object_counter : after.object_counter ≡ slots.object_counter
   pub counter : after.counter ≡ slots.counter
   pub slots_are : slots_with slots.slots created ≡ after.slots
   pub sessions_are : after.sessions ≡ places_with (sessions_left slots.sessions operands ended) created
   pub answer_is : answer ≡ answer_with slots.slots (sessions_left slots.sessions operands ended) created effect_reply
   pub tells : TellsMade a bytes created effect_reply
+  pub few : HasFew held.sessions created
   pub ended_is : ended ≡ ends_session a effect_reply
   pub own : AreOwn held.sessions.items client (command_auth a.auths).session ended operands
   pub none : starts_session a ≡ true → AreAmong [] operands
@@ -144,12 +148,15 @@ left_run slots held client table a bytes may managed room =
       started = made.started ∙ is.started;
       sound = step_keeps slots sent is.sound (sent_bytes bytes a first may.all);
       seed = step_seed slots sent;
+      numbers = step_numbers slots sent;
       object_counter = made.object_counter;
       counter = made.counter;
       slots_are = made.slots_are;
       sessions_are = made.sessions_are;
       answer_is = made.answer_is;
       tells = command_made client state bytes a e managed;
+      few = few_made held.sessions a bytes effect.outcome.created effect.reply (command_made client state bytes a e managed)
+          (has_few slots held.sessions client state a bytes may.settled.sessions may.nobodys refl refl room);
       ended_is = authorization_ends client state bytes a e;
       own = record {
         named = named_sessions a;
@@ -164,6 +171,7 @@ left_run slots held client table a bytes may managed room =
           step_run client (client_state slots held table least) bytes pick a (admitted_here slots held client table least a bytes may) managed room
           ∙ ap (λ (persist : Persist). made_step client (record {
             persist = persist;
+            most = held.sessions.numbers.active;
             objects = state.objects;
             sessions = sessions_after (own_place client) None state.sessions effect.operands effect.outcome.auth_ended;
             object_sequence = least.object;
@@ -180,7 +188,7 @@ no_number : (start : Bool) (b : Result StartParameters ℕ) (state : ClientState
     → (if start then world.session_too_many state b else None) ≡ Some code → code ≡ RC_SESSION_HANDLES
 no_number false b state code is = absurd cc
 no_number true (Err fault) state code is = absurd cc
-no_number true (Ok b) state code is = number_by (nat_le ACTIVE_SESSIONS (world.active state.sessions)) code is
+no_number true (Ok b) state code is = number_by (nat_le state.most (world.active state.sessions)) code is
 
 unended : (success tag session more : Bool) → success ≡ false → false ≡ (success && tag && session && more)
 unended success tag session more is = rw is refl
@@ -221,12 +229,14 @@ left_full slots held client table a bytes code may managed room =
       started = ap (λ (slots : SlotState). slots.started) same ∙ is.started;
       sound = step_keeps slots sent is.sound (sent_bytes bytes a first may.all);
       seed = step_seed slots sent;
+      numbers = step_numbers slots sent;
       object_counter = ap (λ (slots : SlotState). slots.object_counter) same;
       counter = ap (λ (slots : SlotState). slots.counter) same;
       slots_are = ap (λ (slots : SlotState). slots.slots) (sym same);
       sessions_are = ap (λ (slots : SlotState). slots.sessions) same;
       answer_is = ap (λ (step : Step). step.1) step_is;
       tells = untold (starts_session a) a.shape.row.response_handle (code_of (error_reply code) == RC_SUCCESS) failed;
+      few = tt;
       ended_is = unended (code_of (error_reply code) == RC_SUCCESS) (a.shape.tag == ST_SESSIONS) (is_session_handle (command_auth a.auths).session)
           (not (continues (command_auth a.auths))) failed;
       own = record {
@@ -323,10 +333,11 @@ own_ended items client handle ended operands (Some held) is are so =
 
 sessions_left_by : (slots after : SlotState) (held : Held) (client : ℕ) (a : Admitted) (answer : List ℕ) (operands : Operands) (ended : Bool)
     → IsSettled slots held → after.started ≡ true → IsSlots after → after.counter ≡ slots.counter → after.persist.seed ≡ slots.persist.seed
+    → after.numbers ≡ slots.numbers
     → AreOwn held.sessions.items client (command_auth a.auths).session ended operands → after.sessions ≡ sessions_left slots.sessions operands ended
     → tells_session a answer ≡ false → (a.shape.row.code == CC_CONTEXT_SAVE) ≡ false → ended ≡ ends_session a answer
     → Sessions slots after held client a answer operands ended
-sessions_left_by slots after held client a answer operands ended settled started sound counter seed own sessions_are none unsaved ended_is =
+sessions_left_by slots after held client a answer operands ended settled started sound counter seed numbers own sessions_are none unsaved ended_is =
     let items = held.sessions.items in
     let handle = (command_auth a.auths).session in
     let items_are : moves.sessions_held_after client a answer items ≡ items_ended items handle ended =
@@ -335,7 +346,7 @@ sessions_left_by slots after held client a answer operands ended settled started
     (sessions_saved (first_handle a) (drop HEADER_BYTES answer) items) none
     (no_session_save (a.shape.row.code == CC_CONTEXT_SAVE) (is_session_handle (first_handle a)) (code_of answer == RC_SUCCESS) unsaved)
     ∙ ap (items_ended items handle) (sym ended_is) in
-    let stand = left_stand slots after held.sessions [] client handle ended operands settled.sessions started sound counter seed own sessions_are in
+    let stand = left_stand slots after held.sessions [] client handle ended operands settled.sessions started sound counter seed numbers own sessions_are in
     record {
       stand = subst (λ (items : List (Option sessions.Item)). SessionsStand after (record held.sessions { items = items }) []) (sym items_are) stand;
       gap = room_ended slots after held.sessions client handle ended settled.sessions stand
@@ -353,7 +364,7 @@ plain_by : (slots after : SlotState) (held : Held) (client : ℕ) (table : List 
 plain_by slots after held client table a bytes effect_reply answer may left =
     let items = held.objects.items in
     let none : tells_session a answer ≡ false = ap (tells_session a) left.answer_is ∙ left.tells.1 in
-    let sessions = sessions_left_by slots after held client a answer left.operands left.ended may.settled left.started left.sound left.counter left.seed left.own left.sessions_are
+    let sessions = sessions_left_by slots after held client a answer left.operands left.ended may.settled left.started left.sound left.counter left.seed left.numbers left.own left.sessions_are
     none left.unsaved (left.ended_is ∙ ap (ends_session a) (sym left.answer_is)) in
     record {
       settled = record {
@@ -372,6 +383,7 @@ plain_by slots after held client table a bytes effect_reply answer may left =
             ∙ (λ i. Some (
               record {
                 persist = after.persist;
+                most = held.sessions.numbers.active;
                 objects = sym (same_objects slots after items table left.slots_are (sym left.seed)) i;
                 sessions = sym sessions.in_world i;
                 object_sequence = least.object;
@@ -405,11 +417,11 @@ object_by {new_items = new_items} {new_table = new_table} slots after held clien
     let answer_long : 14 ≤ length answer =
     omega (arith, long, (handed effect_reply handle long).long, ap (λ (reply : List ℕ). length reply) left.answer_is) in
     let none_new : tells_session a new_reply ≡ false = ap (tells_session a) new_is ∙ handed_tells_session a answer (next_handle table) answer_long ∙ none_told in
-    let sessions = sessions_left_by slots after held client a answer left.operands left.ended may.settled left.started left.sound left.counter left.seed left.own left.sessions_are
+    let sessions = sessions_left_by slots after held client a answer left.operands left.ended may.settled left.started left.sound left.counter left.seed left.numbers left.own left.sessions_are
     none_told left.unsaved (left.ended_is ∙ sym (handed_ends a effect_reply handle long) ∙ ap (ends_session a) (sym left.answer_is)) in
     let fill : Filled slots after items held.objects.left o =
     filled slots after items held.objects.left o stand (may.room left.tells.2) left.slots_are (sym left.seed) left.started left.sound in
-    let count : length slots.slots ≡ 3 = stand.sound.count in
+    let count : length slots.slots ≤ 254 = omega (arith, stand.sound.count, stand.sound.range.slots_most) in
     let told_is : told_handle answer ≡ handle =
     ap told_handle left.answer_is ∙ handed_told effect_reply handle long (omega (arith, fill.fits, count)) in
     let new : Adopted slots after items new_items held.objects.left table new_table o =
@@ -434,6 +446,7 @@ object_by {new_items = new_items} {new_table = new_table} slots after held clien
             ∙ (λ i. Some (
               record {
                 persist = after.persist;
+                most = held.sessions.numbers.active;
                 objects = sym new.objects i;
                 sessions = sym sessions.in_world i;
                 object_sequence = least.object;
@@ -481,7 +494,7 @@ is_new slots after held client table a bytes s effect_reply answer may left take
     record {
       long = fits.1;
       tells = tells;
-      new = started slots after held.sessions client told s settled left.started left.sound left.counter left.seed fits.2 fits.3 free sessions_are may.gap;
+      new = started slots after held.sessions client told s settled left.started left.sound left.counter left.seed left.numbers fits.2 fits.3 free sessions_are may.gap;
       none = unused_item slots held.sessions (number_of_session told) settled free;
       handle_is = ap (λ (n : ℕ). octet * 2 ^ 24 + n) number_is ∙ sym told_is;
       answer_is = answer_is ∙ ap (with_response_handle effect_reply) (sym told_is);
@@ -533,6 +546,7 @@ session_by slots after held client table a bytes s effect_reply answer may left 
             ∙ (λ i. Some (
               record {
                 persist = after.persist;
+                most = held.sessions.numbers.active;
                 objects = sym (same_objects slots after items table left.slots_are (sym left.seed)) i;
                 sessions = (sym is.new.sessions ∙ ap (sessions_in after) (sym items_are)) i;
                 object_sequence = least.object;
@@ -579,7 +593,7 @@ runs_then_by slots after held client table a bytes (new_session s) effect_reply 
 pub free_by : (slots after : SlotState) (held : Held) (client : ℕ) (table : List (Option ℕ)) (a : Admitted) (bytes : List ℕ) (created : Created) (effect_reply answer : List ℕ)
     → MayRun slots held client table a bytes → Left slots after held client table a bytes created effect_reply answer
     → takes false false (sent_over bytes a table held.objects.items) answer ≡ true → tells_session a answer ≡ true
-    → number_taken held.sessions.items answer ≡ false
+    → number_taken held.sessions answer ≡ false
 free_by slots after held client table a bytes nothing effect_reply answer may left taken told =
     absurd (true≢false (sym told ∙ ap (tells_session a) left.answer_is ∙ left.tells.1))
 free_by slots after held client table a bytes (new_object o) effect_reply answer may left taken told =
@@ -588,7 +602,7 @@ free_by slots after held client table a bytes (new_object o) effect_reply answer
     ∙ starts_none (starts_session a) a.shape.row.response_handle (code_of effect_reply == RC_SUCCESS) left.tells.0))
 free_by slots after held client table a bytes (new_session s) effect_reply answer may left taken told =
     let is = is_new slots after held client table a bytes s effect_reply answer may left taken in
-    taken_told held.sessions.items answer is.long ∙ ap (λ (item : Option sessions.Item). is_some item) is.none
+    free_told held.sessions answer is.long left.few is.none
 
 -- what the device did, by what it made
 pub record DidSo (slots : SlotState) (held : Held) (client : ℕ) (table : List (Option ℕ)) (a : Admitted) (bytes : List ℕ) : Type 0 where

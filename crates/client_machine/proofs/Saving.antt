@@ -6,6 +6,7 @@ use Rattle.std.proofs.lemmas.Bool.{and_parts, eq-eqb, eqb-true, true≢false}
 use Rattle.std.proofs.lemmas.List.{map-set, set-get_or}
 use Rattle.tab_spec.specs.declared.TheConstants.{CC_CONTEXT_SAVE, CC_START_AUTH_SESSION, HEADER_BYTES, HT_HMAC_SESSION, HT_POLICY_SESSION, HT_TRANSIENT, RC_SUCCESS, ST_NO_SESSIONS}
 use Rattle.tab_spec.specs.declared.Admitted.{Admitted}
+use Rattle.tab_spec.specs.declared.numbers.Numbers.{Numbers}
 use Rattle.tab_spec.specs.declared.CommandRow.{CommandRow}
 use Rattle.tab_spec.specs.Admission.{client_admitted, is_session_handle}
 use Rattle.tab_spec.specs.Frame.{code_of, is_frame}
@@ -165,6 +166,7 @@ pub record SavedOver (old new : Option SlotState) (view new_view : SessionsView)
 
 -- what holds of the response on every device
 pub record SavedReply (view new_view : SessionsView) (handle : ℕ) (reply : List ℕ) : Type 0 where
+  pub numbers : new_view.numbers ≡ view.numbers
   pub items_are : new_view.items ≡ sessions_saved handle (drop HEADER_BYTES reply) view.items
   pub order_is : new_view.order ≡ without_one (number_of_session handle) view.order
   pub success : Succeeds (context_save_command handle) reply
@@ -240,6 +242,7 @@ one_saved slots after held new_view client table a bytes reply may alone over gi
                 ∙ (λ i. Some (
                   record {
                     persist = ap (λ (s : SlotState). s.persist) (sym same) i;
+                    most = sym (ap (λ (n : Numbers). n.active) given.numbers) i;
                     objects = sym (table_over_sessions slots after items table same) i;
                     sessions = sym (saved_world slots after old new_view.items client handle reply is given.items_are sessions_are) i;
                     object_sequence = least.object;
@@ -292,6 +295,7 @@ saved_now keeps same stood stands room saves told = record {
     sessions = same;
   };
   given = record {
+    numbers = ap (λ (v : SessionsView). v.numbers) saves.view_is;
     items_are = ap (λ (v : SessionsView). v.items) saves.view_is;
     order_is = ap (λ (v : SessionsView). v.order) saves.view_is;
     success = saves.success;
@@ -342,7 +346,7 @@ pub ran_saved : {D : Type 0} {old between new : D} {held mid : Held}
     → Asks {A = Unit {0}} seen between new (context_save_command (first_handle a)) (Ok tt)
     → last_of (seen new) ≡ Some reply → (IsAtHand held table a bytes → between ≡ old)
     → Ran seen client old new held (held_with mid new_view) table table a bytes reply
-ran_saved {between = between} {new = new} {mid = mid} {client = client} {table = table} {a = a} {bytes = bytes} {reply = reply} seen new_view p alone all saved own asks last_is still =
+ran_saved {between = between} {new = new} {held = held} {mid = mid} {client = client} {table = table} {a = a} {bytes = bytes} {reply = reply} seen new_view p alone all saved own asks last_is still =
     let handle = first_handle a in
     let both = and_parts (a.shape.row.code == CC_CONTEXT_SAVE) (is_session_handle handle) alone in
     let tells = tells_by client table mid.sessions.items a bytes reply p.admitted alone saved.given.success.code in
@@ -371,10 +375,11 @@ ran_saved {between = between} {new = new} {mid = mid} {client = client} {table =
       table_is = table_plain table 0 a reply tells.object;
       object_is = λ told. absurd (true≢false (sym told ∙ tells.object));
       taken = subst
-          (λ (command : List ℕ). takes (loads_kept mid.objects.items command) (number_taken mid.sessions.items reply) command reply ≡ true)
+          (λ (command : List ℕ).
+          takes (loads_kept mid.objects.items command) (number_taken (record held.sessions { items = mid.sessions.items }) reply) command reply ≡ true)
           (sym asks.asked)
-          (save_taken (loads_kept mid.objects.items (context_save_command handle)) (number_taken mid.sessions.items reply) handle reply
-          saved.given.success saved.given.frame);
+          (save_taken (loads_kept mid.objects.items (context_save_command handle)) (number_taken (record held.sessions { items = mid.sessions.items }) reply)
+          handle reply saved.given.success saved.given.frame);
       sessions_are = items_are;
       nobodys = omega (arith, p.ready.nobodys, ap (count_by sessions.is_orphan) items_are, none_after client a reply mid.sessions.items (omega (arith, p.ready.nobodys)));
       used = λ calm. record {
@@ -413,7 +418,7 @@ outcome_saved {seen = seen} {between = between} {new = new} {held = held} {mid =
     record {
       serves = record {
         moves = ran_moves new mid.objects.items new_view table mid.objects.order reply reply p saved.keeps.base_is saved.keeps.count
-            (saved_after new_view reply p alone saved.given) done (λ index owner names own mine. (names, own)) (λ index owner own mine. own) p.here refl;
+            (saved_after new_view reply p alone saved.given) saved.given.numbers done (λ index owner names own mine. (names, own)) (λ index owner own mine. own) p.here refl;
         right = inr (taken_right false false (context_save_command handle) (asked_of (seen new)) reply (last_of (seen new))
             (save_taken false false handle reply saved.given.success saved.given.frame) asks.asked last_is);
         stays = tt;
@@ -427,6 +432,6 @@ outcome_saved {seen = seen} {between = between} {new = new} {held = held} {mid =
         whole = saved.given.frame;
         stays = λ narrow.
             stays_over held mid (held_with mid new_view) (places_of a) (saved_number a) (p.stays narrow) (residents_same mid.objects.items) refl
-            (saves_loaded mid.sessions.items new_view.items a reply alone saved.given.items_are);
+            saved.given.numbers (saves_loaded mid.sessions.items new_view.items a reply alone saved.given.items_are);
       };
     }

@@ -1,7 +1,7 @@
 -- Which responses are taken depends on what the broker holds: where it keeps less, and its clients have fewer sessions, more are.
 use Rattle.std.proofs.Common.{◌≡◌, ◌+◌, ℕ, Bool, true, false, List, length, drop, refl, ap, sym, ◌∙◌}
 use Rattle.std.specs.Prelude.{Option, Some, None, Result, Ok, Err, IfSome, is_err, is_ok, not, nat_lt, ◌==◌, ◌&&◌, ◌||◌, if◌then◌else◌}
-use Rattle.tab_spec.specs.declared.TheConstants.{ACTIVE_SESSIONS, CC_CONTEXT_SAVE, CC_FLUSH_CONTEXT, CC_STARTUP, CC_START_AUTH_SESSION, HEADER_BYTES, HT_TRANSIENT, RC_INITIALIZE, RC_SUCCESS}
+use Rattle.tab_spec.specs.declared.TheConstants.{CC_CONTEXT_SAVE, CC_FLUSH_CONTEXT, CC_STARTUP, CC_START_AUTH_SESSION, HEADER_BYTES, HT_TRANSIENT, RC_INITIALIZE, RC_SUCCESS, SESSION_NUMBERS}
 use Rattle.tab_spec.specs.Commands.{row_of}
 use Rattle.tab_spec.specs.Frame.{code_of, is_frame, reported_code, tag_of}
 use Rattle.tab_spec.specs.Session.{is_kind_number, kind_of, kind_octet}
@@ -29,7 +29,7 @@ started_more : (one other : Bool) (read : Reading ℕ) (handle : ℕ) → (other
     → is_started_handle other read handle ≡ true
 started_more one other (Err code) handle more is = absurd cc
 started_more one other (Ok read) handle more is =
-    not_taken (is_kind_number read.0) (octet_of handle == kind_octet (kind_of read.0)) (nat_lt (number_of_session handle) ACTIVE_SESSIONS) one other more is
+    not_taken (is_kind_number read.0) (octet_of handle == kind_octet (kind_of read.0)) (nat_lt (number_of_session handle) SESSION_NUMBERS) one other more is
 
 fits_by : (start first second plain : Bool) → (first ≡ true → second ≡ true) → (if start then first else plain) ≡ true
     → (if start then second else plain) ≡ true

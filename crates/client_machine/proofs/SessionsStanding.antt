@@ -4,14 +4,14 @@ use Rattle.std.specs.Prelude.{◌==◌, Option, Some, None, is_some, IfSome, if�
 use Rattle.std.specs.List.{AllByRecursion}
 use Rattle.std.proofs.lemmas.Bool.{cases_eq, eq-eqb, eqb-true, ne_eqb, true≢false}
 use Rattle.std.proofs.lemmas.List.{get_or-set_same, get_or-set_other}
-use Rattle.tab_spec.specs.declared.TheConstants.{LOADED_SESSIONS}
+use Rattle.tab_spec.specs.declared.numbers.Numbers.{Numbers}
 use Rattle.tab_spec.specs.Session.{Session}
 use Rattle.tab_spec.specs.Shape.{number_of_session, octet_of}
 use Rattle.effect_spec.specs.Operands.{Operand, Operands, a_session, absent, an_object, operand_at, plain, with_authorization, with_operand}
 use Rattle.device_spec.specs.Slots.{IsSlots, SessionPlace, SlotState, gap_from, gap_of, inactive, loaded, saved, is_loaded, loaded_count, loaded_under, older, place_of, session_in_place, sessions_left}
 use Rattle.client_laws.specs.Ready.{IsAmong}
-use Rattle.session_swap.specs.declared.TheConstants.{RENEWAL_GAP}
-use Rattle.session_swap.specs.Items.{AreAlike, HasGapRoom, Item, SessionsStand, SessionsView, flag, is_loaded_item, is_saved_item, item_at, loaded_items, new_item, number_of_item, oldest_number}
+use Rattle.session_swap.specs.declared.TheConstants.{NEEDED_MOST}
+use Rattle.session_swap.specs.Items.{AreAlike, HasGapRoom, Item, SessionsStand, SessionsView, flag, is_loaded_item, is_saved_item, item_at, loaded_items, new_item, number_of_item, oldest_number, renewal_gap}
 use Rattle.session_swap.proofs.Counts.{count_set, flag_false, flag_most}
 use Rattle.session_swap.proofs.Moved.{ending, item_inside, item_stands, moved, stands_moved}
 use Rattle.session_swap.proofs.Numbers.{oldest_more}
@@ -105,35 +105,37 @@ without_stand slots view others client handle stand own =
 
 stand_by : (slots after : SlotState) (view : SessionsView) (others : List ℕ) (client handle : ℕ) (ended : Bool) (session : Option (ℕ × Session)) (places : List SessionPlace)
     → SessionsStand slots view others → after.started ≡ true → IsSlots after → after.counter ≡ slots.counter → after.persist.seed ≡ slots.persist.seed
+    → after.numbers ≡ slots.numbers
     → AreAllAlike slots.sessions places → length places ≡ length view.items → IfSome session (λ held. IsOwn view.items client held.0) → IsAuthorized handle ended session
     → after.sessions ≡ with_authorization loaded_under inactive places ended session
     → SessionsStand after (record view { items = items_ended view.items handle ended }) others
-stand_by slots after view others client handle true None places stand started sound counter seed alike long own is sessions = absurd (let no = is.there refl in cc)
-stand_by slots after view others client handle false None places stand started sound counter seed alike long own is sessions =
-    stands_changed slots after view others stand started sound counter seed (same_places slots.sessions after.sessions places sessions alike)
-stand_by slots after view others client handle true (Some held) places stand started sound counter seed alike long own is sessions =
+stand_by slots after view others client handle true None places stand started sound counter seed numbers alike long own is sessions = absurd (let no = is.there refl in cc)
+stand_by slots after view others client handle false None places stand started sound counter seed numbers alike long own is sessions =
+    stands_changed slots after view others stand started sound counter seed numbers (same_places slots.sessions after.sessions places sessions alike)
+stand_by slots after view others client handle true (Some held) places stand started sound counter seed numbers alike long own is sessions =
     let n = number_of_session held.0 in
     let inside = item_inside view.items n (new_item client held.0) own in
     let few : n < length slots.sessions = omega (arith, inside, stand.sound.numbers, stand.count) in
     subst (λ (handle : ℕ). SessionsStand after (record view { items = set view.items (number_of_session handle) None }) others) is.handle_is
     (stands_changed (moved slots n inactive slots.counter) after (record view { items = set view.items n None }) others
-    (without_stand slots view others client held.0 stand own) started sound counter seed
+    (without_stand slots view others client held.0 stand own) started sound counter seed numbers
     (same_places (set slots.sessions n inactive) after.sessions (set places n inactive) sessions
     (alike_both slots.sessions places n inactive alike few (omega (arith, inside, long)))))
-stand_by slots after view others client handle false (Some held) places stand started sound counter seed alike long own is sessions =
+stand_by slots after view others client handle false (Some held) places stand started sound counter seed numbers alike long own is sessions =
     let n = number_of_session held.0 in
     let inside = item_inside view.items n (new_item client held.0) own in
-    stands_changed slots after view others stand started sound counter seed
+    stands_changed slots after view others stand started sound counter seed numbers
     (same_places slots.sessions after.sessions (set places n (loaded_under held.0 held.1)) sessions
     (alike_set slots.sessions places n (loaded_under held.0 held.1) alike (omega (arith, inside, long))
     (own_alike slots view others client held.0 held.1 stand own)))
 
 pub left_stand : (slots after : SlotState) (view : SessionsView) (others : List ℕ) (client handle : ℕ) (ended : Bool) (operands : Operands)
     → SessionsStand slots view others → after.started ≡ true → IsSlots after → after.counter ≡ slots.counter → after.persist.seed ≡ slots.persist.seed
+    → after.numbers ≡ slots.numbers
     → AreOwn view.items client handle ended operands → after.sessions ≡ sessions_left slots.sessions operands ended
     → SessionsStand after (record view { items = items_ended view.items handle ended }) others
-left_stand slots after view others client handle ended operands stand started sound counter seed are sessions =
-    stand_by slots after view others client handle ended operands.session (places_between slots.sessions operands) stand started sound counter seed
+left_stand slots after view others client handle ended operands stand started sound counter seed numbers are sessions =
+    stand_by slots after view others client handle ended operands.session (places_between slots.sessions operands) stand started sound counter seed numbers
     (between_alike slots view others client handle ended operands stand are)
     (between_length slots.sessions operands ∙ stand.sound.numbers ∙ sym stand.count)
     (own_session view.items client are.named operands.session are.own are.among.authorization) are.authorized sessions
@@ -152,32 +154,48 @@ gap_over : (slots after : SlotState) (view new_view : SessionsView) → Sessions
 gap_over slots after view new_view stand new next oldest =
     sym (gap_told after new_view new) ∙ (λ i. gap_from (next i) (oldest i)) ∙ gap_told slots view stand
 
-flag_full : (n : ℕ) → flag (n == LOADED_SESSIONS) ≤ 1
-flag_full n = flag_most (n == LOADED_SESSIONS)
+-- the device of the same numbers
+numbers_over : (slots after : SlotState) (view new_view : SessionsView) → SessionsStand slots view [] → SessionsStand after new_view []
+    → new_view.numbers ≡ view.numbers → slots.numbers ≡ after.numbers
+numbers_over slots after view new_view stand new same = stand.numbers ∙ sym same ∙ sym new.numbers
 
-not_full : (few many : ℕ) (test : Bool) → (many == LOADED_SESSIONS) ≡ test → few ≤ many → many ≤ LOADED_SESSIONS → flag (few == LOADED_SESSIONS) ≤ flag test
-not_full few many true is less most = flag_most (few == LOADED_SESSIONS)
-not_full few many false is less most =
-    let apart : few ≢ LOADED_SESSIONS = λ same. absurd (true≢false (sym (eq-eqb many LOADED_SESSIONS (omega (arith, same, less, most))) ∙ is)) in
-    omega (arith, flag_false (few == LOADED_SESSIONS) (ne_eqb few LOADED_SESSIONS apart))
+not_full : (full few many : ℕ) (test : Bool) → (many == full) ≡ test → few ≤ many → many ≤ full → flag (few == full) ≤ flag test
+not_full full few many true is less most = flag_most (few == full)
+not_full full few many false is less most =
+    let apart : few ≢ full = λ same. absurd (true≢false (sym (eq-eqb many full (omega (arith, same, less, most))) ∙ is)) in
+    omega (arith, flag_false (few == full) (ne_eqb few full apart))
+
+-- room on a device of these numbers
+abbrev HasRoomOf : SlotState → Numbers → Type 0
+HasRoomOf slots n = gap_of slots + flag (loaded_count slots.sessions == n.loaded) ≤ renewal_gap n + NEEDED_MOST
 
 -- no more are loaded than before
-pub room_left : (slots after : SlotState) (view new_view : SessionsView) → SessionsStand slots view [] → SessionsStand after new_view [] → new_view.next ≡ view.next
+pub room_left : (slots after : SlotState) (view new_view : SessionsView) → SessionsStand slots view [] → SessionsStand after new_view []
+    → new_view.numbers ≡ view.numbers → new_view.next ≡ view.next
     → oldest_number new_view.items ≡ oldest_number view.items → loaded_items new_view.items ≤ loaded_items view.items → HasGapRoom (Some slots) → HasGapRoom (Some after)
-room_left slots after view new_view stand new next oldest fewer room =
-    omega (
+room_left slots after view new_view stand new same next oldest fewer room =
+    let full = slots.numbers.loaded in
+    subst (λ (n : Numbers). HasRoomOf after n) (numbers_over slots after view new_view stand new same)
+    (omega (
       arith,
       room,
       gap_over slots after view new_view stand new next oldest,
-      not_full (loaded_count after.sessions) (loaded_count slots.sessions) (loaded_count slots.sessions == LOADED_SESSIONS) refl
+      not_full full (loaded_count after.sessions) (loaded_count slots.sessions) (loaded_count slots.sessions == full) refl
           (omega (arith, fewer, loaded_told slots view stand, loaded_told after new_view new)) stand.sound.loaded,
-    )
+    ))
 
 -- one more may be, where the gap has the room
-pub room_more : (slots after : SlotState) (view new_view : SessionsView) → SessionsStand slots view [] → SessionsStand after new_view [] → new_view.next ≡ view.next
-    → oldest_number new_view.items ≡ oldest_number view.items → gap_of slots < RENEWAL_GAP + LOADED_SESSIONS → HasGapRoom (Some after)
-room_more slots after view new_view stand new next oldest room =
-    omega (arith, room, gap_over slots after view new_view stand new next oldest, flag_full (loaded_count after.sessions))
+pub room_more : (slots after : SlotState) (view new_view : SessionsView) → SessionsStand slots view [] → SessionsStand after new_view []
+    → new_view.numbers ≡ view.numbers → new_view.next ≡ view.next
+    → oldest_number new_view.items ≡ oldest_number view.items → gap_of slots < renewal_gap slots.numbers + NEEDED_MOST → HasGapRoom (Some after)
+room_more slots after view new_view stand new same next oldest room =
+    subst (λ (n : Numbers). HasRoomOf after n) (numbers_over slots after view new_view stand new same)
+    (omega (
+      arith,
+      room,
+      gap_over slots after view new_view stand new next oldest,
+      flag_most (loaded_count after.sessions == slots.numbers.loaded),
+    ))
 
 pub without_oldest : (items : List (Option Item)) (client handle : ℕ) → IsOwn items client handle
     → oldest_number (set items (number_of_session handle) None) ≡ oldest_number items
@@ -201,6 +219,6 @@ pub room_ended : (slots after : SlotState) (view : SessionsView) (client handle 
     → SessionsStand after (record view { items = items_ended view.items handle ended }) [] → (ended ≡ true → IsOwn view.items client handle)
     → HasGapRoom (Some slots) → HasGapRoom (Some after)
 room_ended slots after view client handle true stand new own room =
-    room_left slots after view (record view { items = set view.items (number_of_session handle) None }) stand new refl
+    room_left slots after view (record view { items = set view.items (number_of_session handle) None }) stand new refl refl
     (without_oldest view.items client handle (own refl)) (without_loaded view.items client handle (own refl)) room
-room_ended slots after view client handle false stand new own room = room_left slots after view view stand new refl refl (omega arith) room
+room_ended slots after view client handle false stand new own room = room_left slots after view view stand new refl refl refl (omega arith) room

@@ -1,6 +1,6 @@
 -- How the objects stand over a call that changes sessions alone, and the sessions over one that changes objects alone.
-use Rattle.std.proofs.Common.{◌≡◌, ℕ, Bool, List, [], ◌∷◌, get_or, map, refl, ap, sym, ◌∙◌, subst, arith}
-use Rattle.std.specs.Prelude.{Option, Some, None, is_some}
+use Rattle.std.proofs.Common.{◌≡◌, ℕ, Bool, List, [], ◌∷◌, get_or, map, refl, ap, sym, ◌∙◌, subst}
+use Rattle.std.specs.Prelude.{◌+◌, ◌<◌, Option, Some, None, IfSome, is_some}
 use Rattle.tab_spec.specs.Object.{Object}
 use Rattle.tab_spec.specs.Session.{Session}
 use Rattle.device_spec.specs.Slots.{IsSlots, SessionPlace, SlotState, gap_of, inactive, object_at}
@@ -8,7 +8,8 @@ use Rattle.device_port.specs.Device.{Seen}
 use Rattle.object_swap.specs.Items as objects
 use Rattle.object_swap.specs.Items.{Item, ItemStands, ObjectsStand, ObjectsView, item_at, item_object, taken, without_objects}
 use Rattle.session_swap.specs.Items as sessions
-use Rattle.session_swap.specs.Items.{AreAlike, HasGapRoom, Holder, SessionsStand, SessionsView, holder_of, holders, item_session, without_sessions}
+use Rattle.session_swap.specs.Items.{AreAlike, HasGapRoom, Holder, SessionsStand, SessionsView, holder_of, holders, item_session, renewal_gap, without_sessions}
+use Rattle.session_swap.specs.declared.TheConstants.{NEEDED_MOST}
 use Rattle.session_swap.proofs.Standing.{alike_same, stands_changed}
 use Rattle.world_laws.proofs.Histories.{each-weaker}
 use Rattle.world_spec.specs.World.{Owned}
@@ -171,16 +172,19 @@ counter_over_objects None (Some after) same = absurd cc
 counter_over_objects (Some slots) None same = absurd cc
 counter_over_objects (Some slots) (Some after) same = ap (λ (s : SlotState). s.counter) (some_same same)
 
-pub gap_over_objects : (old new : Option SlotState) → objects.rest_of new ≡ objects.rest_of old → sessions.gap_in new ≡ sessions.gap_in old
-gap_over_objects None None same = refl
-gap_over_objects None (Some after) same = absurd cc
-gap_over_objects (Some slots) None same = absurd cc
-gap_over_objects (Some slots) (Some after) same = ap gap_of (some_same same)
+abbrev IsBelow : SlotState → Type 0
+IsBelow slots = gap_of slots < renewal_gap slots.numbers + NEEDED_MOST
+
+pub gap_over_objects : (old new : Option SlotState) → objects.rest_of new ≡ objects.rest_of old → IfSome old (λ slots. IsBelow slots) → IfSome new (λ slots. IsBelow slots)
+gap_over_objects old None same less = tt
+gap_over_objects None (Some after) same less = absurd cc
+gap_over_objects (Some slots) (Some after) same less = subst IsBelow (sym (some_same same)) less
 
 pub narrow_over_objects : (old new : Option SlotState) → objects.rest_of new ≡ objects.rest_of old → sessions.IsNarrow old → sessions.IsNarrow new
 narrow_over_objects old None same narrow = tt
 narrow_over_objects None (Some after) same narrow = absurd cc
-narrow_over_objects (Some slots) (Some after) same narrow = omega (arith, narrow, ap gap_of (some_same same))
+narrow_over_objects (Some slots) (Some after) same narrow =
+    subst (λ (s : SlotState). sessions.IsNarrow (Some s)) (sym (some_same same)) narrow
 
 session_seen : (slots : SlotState) (item : Option sessions.Item) → item_session (without_objects slots) item ≡ item_session slots item
 session_seen slots None = refl
@@ -198,7 +202,7 @@ pub stand_over_objects : (slots after : SlotState) (view : SessionsView) (others
 stand_over_objects slots after view others same sound stand =
     let places : after.sessions ≡ slots.sessions = ap (λ (s : SlotState). s.sessions) same in
     stands_changed slots after view others stand (ap (λ (s : SlotState). s.started) same ∙ stand.started) sound
-    (ap (λ (s : SlotState). s.counter) same) (ap (λ (s : SlotState). s.persist.seed) same)
+    (ap (λ (s : SlotState). s.counter) same) (ap (λ (s : SlotState). s.persist.seed) same) (ap (λ (s : SlotState). s.numbers) same)
     (λ number.
     subst (λ (l : List SessionPlace). AreAlike (get_or slots.sessions number inactive) (get_or l number inactive)) (sym places)
     (alike_same (get_or slots.sessions number inactive)))

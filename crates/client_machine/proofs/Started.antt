@@ -1,9 +1,9 @@
 -- A session that a client's command started: the device gives it a number that no session has, and it becomes an item under its handle.
 use Rattle.std.proofs.Common.{◌≡◌, ◌+◌, ◌*◌, ◌^◌, ◌<◌, ◌≤◌, ℕ, suc, Bool, true, false, List, [], ◌∷◌, length, get_or, set, refl, ap, sym, ◌∙◌, arith}
-use Rattle.std.specs.Prelude.{◌==◌, ◌&&◌, not, nat_lt, Option, Some, None, is_some, IfSome, if◌then◌else◌}
-use Rattle.std.specs.List.{list_any}
-use Rattle.std.proofs.lemmas.Bool.{le-ltb, lt-ltb}
-use Rattle.tab_spec.specs.declared.TheConstants.{ACTIVE_SESSIONS, HEADER_BYTES, LOADED_SESSIONS}
+use Rattle.std.specs.Prelude.{◌==◌, ◌&&◌, ◌||◌, not, nat_le, nat_lt, Option, Some, None, is_some, IfSome, if◌then◌else◌}
+use Rattle.std.specs.List.{count_by, list_any}
+use Rattle.std.proofs.lemmas.Bool.{le-ltb, leb-false, lt-leb, lt-ltb, or_parts}
+use Rattle.tab_spec.specs.declared.TheConstants.{HEADER_BYTES, SESSION_NUMBERS}
 use Rattle.tab_spec.specs.declared.SessionKind.{SessionKind}
 use Rattle.tab_spec.specs.declared.SessionKind.TheVariants as kinds
 use Rattle.tab_spec.specs.Admission.{is_session_handle}
@@ -13,8 +13,8 @@ use Rattle.effect_spec.specs.Operands.{Operand, Operands, a_session, absent, an_
 use Rattle.device_spec.specs.Answers.{is_word, word_at}
 use Rattle.device_spec.specs.Slots.{IsSlots, SessionPlace, SlotState, free_number, gap_of, inactive, is_active, loaded, saved}
 use Rattle.client_laws.specs.Ready.{AreAmong, IsAmong}
-use Rattle.session_swap.specs.declared.TheConstants.{RENEWAL_GAP}
-use Rattle.session_swap.specs.Items.{HasGapRoom, Item, SessionsStand, SessionsView, flag, item_at, new_item, place_at}
+use Rattle.session_swap.specs.declared.TheConstants.{NEEDED_MOST}
+use Rattle.session_swap.specs.Items.{HasGapRoom, Item, SessionsStand, SessionsView, flag, has_owner, item_at, new_item, place_at, renewal_gap}
 use Rattle.session_swap.proofs.Standing.{stands_begun}
 use Rattle.history_laws.proofs.Tables.{get_or_mapped}
 use Rattle.world_spec.specs.World.{Owned, is_unused, own_place}
@@ -83,7 +83,7 @@ made_of octet number few small = record {
   number_is = omega (arith, few, small);
 }
 
-pub new_handle : (kind : SessionKind) (places : List SessionPlace) → length places ≡ ACTIVE_SESSIONS
+pub new_handle : (kind : SessionKind) (places : List SessionPlace) → length places ≡ SESSION_NUMBERS
     → IsMadeOf (kind_octet kind * 2 ^ 24 + free_number places) (kind_octet kind) (free_number places)
 new_handle kind places long = made_of (kind_octet kind) (free_number places) (octet_small kind) (omega (arith, free_most places, long))
 
@@ -104,18 +104,39 @@ word_by low word is = rw is refl
 word_told : (reply : List ℕ) → 14 ≤ length reply → word_at HEADER_BYTES reply ≡ Some (told_handle reply)
 word_told reply long = word_by (nat_lt (length reply) 14) (told_handle reply) (le-ltb (length reply) 14 long)
 
-pub taken_told : (items : List (Option Item)) (reply : List ℕ) → 14 ≤ length reply
-    → number_taken items reply ≡ is_some (item_at items (number_of_session (told_handle reply)))
-taken_told items reply long =
-    ap (is_word (λ (handle : ℕ). is_some (item_at items (number_of_session handle)))) (word_told reply long)
+-- whether no new session can have this handle
+abbrev is_taken : SessionsView → ℕ → Bool
+is_taken view handle = nat_le view.numbers.active (count_by has_owner view.items) || is_some (item_at view.items (number_of_session handle))
+
+taken_told : (view : SessionsView) (reply : List ℕ) → 14 ≤ length reply → number_taken view reply ≡ is_taken view (told_handle reply)
+taken_told view reply long = ap (is_word (is_taken view)) (word_told reply long)
+
+neither : (one other : Bool) → one ≡ false → other ≡ false → (one || other) ≡ false
+neither one other is also = rw (is, also) refl
+
+-- one that is under no session's number can, where clients have fewer than may be active
+pub free_told : (view : SessionsView) (reply : List ℕ) → 14 ≤ length reply → count_by has_owner view.items < view.numbers.active
+    → item_at view.items (number_of_session (told_handle reply)) ≡ None → number_taken view reply ≡ false
+free_told view reply long few none =
+    taken_told view reply long
+    ∙ neither (nat_le view.numbers.active (count_by has_owner view.items)) (is_some (item_at view.items (number_of_session (told_handle reply))))
+    (lt-leb view.numbers.active (count_by has_owner view.items) few) (ap (λ (item : Option Item). is_some item) none)
 
 none_by : (item : Option Item) → is_some item ≡ false → item ≡ None
 none_by None is = refl
 none_by (Some item) is = absurd cc
 
-pub none_told : (items : List (Option Item)) (reply : List ℕ) → 14 ≤ length reply → number_taken items reply ≡ false
-    → item_at items (number_of_session (told_handle reply)) ≡ None
-none_told items reply long free = none_by (item_at items (number_of_session (told_handle reply))) (sym (taken_told items reply long) ∙ free)
+-- and then it is so
+pub record IsFree (view : SessionsView) (handle : ℕ) : Type 0 where
+  pub few : count_by has_owner view.items < view.numbers.active
+  pub none : item_at view.items (number_of_session handle) ≡ None
+
+pub none_told : (view : SessionsView) (reply : List ℕ) → 14 ≤ length reply → number_taken view reply ≡ false → IsFree view (told_handle reply)
+none_told view reply long free =
+    let item = item_at view.items (number_of_session (told_handle reply)) in
+    let owned = count_by has_owner view.items in
+    let parts = or_parts (nat_le view.numbers.active owned) (is_some item) (sym (taken_told view reply long) ∙ free) in
+    record { few = leb-false view.numbers.active owned parts.0; none = none_by item parts.1 }
 
 -- ---- it becomes an item
 
@@ -131,20 +152,21 @@ pub record Started (slots after : SlotState) (view : SessionsView) (client handl
   pub unused : is_unused (sessions_in slots view.items) (number_of_session handle) ≡ true
 
 pub started : (slots after : SlotState) (view : SessionsView) (client handle : ℕ) (s : Session) → SessionsStand slots view [] → after.started ≡ true → IsSlots after
-    → after.counter ≡ slots.counter → after.persist.seed ≡ slots.persist.seed → is_session_handle handle ≡ true → number_of_session handle < ACTIVE_SESSIONS
+    → after.counter ≡ slots.counter → after.persist.seed ≡ slots.persist.seed → after.numbers ≡ slots.numbers
+    → is_session_handle handle ≡ true → number_of_session handle < SESSION_NUMBERS
     → place_at slots (number_of_session handle) ≡ inactive → after.sessions ≡ set slots.sessions (number_of_session handle) (loaded (octet_of handle) s)
-    → gap_of slots < RENEWAL_GAP + LOADED_SESSIONS → Started slots after view client handle s
-started slots after view client handle s stand is_started sound counter seed session fits free sessions gap =
+    → gap_of slots < renewal_gap slots.numbers + NEEDED_MOST → Started slots after view client handle s
+started slots after view client handle s stand is_started sound counter seed numbers session fits free sessions gap =
     let number = number_of_session handle in
     let none = unused_item slots view number stand free in
-    let new = stands_begun slots after view [] client handle s stand is_started sound counter seed none session fits free sessions in
+    let new = stands_begun slots after view [] client handle s stand is_started sound counter seed numbers none session fits free sessions in
     record {
       stand = new;
-      gap = room_more slots after view (record view { items = set view.items number (Some (new_item client handle)) }) stand new refl
+      gap = room_more slots after view (record view { items = set view.items number (Some (new_item client handle)) }) stand new refl refl
           (with_oldest view.items client handle none (omega (arith, fits, stand.count))) gap;
       sessions = sessions_with slots after view.items client handle s seed sessions (numbered slots view [] stand)
           (omega (arith, fits, stand.sound.numbers));
-      unused = unused_here (nat_lt number ACTIVE_SESSIONS) (is_some (get_or (sessions_in slots view.items) number None))
-          (lt-ltb number ACTIVE_SESSIONS fits)
+      unused = unused_here (nat_lt number SESSION_NUMBERS) (is_some (get_or (sessions_in slots view.items) number None))
+          (lt-ltb number SESSION_NUMBERS fits)
           (ap (λ (o : Option Owned). is_some o) (get_or_mapped (owned_in slots) view.items number refl ∙ ap (owned_in slots) none));
     }

@@ -3,7 +3,7 @@ use Rattle.std.proofs.Common.{◌≡◌, ◌≤◌, ◌<◌, ◌+◌, ◌⊎◌,
 use Rattle.std.specs.Prelude.{Option, Some, None, if◌then◌else◌}
 use Rattle.std.specs.List.{count_by}
 use Rattle.std.proofs.lemmas.Option.{none-some}
-use Rattle.tab_spec.specs.declared.TheConstants.{LOADED_SESSIONS}
+use Rattle.tab_spec.specs.declared.numbers.Numbers.{Numbers}
 use Rattle.tab_spec.specs.declared.Admitted.{Admitted}
 use Rattle.tab_spec.specs.Shape.{number_of_session}
 use Rattle.effect_spec.specs.Operands.{command_auth}
@@ -12,7 +12,7 @@ use Rattle.client_laws.specs.Ready.{ends_session, tells_session}
 use Rattle.object_swap.specs.Items.{Item, ObjectsView, is_resident, is_vacant, item_at, no_item, residents}
 use Rattle.session_swap.specs.Items as sessions
 use Rattle.session_swap.specs.Items.{SessionsView, is_loaded_item, loaded_items, number_of_item, oldest_number, saved_by_client}
-use Rattle.session_swap.proofs.Counts.{count_cons, flag_false, flag_most, flag_true}
+use Rattle.session_swap.proofs.Counts.{count_cons, flag_most, flag_true}
 use Rattle.session_swap.proofs.Numbers.{oldest_less}
 use Rattle.client_machine.specs.declared.held.Held.{Held}
 use Rattle.client_machine.specs.Costs.{StaysIn}
@@ -42,18 +42,6 @@ count_one_less : {X : Type 0} (p : X → Bool) (xs : List X) (n : ℕ) (y : X) �
 count_one_less p [] n y = omega arith
 count_one_less p (x ∷ xs) zero y = omega (arith, count_cons p x xs, count_cons p y xs, flag_most (p x))
 count_one_less p (x ∷ xs) (suc n) y = omega (arith, count_cons p x xs, count_cons p x (set xs n y), count_one_less p xs n y)
-
-count_within : {X : Type 0} (p : X → Bool) (xs : List X) → count_by p xs ≤ length xs
-count_within p [] = omega arith
-count_within p (x ∷ xs) = omega (arith, count_cons p x xs, flag_most (p x), count_within p xs)
-
--- fewer than all, where one doesn't
-pub count_short : {X : Type 0} (p : X → Bool) (xs : List X) (n : ℕ) (d : X) → n < length xs → p (get_or xs n d) ≡ false
-    → count_by p xs < length xs
-count_short p [] n d inside not = absurd (omega (arith, inside))
-count_short p (x ∷ xs) zero d inside not = omega (arith, count_cons p x xs, flag_false (p x) not, count_within p xs)
-count_short p (x ∷ xs) (suc n) d inside not =
-    omega (arith, count_cons p x xs, flag_most (p x), count_short p xs n d (omega (arith, inside)) not)
 
 -- ---- what is gone
 
@@ -139,10 +127,11 @@ gone_then held between new_held first second = record {
 -- ---- what stays before a command
 
 -- a session of this number is loaded, or gone, or the places are full
-abbrev StaysLoaded : ℕ → ℕ → List (Option sessions.Item) → Type 0
-StaysLoaded places number items =
-    (is_loaded_item (sessions.item_at items number) ≡ true)
-    ⊎ ((sessions.item_at items number ≡ None) ⊎ ((◌≡◌ {A = Option ℕ} None (Some number)) ⊎ (LOADED_SESSIONS ≤ loaded_items items + places)))
+abbrev StaysLoaded : ℕ → ℕ → SessionsView → Type 0
+StaysLoaded places number view =
+    (is_loaded_item (sessions.item_at view.items number) ≡ true)
+    ⊎ ((sessions.item_at view.items number ≡ None)
+    ⊎ ((◌≡◌ {A = Option ℕ} None (Some number)) ⊎ (view.numbers.loaded ≤ loaded_items view.items + places)))
 
 -- where what was nobody's is gone, then sessions were moved, then objects
 pub prepared_stays : {slots places : ℕ} (held cleared between new_held : Held) (most : ℕ) → slots ≤ most → Loses held cleared
@@ -163,7 +152,7 @@ prepared_stays {places = places} held cleared between new_held most few loses lo
         | inr vacant ↦ inr (inl (gone.objects index (ended.objects index vacant)))
       ];
   sessions = λ number here.
-      subst (λ (v : SessionsView). StaysLoaded places number v.items) (sym sessions_are)
+      subst (StaysLoaded places number) (sym sessions_are)
       (elim (loses.sessions number) [
         | inl same ↦ loaded.sessions number (ap is_loaded_item same ∙ here)
         | inr none ↦ inr (inl (ended.sessions number none))
@@ -208,10 +197,10 @@ pub record KeepsLoaded (places : ℕ) (saves : Option ℕ) (items new_items : Li
       → (is_loaded_item (sessions.item_at new_items number) ≡ true) ⊎ ((sessions.item_at new_items number ≡ None) ⊎ (saves ≡ Some number))
   pub gone : (number : ℕ) → sessions.item_at items number ≡ None
       → (is_loaded_item (sessions.item_at new_items number) ≡ true) ⊎ (sessions.item_at new_items number ≡ None)
-  pub full : LOADED_SESSIONS ≤ loaded_items items + places → LOADED_SESSIONS ≤ loaded_items new_items + 1
+  pub full : loaded_items items + places ≤ loaded_items new_items + 1
 
 pub loaded_same : (places : ℕ) (saves : Option ℕ) (items : List (Option sessions.Item)) → places ≤ 1 → KeepsLoaded places saves items items
-loaded_same places saves items few = record { loaded = λ number is. inl is; gone = λ number none. inr none; full = λ full. omega (arith, full, few) }
+loaded_same places saves items few = record { loaded = λ number is. inl is; gone = λ number none. inr none; full = omega (arith, few) }
 
 -- one was started
 loaded_with : (places : ℕ) (saves : Option ℕ) (items : List (Option sessions.Item)) (n : ℕ) (item : Option sessions.Item) → places ≤ 1
@@ -227,7 +216,7 @@ loaded_with places saves items n item few is = record {
         | inl same ↦ inr (same ∙ none)
         | inr here ↦ inl (ap is_loaded_item here.1 ∙ is)
       ];
-  full = λ full. omega (arith, full, few, count_no_less is_loaded_item items n item is);
+  full = omega (arith, few, count_no_less is_loaded_item items n item is);
 }
 
 -- one ended
@@ -244,7 +233,7 @@ loaded_without places saves items n unfree = record {
         | inl same ↦ inr (same ∙ none)
         | inr here ↦ inr here.1
       ];
-  full = λ full. omega (arith, full, unfree, count_one_less is_loaded_item items n None);
+  full = omega (arith, unfree, count_one_less is_loaded_item items n None);
 }
 
 -- one was saved for its client
@@ -264,7 +253,7 @@ loaded_saved places items new_items n context unfree are =
             | inl same ↦ inr (same ∙ none)
             | inr here ↦ inr (here.1 ∙ ap (saved_by_client context) (ap (sessions.item_at items) (sym here.0) ∙ none))
           ];
-      full = λ full. omega (arith, full, unfree, count_one_less is_loaded_item items n item);
+      full = omega (arith, unfree, count_one_less is_loaded_item items n item);
     })
 
 kept_by : (P : List (Option sessions.Item) → Type 0) (starts ends saves : Bool) (items started ended saved : List (Option sessions.Item)) → saves ≡ false
@@ -287,8 +276,8 @@ loaded_after places saves client a answer items none few last =
 -- what stayed before a command and stays over it
 pub stays_over : (held mid new_held : Held) (places : ℕ) (saves : Option ℕ) → StaysIn 1 places None held mid
     → KeepsResidents mid.objects.items new_held.objects.items → new_held.objects.slots ≡ mid.objects.slots
-    → KeepsLoaded places saves mid.sessions.items new_held.sessions.items → StaysIn 1 1 saves held new_held
-stays_over held mid new_held places saves stays residents slots_are loaded = record {
+    → new_held.sessions.numbers ≡ mid.sessions.numbers → KeepsLoaded places saves mid.sessions.items new_held.sessions.items → StaysIn 1 1 saves held new_held
+stays_over held mid new_held places saves stays residents slots_are numbers loaded = record {
   objects = λ index resident.
       elim (stays.objects index resident) [
         | inl still ↦ inl (residents.resident index still)
@@ -310,7 +299,7 @@ stays_over held mid new_held places saves stays residents slots_are loaded = rec
           | inr gone ↦ inr (inl gone)
         ]
         | inr (inr (inl never)) ↦ absurd (none-some number never)
-        | inr (inr (inr full)) ↦ inr (inr (inr (loaded.full full)))
+        | inr (inr (inr full)) ↦ inr (inr (inr (omega (arith, full, loaded.full, ap (λ (n : Numbers). n.loaded) numbers))))
       ];
 }
 

@@ -12,7 +12,7 @@ use Rattle.tab_spec.specs.Values.{Reading, then_read}
 use Rattle.effect_spec.specs.Contexts.{Context, context_of}
 use Rattle.device_spec.specs.Answers.{answer_area, fits_handle, has_response_handle, is_context, is_context_of, is_error_form, is_success_form, is_whole, is_word, lists_handles, may_refuse, takes, word_at}
 use Rattle.client_laws.specs.Ready.{is_sent, starts_session}
-use Rattle.session_swap.specs.Items.{Item}
+use Rattle.session_swap.specs.Items.{SessionsView}
 use Rattle.world_spec.specs.World.{save_parameters}
 use Rattle.client_machine.specs.Replies.{nothing_told, own_answer, reply_of}
 
@@ -97,12 +97,12 @@ nothing_read params some = cond-false (length params == 0) (Ok 0) (Err RC_SIZE) 
 pub own_save : (save load : Bool) (saved loaded told : Result (List ℕ) ℕ) → save ≡ true → (if save then saved else if load then loaded else told) ≡ saved
 own_save save load saved loaded told is = rw is refl
 
-pub save_refused : (client : ℕ) (table : List (Option ℕ)) (items : List (Option Item)) (a : Admitted) (bytes reply : List ℕ) → is_sent a bytes ≡ false
-    → (a.shape.row.code == CC_CONTEXT_SAVE) ≡ true → ((persist : Persist) → reply ≡ reply_of (own_answer persist client table items a bytes))
+pub save_refused : (client : ℕ) (table : List (Option ℕ)) (view : SessionsView) (a : Admitted) (bytes reply : List ℕ) → is_sent a bytes ≡ false
+    → (a.shape.row.code == CC_CONTEXT_SAVE) ≡ true → ((persist : Persist) → reply ≡ reply_of (own_answer persist client table view a bytes))
     → (code_of reply == RC_SUCCESS) ≡ false
-save_refused client table items a bytes reply unsent is reply_is =
+save_refused client table view a bytes reply unsent is reply_is =
     let params = drop a.auths.params bytes in
-    let answer : own_answer (fresh_persist []) client table items a bytes ≡ Err RC_SIZE =
+    let answer : own_answer (fresh_persist []) client table view a bytes ≡ Err RC_SIZE =
     own_save (a.shape.row.code == CC_CONTEXT_SAVE) (a.shape.row.code == CC_CONTEXT_LOAD) (nothing_told (save_parameters params)) _ _ is
     ∙ ap nothing_told (nothing_read params (something_follows a bytes unsent is)) in
     ap (λ (reply : List ℕ). code_of reply == RC_SUCCESS) (reply_is (fresh_persist []) ∙ ap reply_of answer)

@@ -1,15 +1,15 @@
 -- What calls send at the most, and what stays in the device, by what is kept beside it: so over every device.
 use Rattle.std.specs.Prelude.{◌≡◌, ◌≤◌, ◌⊎◌, ℕ, ◌+◌, ◌*◌, ◌&&◌, nat_lt, true, List, Option, Some, None, if◌then◌else◌}
 use Rattle.std.specs.List.{count_by}
-use Rattle.tab_spec.specs.declared.TheConstants.{ACTIVE_SESSIONS, LOADED_SESSIONS}
+use Rattle.tab_spec.specs.declared.TheConstants.{SESSION_NUMBERS}
+use Rattle.tab_spec.specs.declared.numbers.Numbers.{Numbers}
 use Rattle.tab_spec.specs.declared.Admitted.{Admitted}
 use Rattle.client_laws.specs.Ready.{starts_session}
 use Rattle.device_port.specs.Device.{Seen, sent_of}
 use Rattle.object_swap.specs.Items as objects
 use Rattle.object_swap.specs.Items.{Item, is_client, is_resident, is_vacant, residents}
 use Rattle.session_swap.specs.Items as sessions
-use Rattle.session_swap.specs.Items.{is_loaded_item, is_owned, loaded_items}
-use Rattle.session_swap.specs.declared.TheConstants.{RENEWAL_GAP}
+use Rattle.session_swap.specs.Items.{is_loaded_item, is_owned, loaded_items, renewal_gap}
 use Rattle.client_machine.specs.declared.held.Held.{Held}
 
 -- no more than so many commands were sent
@@ -17,12 +17,12 @@ abbrev pub SendsUpTo : {D : Type 0} (seen : D → Seen) → ℕ → (old new : D
 SendsUpTo seen most old new = sent_of (seen new) ≤ sent_of (seen old) + most
 
 -- what closes a gap that is due: two commands for each session that may be saved, and one to free a place
-abbrev pub renewal_bound : ℕ → ℕ
-renewal_bound gap = if nat_lt gap RENEWAL_GAP then 0 else 2 * ACTIVE_SESSIONS + 1
+abbrev pub renewal_bound : (gap : ℕ) → Numbers → ℕ
+renewal_bound gap numbers = if nat_lt gap (renewal_gap numbers) then 0 else 2 * SESSION_NUMBERS + 1
 
 -- what one command of a client costs, where so many things are nobody's and the gap is so large
-abbrev pub new_bound : (orphans gap : ℕ) → ℕ
-new_bound orphans gap = 13 + orphans + renewal_bound gap
+abbrev pub new_bound : (orphans gap : ℕ) → Numbers → ℕ
+new_bound orphans gap numbers = 13 + orphans + renewal_bound gap numbers
 
 -- What is in a slot stays there, unless it is gone, or no more than so many slots are free. A loaded session stays loaded, unless it is
 -- gone, or the command saves the session of this number for its client, or no more than so many places are free
@@ -34,7 +34,7 @@ pub record StaysIn (slots places : ℕ) (saves : Option ℕ) (held new_held : He
   pub sessions : (number : ℕ) → is_loaded_item (sessions.item_at held.sessions.items number) ≡ true
       → (is_loaded_item (sessions.item_at new_held.sessions.items number) ≡ true)
       ⊎ ((sessions.item_at new_held.sessions.items number ≡ None) ⊎ ((saves ≡ Some number)
-      ⊎ (LOADED_SESSIONS ≤ loaded_items new_held.sessions.items + places)))
+      ⊎ (new_held.sessions.numbers.loaded ≤ loaded_items new_held.sessions.items + places)))
 
 -- how many places a command may leave free beside that: one where it starts a session
 abbrev pub places_of : Admitted → ℕ

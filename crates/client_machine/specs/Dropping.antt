@@ -16,7 +16,7 @@ use Rattle.client_machine.specs.Moves.{CountsOnBy, GainsNone, Keeps, KeepsObject
 use Rattle.client_machine.specs.Settled.{Settled, orphan_count, sessions_in}
 use Rattle.client_machine.specs.Tables.{AreOpenOwners}
 
--- each that is left to nobody has a failed transmission of its own, where these are still counted
+-- no more are left to nobody than transmissions failed, where these are still counted
 abbrev pub AreLeftByFaults : (nobodys faults new_nobodys new_faults : ℕ) → Type 0
 AreLeftByFaults nobodys faults new_nobodys new_faults = (new_nobodys + faults ≤ nobodys + new_faults) ⊎ (largest_count ≤ new_faults)
 
@@ -45,6 +45,7 @@ pub record SendsFlushes {D : Type 0} (seen : D → Seen) (old new : D) (wrong : 
 pub record Disowns {D A : Type 0} (seen : D → Seen) (old new : D) (held new_held : Held) (result : Result A ℕ) : Type 0 where
   pub keeps : Keeps seen old new
   pub slots : new_held.objects.slots ≡ held.objects.slots
+  pub numbers : new_held.sessions.numbers ≡ held.sessions.numbers
   pub length_is : length new_held.objects.items ≡ length held.objects.items
   pub lists : OnErr result (new_held.objects.owners ≡ held.objects.owners)
   pub left : AreLeftByFaults (orphan_count held) (seen old).faults (orphan_count new_held) (seen new).faults
@@ -74,11 +75,12 @@ pub record Drops {D : Type 0} (seen : D → Seen)
   pub orphans : orphan_count new_held ≡ orphan_count held + failed
   -- what others left isn't flushed in their place
   pub left : LeavesMore failed held.objects.left new_held.objects.left
-  -- each of these has a failed transmission of its own
+  -- no more than transmissions failed
   pub failures : (failed + (seen old).faults ≤ (seen new).faults) ⊎ (largest_count ≤ (seen new).faults)
   -- nothing was sent, or the last response was taken
   pub right : (new ≡ old) ⊎ IsRight (asked_of (seen new)) (last_of (seen new))
   pub slots : new_held.objects.slots ≡ held.objects.slots
+  pub numbers : new_held.sessions.numbers ≡ held.sessions.numbers
   pub length_is : length new_held.objects.items ≡ length held.objects.items
 
 -- one object of the client's

@@ -6,7 +6,7 @@ use Rattle.std.specs.Prelude.{ℕ, zero, suc, ◌+◌, ◌*◌, ◌^◌, ◌==�
 use Rattle.std.specs.Option.{option_or}
 use Rattle.std.proofs.lemmas.List.{length-replicate, length-take}
 use Rattle.std.proofs.lemmas.Nat.{mod_low}
-use Rattle.tab_spec.specs.declared.TheConstants.{ACTIVE_SESSIONS, HT_HMAC_SESSION, HT_POLICY_SESSION, TRANSIENT_FIRST}
+use Rattle.tab_spec.specs.declared.TheConstants.{HT_HMAC_SESSION, HT_POLICY_SESSION, SESSION_NUMBERS, TRANSIENT_FIRST}
 use Rattle.tab_spec.specs.Shape.{number_of_session}
 use Rattle.effect_spec.specs.Capabilities.{Listed, transient_from}
 use Rattle.fx_capability.specs.Lists.{all_below, rises_from, session_numbers}
@@ -47,7 +47,7 @@ listed_from listed zero number = []
 listed_from listed (suc left) number = with_listed (listed number) (listed_from listed left (number + 1))
 
 unfoldable pub sessions_had : ℕ → List (Option Item) → List Listed
-sessions_had client items = listed_from (listed_number client items) ACTIVE_SESSIONS 0
+sessions_had client items = listed_from (listed_number client items) SESSION_NUMBERS 0
 
 -- ---- the handles of objects
 
@@ -139,8 +139,8 @@ numbers_fit listed count all within =
 
 pub sessions_rise : (client : ℕ) (items : List (Option Item)) → rises_from 0 (session_numbers (sessions_had client items)) ≡ true
 unfolding sessions_had
-sessions_rise client items = numbers_rise (listed_number client items) ACTIVE_SESSIONS (are_numbered client items) (lit≤ tt)
+sessions_rise client items = numbers_rise (listed_number client items) SESSION_NUMBERS (are_numbered client items) (lit≤ tt)
 
-pub sessions_fit : (client : ℕ) (items : List (Option Item)) → all_below ACTIVE_SESSIONS (session_numbers (sessions_had client items)) ≡ true
+pub sessions_fit : (client : ℕ) (items : List (Option Item)) → all_below SESSION_NUMBERS (session_numbers (sessions_had client items)) ≡ true
 unfolding sessions_had
-sessions_fit client items = numbers_fit (listed_number client items) ACTIVE_SESSIONS (are_numbered client items) (lit≤ tt)
+sessions_fit client items = numbers_fit (listed_number client items) SESSION_NUMBERS (are_numbered client items) (lit≤ tt)

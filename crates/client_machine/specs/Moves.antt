@@ -1,12 +1,13 @@
 -- What the calls on the device, the objects and the sessions do for one client, and what they leave to the others.
-use Rattle.std.specs.Prelude.{◌≡◌, ◌≤◌, ◌⊎◌, ℕ, ◌+◌, ◌-◌, ◌<◌, ◌==◌, ◌&&◌, not, nat_lt, Bool, true, false, List, [], ◌∷◌, ◌++◌, length, take, drop, set, get_or, Option, Some, None, is_some, IsSome, Result, Ok, Err, IfErr, IfSome, OnErr, OnOk, if◌then◌else◌}
+use Rattle.std.specs.Prelude.{◌≡◌, ◌≤◌, ◌⊎◌, ℕ, ◌+◌, ◌-◌, ◌<◌, ◌==◌, ◌&&◌, ◌||◌, not, nat_le, nat_lt, Bool, true, false, List, [], ◌∷◌, ◌++◌, length, take, drop, set, get_or, Option, Some, None, is_some, IsSome, Result, Ok, Err, IfErr, IfSome, OnErr, OnOk, if◌then◌else◌}
 use Rattle.std.specs.List.{AllByRecursion, count_by, list_any}
 use Rattle.std.specs.Int.{w32, from_be_bytes}
-use Rattle.tab_spec.specs.declared.TheConstants.{ACTIVE_SESSIONS, CC_CONTEXT_LOAD, CC_CONTEXT_SAVE, CC_FLUSH_CONTEXT, CONTEXT_LIMIT, HEADER_BYTES, HT_TRANSIENT, LOADED_SESSIONS, OBJECT_SLOTS, RC_SUCCESS, ST_NO_SESSIONS, TRANSIENT_FIRST}
+use Rattle.tab_spec.specs.declared.TheConstants.{CC_CONTEXT_LOAD, CC_CONTEXT_SAVE, CC_FLUSH_CONTEXT, CONTEXT_LIMIT, HEADER_BYTES, HT_TRANSIENT, RC_SUCCESS, SESSION_NUMBERS, ST_NO_SESSIONS, TRANSIENT_FIRST}
 use Rattle.tab_spec.specs.declared.Admitted.{Admitted}
 use Rattle.tab_spec.specs.Admission.{Tables, is_session_handle}
 use Rattle.tab_spec.specs.Count.{Rose, one_more}
 use Rattle.tab_spec.specs.Frame.{code_of, is_frame}
+use Rattle.tab_spec.specs.Numbers.{AreInRange}
 use Rattle.tab_spec.specs.Persist.{Persist}
 use Rattle.tab_spec.specs.Reply.{error_reply, response, with_response_handle}
 use Rattle.tab_spec.specs.Shape.{makes_object_by, number_of_session, octet_of}
@@ -17,13 +18,13 @@ use Rattle.device_port.specs.Use.{all_used, without_first, without_one}
 use Rattle.device_port.specs.declared.own.SwapError.{SwapError}
 use Rattle.device_spec.specs.Answers.{IsRight, is_word, takes, word_at}
 use Rattle.device_spec.specs.ContextCommands.{flush_context_command}
-use Rattle.device_spec.specs.Slots.{SlotState, is_free}
+use Rattle.device_spec.specs.Slots.{SlotState, gap_of, is_free}
 use Rattle.client_laws.specs.Ready.{ends_session, is_sent, named_sessions, sent_for, starts_session, tells_object, tells_session}
 use Rattle.object_swap.specs.Items as objects
 use Rattle.object_swap.specs.Items.{Item, Names, is_vacant, item_at, item_object, keeps_context, new_item}
 use Rattle.session_swap.specs.Items as sessions
-use Rattle.session_swap.specs.Items.{AreLoaded, IsNarrow, context_number, gap_in, gap_kept, has_owner, saved_by_client}
-use Rattle.session_swap.specs.declared.TheConstants.{RENEWAL_GAP}
+use Rattle.session_swap.specs.Items.{AreLoaded, IsNarrow, context_number, gap_kept, has_owner, renewal_gap, saved_by_client}
+use Rattle.session_swap.specs.declared.TheConstants.{NEEDED_MOST}
 use Rattle.history_spec.specs.declared.Pick.{Pick}
 use Rattle.history_spec.specs.declared.Pick.TheVariants as picks
 use Rattle.history_spec.specs.Table.{held_under, is_full, next_handle, put_least}
@@ -63,6 +64,7 @@ pub record FailsAtLast {D : Type 0} (seen : D → Seen) (old new : D) : Type 0 w
 abbrev pub client_state : SlotState → Held → List (Option ℕ) → Sequences → ClientState
 client_state slots held table least = record {
   persist = slots.persist;
+  most = held.sessions.numbers.active;
   objects = objects_in slots held.objects.items table;
   sessions = sessions_in slots held.sessions.items;
   object_sequence = least.object;
@@ -71,7 +73,8 @@ client_state slots held table least = record {
 
 -- the device, over which the next call may begin: there are numbers for so many more contexts of either sort
 pub record MayMove {D : Type 0} (contexts : ℕ) (seen : D → Seen) (device : D) (held : Held) : Type 0 where
-  pub slots : held.objects.slots ≡ OBJECT_SLOTS
+  pub slots : held.objects.slots ≡ held.sessions.numbers.slots
+  pub range : AreInRange held.sessions.numbers
   pub settled : Settled (seen device).state held
   pub object_counter : objects.counter_of (seen device).state + contexts ≤ CONTEXT_LIMIT
   pub counter : sessions.counter_of (seen device).state + contexts ≤ CONTEXT_LIMIT
@@ -138,6 +141,7 @@ pub record Moves {D : Type 0} (seen : D → Seen) (client : ℕ) (old new : D) (
       → AreOpenOwners present new_held.sessions.items
   pub orphans : orphan_count new_held ≤ orphan_count held
   pub slots : new_held.objects.slots ≡ held.objects.slots
+  pub numbers : new_held.sessions.numbers ≡ held.sessions.numbers
   pub length_is : length new_held.objects.items ≡ length held.objects.items
 
 -- where the device tells its state, this is the step of the plain machine from any sequences below the device's: what it keeps, the
@@ -190,6 +194,7 @@ pub record Prepares {D : Type 0} (contexts : ℕ) (seen : D → Seen) (old new :
   pub gone : StaysGone held new_held
   pub orphans : orphan_count new_held ≤ orphan_count held
   pub slots : new_held.objects.slots ≡ held.objects.slots
+  pub numbers : new_held.sessions.numbers ≡ held.sessions.numbers
   pub length_is : length new_held.objects.items ≡ length held.objects.items
 
 -- what was nobody's was flushed, and what is a client's stays where it is. Where nothing was nobody's, nothing changes
@@ -222,7 +227,7 @@ pub record Serves {D A : Type 0} (seen : D → Seen) (client : ℕ) (old new : D
   -- nothing was sent, or the last response was taken
   pub right : OnOk result ((new ≡ old) ⊎ IsRight (asked_of (seen new)) (last_of (seen new)))
   pub stays : OnErr result (Stays (seen old).state (seen new).state held new_held table new_table)
-  pub costs : SendsUpTo seen (new_bound (orphan_count held) (gap_kept held.sessions)) old new
+  pub costs : SendsUpTo seen (new_bound (orphan_count held) (gap_kept held.sessions) held.sessions.numbers) old new
   pub cause : IfErr result (λ e. HasCause seen e old new)
   pub fails : OnErr result (FailsAtLast seen old new)
 
@@ -246,12 +251,12 @@ pub record MayAdopt (view : objects.ObjectsView) (table : List (Option ℕ)) (sp
   pub transient : (octet_of (told_handle reply) == HT_TRANSIENT) ≡ true
 
 -- the session that a response tells can be held
-pub record MayStart (reply : List ℕ) (items : List (Option sessions.Item)) : Type 0 where
+pub record MayStart (reply : List ℕ) (view : sessions.SessionsView) : Type 0 where
   pub long : 14 ≤ length reply
   pub handle : is_session_handle (told_handle reply) ≡ true
-  pub number : number_of_session (told_handle reply) < ACTIVE_SESSIONS
-  pub vacant : sessions.item_at items (number_of_session (told_handle reply)) ≡ None
-  pub place : sessions.loaded_items items < LOADED_SESSIONS
+  pub number : number_of_session (told_handle reply) < SESSION_NUMBERS
+  pub vacant : sessions.item_at view.items (number_of_session (told_handle reply)) ≡ None
+  pub place : sessions.loaded_items view.items < view.numbers.loaded
 
 -- a client's new object, which is in the slot of this handle
 pub record Adopts (client handle : ℕ) (items new_items : List Item) (table new_table : List (Option ℕ)) : Type 0 where
@@ -283,21 +288,23 @@ pick_of a answer =
     else if tells_context a answer then picks.Sequence (told_sequence answer)
     else picks.Nothing
 
--- whether a session has the number of a response's handle
-abbrev pub number_taken : List (Option sessions.Item) → List ℕ → Bool
-number_taken items reply = is_word (λ handle. is_some (sessions.item_at items (number_of_session handle))) (word_at HEADER_BYTES reply)
+-- whether no new session can have the handle of a response: one has its number, or clients have as many as may be active
+abbrev pub number_taken : sessions.SessionsView → List ℕ → Bool
+number_taken view reply =
+    is_word (λ handle. nat_le view.numbers.active (count_by has_owner view.items) || is_some (sessions.item_at view.items (number_of_session handle)))
+    (word_at HEADER_BYTES reply)
 
 -- whether a command loads a context that is kept for an object
 abbrev pub loads_kept : List Item → List ℕ → Bool
 loads_kept items command = code_of command == CC_CONTEXT_LOAD && keeps_context items (drop HEADER_BYTES command)
 
 -- the command was sent once, and the response to it is taken, by what is held: whether a context that the command loads is kept, and
--- whether the number of the response's handle is taken
+-- whether no new session can have the response's handle
 pub record IsTaken {D : Type 0} (seen : D → Seen) (old new : D) (held : Held) (command reply : List ℕ) : Type 0 where
   pub sent : IsSent seen old new command
   pub answered : Answered (seen old).state command (seen new).state reply
   pub last_is : last_of (seen new) ≡ Some reply
-  pub taken : takes (loads_kept held.objects.items command) (number_taken held.sessions.items reply) command reply ≡ true
+  pub taken : takes (loads_kept held.objects.items command) (number_taken held.sessions reply) command reply ≡ true
   pub base_is : (seen new).base ≡ (seen old).base
   pub count : (seen old).faults ≤ (seen new).faults
 
@@ -339,39 +346,39 @@ sessions_held_after client a answer items =
 -- nothing
 pub record IsAtHand (held : Held) (table : List (Option ℕ)) (a : Admitted) (bytes : List ℕ) : Type 0 where
   pub nobodys : orphan_count held ≡ 0
-  pub narrow : gap_kept held.sessions < RENEWAL_GAP
+  pub narrow : gap_kept held.sessions < renewal_gap held.sessions.numbers
   pub placed : IsPlaced table held.objects.items (first_handle a)
   pub loaded : AreLoaded (named_sessions a) held.sessions.items
   pub makes_none : makes_object_by (Ok a.shape) bytes ≡ false
   pub starts_none : starts_session a ≡ false
 
--- every number of a session is taken
-pub record AreTaken (items : List (Option sessions.Item)) : Type 0 where
-  pub long : length items ≡ ACTIVE_SESSIONS
-  pub full : ACTIVE_SESSIONS ≤ count_by is_some items
+-- as many sessions are active as may be
+pub record AreTaken (view : sessions.SessionsView) : Type 0 where
+  pub long : length view.items ≡ SESSION_NUMBERS
+  pub full : view.numbers.active ≤ count_by is_some view.items
 
--- the sessions that a command names are loaded, and there is a place for one that it starts, unless all numbers are taken
-pub record HasSessions (state : Option SlotState) (items : List (Option sessions.Item)) (a : Admitted) : Type 0 where
-  pub loaded : AreLoaded (named_sessions a) items
+-- the sessions that a command names are loaded, and there is a place for one that it starts, unless as many are active as may be
+pub record HasSessions (state : Option SlotState) (view : sessions.SessionsView) (a : Admitted) : Type 0 where
+  pub loaded : AreLoaded (named_sessions a) view.items
   pub room : starts_session a ≡ true
-      → (sessions.AreFree state 1 × (sessions.loaded_items items < LOADED_SESSIONS)) ⊎ AreTaken items
+      → (sessions.AreFree state 1 × (sessions.loaded_items view.items < view.numbers.loaded)) ⊎ AreTaken view
 
 -- no session has to be moved for a command: it starts none, and those that it names are loaded, or it starts one where clients have
--- all numbers
-abbrev pub NeedsNoSession : List (Option sessions.Item) → Admitted → Type 0
-NeedsNoSession items a =
-    ((starts_session a ≡ false) × AreLoaded (named_sessions a) items)
-    ⊎ ((starts_session a ≡ true) × (ACTIVE_SESSIONS ≤ count_by has_owner items))
+-- as many as may be active
+abbrev pub NeedsNoSession : sessions.SessionsView → Admitted → Type 0
+NeedsNoSession view a =
+    ((starts_session a ≡ false) × AreLoaded (named_sessions a) view.items)
+    ⊎ ((starts_session a ≡ true) × (view.numbers.active ≤ count_by has_owner view.items))
 
 -- all is ready for a client's command, and it is written over the device's handles
 pub record IsPrepared (state : Option SlotState) (held : Held) (table : List (Option ℕ)) (a : Admitted) (bytes command : List ℕ) : Type 0 where
   pub nobodys : orphan_count held ≡ 0
   -- a session that starts in the last place leaves room below the device's gap
-  pub gap : gap_in state < RENEWAL_GAP + LOADED_SESSIONS
+  pub gap : IfSome state (λ slots. gap_of slots < renewal_gap slots.numbers + NEEDED_MOST)
   -- old contexts were renewed, also where the command names no session
   pub narrow : named_sessions a ≡ [] → starts_session a ≡ false → IsNarrow state
   pub placed : IsPlaced table held.objects.items (first_handle a)
-  pub sessions : HasSessions state held.sessions.items a
+  pub sessions : HasSessions state held.sessions a
   pub free : makes_object_by (Ok a.shape) bytes ≡ true
       → IfSome state (λ slots. list_any is_free slots.slots ≡ true) × (objects.residents held.objects.items < held.objects.slots)
   pub written : command ≡ sent_for bytes a (device_handle table held.objects.items (first_handle a))
@@ -381,7 +388,7 @@ pub record IsPrepared (state : Option SlotState) (held : Held) (table : List (Op
 -- by what is kept
 pub record IsCalm (held : Held) : Type 0 where
   pub nobodys : orphan_count held ≡ 0
-  pub narrow : gap_kept held.sessions < RENEWAL_GAP
+  pub narrow : gap_kept held.sessions < renewal_gap held.sessions.numbers
 
 abbrev pub listed : Option ℕ → List ℕ
 listed None = []
@@ -391,25 +398,25 @@ listed (Some index) = index ∷ []
 abbrev pub named_objects : List (Option ℕ) → Admitted → List ℕ
 named_objects table a = listed (named_by table (first_handle a))
 
--- how many slots, and how many places, it needs for what it may make. Where clients have all numbers, no session starts
+-- how many slots, and how many places, it needs for what it may make. Where clients have as many sessions as may be active, none starts
 abbrev pub slots_of : Admitted → List ℕ → ℕ
 slots_of a bytes = if makes_object_by (Ok a.shape) bytes then 1 else 0
 
-abbrev pub places_needed : List (Option sessions.Item) → Admitted → ℕ
-places_needed items a = if starts_session a && nat_lt (count_by has_owner items) ACTIVE_SESSIONS then 1 else 0
+abbrev pub places_needed : sessions.SessionsView → Admitted → ℕ
+places_needed view a = if starts_session a && nat_lt (count_by has_owner view.items) view.numbers.active then 1 else 0
 
 -- how many commands move what it needs
 abbrev pub moves_for : Held → List (Option ℕ) → Admitted → List ℕ → ℕ
-moves_for held table a bytes = sessions.moves_of (named_sessions a) (places_needed held.sessions.items a) held.sessions.items
+moves_for held table a bytes = sessions.moves_of (named_sessions a) (places_needed held.sessions a) held.sessions
     + objects.moves_of (named_objects table a) (slots_of a bytes) held.objects
 
 -- the sessions that a command names are loaded, by no more commands than that takes, and used
 pub record MovesSessions {D A : Type 0} (seen : D → Seen) (old new : D) (held new_held : Held) (a : Admitted) (result : Result A SwapError) : Type 0 where
-  pub sent : SendsUpTo seen (sessions.moves_of (named_sessions a) (places_needed held.sessions.items a) held.sessions.items) old new
-  pub most : sessions.moves_of (named_sessions a) (places_needed held.sessions.items a) held.sessions.items ≤ 6
+  pub sent : SendsUpTo seen (sessions.moves_of (named_sessions a) (places_needed held.sessions a) held.sessions) old new
+  pub most : sessions.moves_of (named_sessions a) (places_needed held.sessions a) held.sessions ≤ 6
   pub stays : OnOk result (StaysIn 0 (places_of a) None held new_held)
   pub order : OnOk result (new_held.sessions.order ≡ all_used
-      (without_first (sessions.evictions (named_sessions a) (places_needed held.sessions.items a) held.sessions.items)
+      (without_first (sessions.evictions (named_sessions a) (places_needed held.sessions a) held.sessions)
       (sessions.numbers_of (named_sessions a)) held.sessions.order)
       (sessions.numbers_of (named_sessions a)))
 
@@ -428,7 +435,7 @@ pub record UsesNamed (held new_held : Held) (table : List (Option ℕ)) (a : Adm
       (without_first (objects.evictions (named_objects table a) (slots_of a bytes) held.objects) (named_objects table a) held.objects.order)
       (named_objects table a)
   pub sessions : new_held.sessions.order ≡ all_used
-      (without_first (sessions.evictions (named_sessions a) (places_needed held.sessions.items a) held.sessions.items)
+      (without_first (sessions.evictions (named_sessions a) (places_needed held.sessions a) held.sessions)
       (sessions.numbers_of (named_sessions a)) held.sessions.order)
       (sessions.numbers_of (named_sessions a))
 
@@ -505,8 +512,8 @@ pub record Ran {D : Type 0} (seen : D → Seen) (client : ℕ) (old new : D)
   -- a new object is in the slot that the response tells
   pub object_is : tells_object a answer ≡ true
       → item_at new_held.objects.items item ≡ new_item client (told_handle answer - TRANSIENT_FIRST)
-  -- the broker takes it, by what it held: whether a context that the command loads is kept, and whether the handle's number is taken
-  pub taken : takes (loads_kept new_held.objects.items (asked_of (seen new))) (number_taken mid answer) (asked_of (seen new)) answer ≡ true
+  -- the broker takes it, by what it held: whether a context that the command loads is kept, and whether no new session can have the handle
+  pub taken : takes (loads_kept new_held.objects.items (asked_of (seen new))) (number_taken (record held.sessions { items = mid }) answer) (asked_of (seen new)) answer ≡ true
   pub sessions_are : new_held.sessions.items ≡ sessions_held_after client a answer mid
   pub nobodys : orphan_count new_held ≡ 0
   pub used : IsCalm held → UsedLast held new_held table a bytes answer item
@@ -575,7 +582,7 @@ pub record Replied {D : Type 0} (client : ℕ) (old new : D) (held new_held : He
   pub table_is : new_table ≡ table
   pub objects_are : new_held.objects ≡ held.objects
   pub sessions_are : new_held.sessions ≡ record held.sessions { items = sessions_given client a bytes held.sessions.items }
-  pub reply_is : (persist : Persist) → reply ≡ reply_of (own_answer persist client table held.sessions.items a bytes)
+  pub reply_is : (persist : Persist) → reply ≡ reply_of (own_answer persist client table held.sessions a bytes)
 
 -- what a client's command does: it is FlushContext, or is answered by the broker itself, or runs on the device
 abbrev pub Executes : {D : Type 0} (seen : D → Seen) (client : ℕ) (old new : D)
@@ -593,4 +600,4 @@ pub record CarriesOut {D : Type 0} (seen : D → Seen) (client : ℕ) (old new :
   pub steps : StepsAs (λ state. client_step client state bytes (pick_of a reply)) (seen old).state (seen new).state held new_held table new_table reply
   pub whole : is_frame reply ≡ true
   -- where no renewal was due
-  pub stays : gap_kept held.sessions < RENEWAL_GAP → StaysIn 1 1 (saved_number a) held new_held
+  pub stays : gap_kept held.sessions < renewal_gap held.sessions.numbers → StaysIn 1 1 (saved_number a) held new_held

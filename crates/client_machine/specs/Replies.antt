@@ -24,10 +24,10 @@ pub record StandsOn (view new_view : SessionsView) : Type 0 where
 -- ---- GetCapability
 
 -- the client's objects and sessions, and the count of the sessions of all clients
-abbrev pub own_capability : Persist → ℕ → List (Option ℕ) → List (Option Item) → List ℕ → Result (List ℕ) ℕ
-own_capability persist client table items params =
-    capability_of client_limits all_commands persist (transient_from TRANSIENT_FIRST table) (sessions_had client items)
-    (count_by has_owner items) params
+abbrev pub own_capability : Persist → ℕ → List (Option ℕ) → SessionsView → List ℕ → Result (List ℕ) ℕ
+own_capability persist client table view params =
+    capability_of (client_limits view.numbers.active) all_commands persist (transient_from TRANSIENT_FIRST table) (sessions_had client view.items)
+    (count_by has_owner view.items) params
 
 -- ---- ContextLoad
 
@@ -58,12 +58,12 @@ nothing_told (Ok none) = Ok []
 -- ---- all three
 
 -- the parameters of the response, or the code of the first fault
-abbrev pub own_answer : Persist → ℕ → List (Option ℕ) → List (Option Item) → Admitted → List ℕ → Result (List ℕ) ℕ
-own_answer persist client table items a bytes =
+abbrev pub own_answer : Persist → ℕ → List (Option ℕ) → SessionsView → Admitted → List ℕ → Result (List ℕ) ℕ
+own_answer persist client table view a bytes =
     let params = drop a.auths.params bytes in
     if a.shape.row.code == CC_CONTEXT_SAVE then nothing_told (save_parameters params)
-    else if a.shape.row.code == CC_CONTEXT_LOAD then handle_told (given_back client items params (load_parameters params))
-    else own_capability persist client table items params
+    else if a.shape.row.code == CC_CONTEXT_LOAD then handle_told (given_back client view.items params (load_parameters params))
+    else own_capability persist client table view params
 
 abbrev pub reply_of : Result (List ℕ) ℕ → List ℕ
 reply_of (Err code) = error_reply code

@@ -2,8 +2,7 @@
 ghost use Rattle.std.specs.Prelude.{◌≡◌, ◌==◌, ◌≤◌, ◌+◌, ◌*◌, ℕ, true, false};
 ghost use Rattle.std.specs.Prelude.{Some, None, set, IfOk, OnOk};
 ghost use Rattle.std.specs.List.{count_by, list_any};
-ghost use Rattle.tab_spec.specs.declared.TheConstants.{ACTIVE_SESSIONS};
-ghost use Rattle.tab_spec.specs.declared.TheConstants.{OBJECT_SLOTS};
+ghost use Rattle.tab_spec.specs.declared.TheConstants.{SESSION_NUMBERS};
 ghost use Rattle.tab_spec.specs.Shape.{number_of_session};
 ghost use Rattle.object_swap.specs.Items as objects;
 ghost use Rattle.object_swap.specs.Items.{HasNone, owner_at};
@@ -32,7 +31,7 @@ impl<D: Device> Machine<D> {
             × (list_any (is_owned client) self.new.held.sessions.items ≡ false)) }
         ensures others { KeepsOthers client self.old.held.sessions.items
             self.new.held.sessions.items }
-        // Each that is left has a failed transmission of its own, also after a wrong answer.
+        // No more are left than transmissions failed, also after a wrong answer.
         ensures disowns { Disowns D.seen self.old.device self.new.device self.old.held
             self.new.held result }
         ensures costs { SendsUpTo D.seen (close_bound client self.old.held)
@@ -57,7 +56,7 @@ impl<D: Device> Machine<D> {
             × (list_any (is_owned client) self.new.held.sessions.items ≡ false)) }
         ensures others { KeepsOthers client self.old.held.sessions.items
             self.new.held.sessions.items }
-        // Each that is left has a failed transmission of its own, also after a wrong answer.
+        // No more are left than transmissions failed, also after a wrong answer.
         ensures disowns { Disowns D.seen self.old.device self.new.device self.old.held
             self.new.held result }
         ensures costs { SendsUpTo D.seen (close_bound client self.old.held)
@@ -110,11 +109,11 @@ impl<D: Device> Machine<D> {
             self.old.held self.new.held self.old.held.objects.owners failed) }
         ensures none { OnOk result
             (list_any (is_owned client) self.new.held.sessions.items ≡ false) }
-        ensures few { IfOk result (λ failed. failed ≤ ACTIVE_SESSIONS) }
+        ensures few { IfOk result (λ failed. failed ≤ SESSION_NUMBERS) }
         ensures rest { self.new.held.objects ≡ self.old.held.objects }
         ensures others { KeepsOthers client self.old.held.sessions.items
             self.new.held.sessions.items }
-        // Each that is left has a failed transmission of its own, also after a wrong answer.
+        // No more are left than transmissions failed, also after a wrong answer.
         ensures disowns { Disowns D.seen self.old.device self.new.device self.old.held
             self.new.held result }
         ensures costs { SendsUpTo D.seen (count_by (is_owned client) self.old.held.sessions.items)
@@ -133,7 +132,8 @@ impl<D: Device> Machine<D> {
     // One session, which is a client's. It returns how many flushes failed, 0 or 1.
     fn drop_session(&mut self, handle: u32) -> Result<u32, u32>
         requires named { Names self.old.held.sessions.items handle }
-        requires slots { self.old.held.objects.slots ≡ OBJECT_SLOTS }
+        requires slots { self.old.held.objects.slots
+            ≡ self.old.held.sessions.numbers.slots }
         requires settled { Settled (D.seen self.old.device).state self.old.held }
         ensures ok { IfOk result (λ failed. (client : ℕ)
             → is_owner client (owner_in self.old.held.sessions.items handle) ≡ true
@@ -148,7 +148,7 @@ impl<D: Device> Machine<D> {
         ensures others { (number : ℕ) → (number == number_of_session handle) ≡ false
             → item_at self.new.held.sessions.items number
             ≡ item_at self.old.held.sessions.items number }
-        // Each that is left has a failed transmission of its own, also after a wrong answer.
+        // No more are left than transmissions failed, also after a wrong answer.
         ensures disowns { Disowns D.seen self.old.device self.new.device self.old.held
             self.new.held result }
         ensures costs { SendsUpTo D.seen 1 self.old.device self.new.device }
@@ -170,7 +170,8 @@ impl<D: Device> Machine<D> {
     // The objects of the client of a list. It returns how many flushes failed.
     fn drop_objects<C: Visits>(&mut self, list: u32, steps: &mut C) -> Result<u8, u32>
         requires list { (client : ℕ) × (owner_at self.old.held.objects.owners list ≡ Some client) }
-        requires slots { self.old.held.objects.slots ≡ OBJECT_SLOTS }
+        requires slots { self.old.held.objects.slots
+            ≡ self.old.held.sessions.numbers.slots }
         requires settled { Settled (D.seen self.old.device).state self.old.held }
         ensures ok { IfOk result (λ failed. (client : ℕ)
             → owner_at self.old.held.objects.owners list ≡ Some client
@@ -181,7 +182,7 @@ impl<D: Device> Machine<D> {
             → HasNone self.new.held.objects.items client) }
         ensures rest { (self.new.held.sessions ≡ self.old.held.sessions)
             × (self.new.held.objects.owners ≡ self.old.held.objects.owners) }
-        // Each that is left has a failed transmission of its own, also after a wrong answer.
+        // No more are left than transmissions failed, also after a wrong answer.
         ensures disowns { Disowns D.seen self.old.device self.new.device self.old.held
             self.new.held result }
         ensures costs { (client : ℕ) → owner_at self.old.held.objects.owners list ≡ Some client
@@ -206,7 +207,8 @@ impl<D: Device> Machine<D> {
     // One object, which is a client's. Where its flush failed it is nobody's.
     fn drop_object<C: Visits>(&mut self, item: u32, steps: &mut C) -> Result<(), u32>
         requires named { objects.Names self.old.held.objects.items item }
-        requires slots { self.old.held.objects.slots ≡ OBJECT_SLOTS }
+        requires slots { self.old.held.objects.slots
+            ≡ self.old.held.sessions.numbers.slots }
         requires settled { Settled (D.seen self.old.device).state self.old.held }
         ensures ok { OnOk result ((client : ℕ)
             → (objects.item_at self.old.held.objects.items item).client ≡ Some client
@@ -214,7 +216,7 @@ impl<D: Device> Machine<D> {
             self.old.held self.new.held) }
         ensures rest { (self.new.held.sessions ≡ self.old.held.sessions)
             × (self.new.held.objects.owners ≡ self.old.held.objects.owners) }
-        // Each that is left has a failed transmission of its own, also after a wrong answer.
+        // No more are left than transmissions failed, also after a wrong answer.
         ensures disowns { Disowns D.seen self.old.device self.new.device self.old.held
             self.new.held result }
         ensures costs { (client : ℕ)

@@ -1,16 +1,17 @@
-ghost use Rattle.std.specs.Prelude.{◌≡◌, ◌⊎◌, ◌≤◌, ◌+◌, ◌++◌, ◌∷◌, ℕ, true, false, Bool};
+ghost use Rattle.std.specs.Prelude.{◌≡◌, ◌⊎◌, ◌≤◌, ◌+◌, ◌++◌, ◌∷◌, ◌||◌, ℕ, true, false, Bool};
 ghost use Rattle.std.specs.Prelude.{Some, None, Ok, [], length, IfOk, IfErr, IfSome, OnOk};
-ghost use Rattle.std.specs.Prelude.{OnErr};
-ghost use Rattle.std.specs.List.{list_any};
+ghost use Rattle.std.specs.Prelude.{OnErr, is_some, nat_le};
+ghost use Rattle.std.specs.List.{count_by, list_any};
 ghost use Rattle.tab_spec.specs.declared.TheConstants.{CC_FLUSH_CONTEXT};
 ghost use Rattle.tab_spec.specs.Admission.{client_admitted};
 ghost use Rattle.tab_spec.specs.Frame.{is_frame};
-ghost use Rattle.tab_spec.specs.Shape.{makes_object_by};
+ghost use Rattle.tab_spec.specs.Shape.{makes_object_by, number_of_session};
 ghost use Rattle.device_spec.specs.Answers.{takes};
 ghost use Rattle.device_spec.specs.Slots.{slot_step};
 ghost use Rattle.object_swap.specs.Items as objects;
 ghost use Rattle.object_swap.specs.Items.{is_vacant, no_item, owner_at};
 ghost use Rattle.object_swap.specs.declared.TheConstants.{PLACES_MOST};
+ghost use Rattle.session_swap.specs.Items.{has_owner, item_at};
 ghost use Rattle.client_laws.specs.Ready.{is_sent};
 ghost use Rattle.world_spec.specs.World.{flush_handle, without_named};
 ghost use Rattle.client_machine.specs.Moves as moves;
@@ -51,12 +52,25 @@ pub struct Machine<D: Device> {
     pub scratch: Buffer,
 }
 
-// Whether a client has a session with the number of a response's handle.
+// Whether no new session can have the number of a handle: one has it, or clients have as many as
+// may be active.
+fn is_taken(sessions: &Sessions, handle: u32) -> bool
+    ensures { result
+        ≡ (nat_le sessions.now.numbers.active (count_by has_owner sessions.now.items)
+        || is_some (item_at sessions.now.items (number_of_session handle))) }
+{
+    if sessions.most() <= sessions.active() {
+        return true;
+    }
+    sessions.has_number(handle)
+}
+
+// Whether no new session can have the handle of a response.
 fn is_number_taken(sessions: &Sessions, reply: &[u8]) -> bool
-    ensures { result ≡ number_taken sessions.now.items reply.now }
+    ensures { result ≡ number_taken sessions.now reply.now }
 {
     match response_handle(reply) {
-        Some(handle) => sessions.has_number(handle),
+        Some(handle) => is_taken(sessions, handle),
         None => false,
     }
 }
@@ -92,7 +106,7 @@ fn send<D: Device>(
     requires told { IfSome (D.seen device.old).state
         (λ slots. let answer = (slot_step slots command.now).1 in
         takes (moves.loads_kept held.now.objects.items command.now)
-        (number_taken held.now.sessions.items answer) command.now answer ≡ true) }
+        (number_taken held.now.sessions answer) command.now answer ≡ true) }
     ensures ok { OnOk result
         (IsTaken D.seen device.old device.new held.now command.now reply.new) }
     ensures whole { OnOk result ((is_frame reply.new ≡ true) × (10 ≤ length reply.new)) }

@@ -1,13 +1,13 @@
 ghost use Rattle.std.specs.Prelude.{◌≡◌, ◌≤◌, ◌<◌, ◌+◌, ◌==◌, ℕ, true, [], take};
 ghost use Rattle.std.specs.Prelude.{is_some, None, Ok, IfSome, OnOk};
-ghost use Rattle.tab_spec.specs.declared.TheConstants.{LOADED_SESSIONS, OBJECT_SLOTS};
 ghost use Rattle.tab_spec.specs.Admission.{client_admitted};
 ghost use Rattle.client_laws.specs.Ready.{named_sessions, starts_session};
 ghost use Rattle.device_port.specs.Own.{AsksSome};
 ghost use Rattle.object_swap.specs.Items as objects;
 ghost use Rattle.object_swap.specs.Items.{AreFree, Names, is_resident, item_at, residents};
-ghost use Rattle.session_swap.specs.declared.TheConstants.{RENEWAL_GAP};
-ghost use Rattle.session_swap.specs.Items.{AreNamed, gap_in, gap_kept};
+ghost use Rattle.device_spec.specs.Slots.{gap_of};
+ghost use Rattle.session_swap.specs.declared.TheConstants.{NEEDED_MOST};
+ghost use Rattle.session_swap.specs.Items.{AreNamed, gap_kept, renewal_gap};
 ghost use Rattle.client_machine.specs.Costs.{SendsUpTo, StaysIn, places_of};
 ghost use Rattle.client_machine.specs.Costs.{renewal_bound};
 ghost use Rattle.client_machine.specs.Moves.{Clears, FlushesSome, HasSessions, IsAtHand, IsCalm};
@@ -23,7 +23,7 @@ use device_port::{Device, SwapError};
 use object_swap::Objects;
 use session_swap::refresh;
 use tab_bytes::Buffer;
-use tab_spec::{ACTIVE_SESSIONS, Admitted, CC_START_AUTH_SESSION, HT_TRANSIENT};
+use tab_spec::{Admitted, CC_START_AUTH_SESSION, HT_TRANSIENT};
 use tab_wire::{is_session_handle, octet_of};
 use virtual_handles::ClientTable;
 
@@ -33,7 +33,7 @@ pub(crate) fn flush_orphans<D: Device>(
     device: &mut D,
     scratch: &mut Buffer,
 ) -> Result<(), SwapError>
-    requires slots { held.old.objects.slots ≡ OBJECT_SLOTS }
+    requires slots { held.old.objects.slots ≡ held.old.sessions.numbers.slots }
     requires settled { Settled (D.seen device.old).state held.old }
     // What is a client's stays where it is.
     ensures clears { Clears D.seen device.old device.new held.old held.new }
@@ -57,12 +57,16 @@ fn renew<D: Device>(held: &mut Held, device: &mut D, scratch: &mut Buffer) -> Re
     requires may { MayMove call_contexts D.seen device.old held.old }
     ensures prepared { Prepares 65 D.seen device.old device.new held.old held.new }
     ensures clear { OnOk result (IsClear (D.seen device.new).state held.new) }
-    ensures still { orphan_count held.old ≡ 0 → gap_kept held.old.sessions < RENEWAL_GAP
+    ensures still { orphan_count held.old ≡ 0
+        → gap_kept held.old.sessions < renewal_gap held.old.sessions.numbers
         → (device.new ≡ device.old) × (held.new ≡ held.old) }
     ensures costs { SendsUpTo D.seen
-        (orphan_count held.old + renewal_bound (gap_kept held.old.sessions)) device.old device.new }
+        (orphan_count held.old
+        + renewal_bound (gap_kept held.old.sessions) held.old.sessions.numbers)
+        device.old device.new }
     // Where no renewal is due, nothing moves: each thing is as it was, or is gone.
-    ensures stays { gap_kept held.old.sessions < RENEWAL_GAP → Loses held.old held.new }
+    ensures stays { gap_kept held.old.sessions < renewal_gap held.old.sessions.numbers
+        → Loses held.old held.new }
     ensures sends { MakesReady D.seen (orphan_count held.old) device.old device.new result }
 {
     flush_orphans(held, device, scratch)?;
@@ -92,8 +96,8 @@ fn sessions_of(admitted: &Admitted) -> (usize, [u32; 3])
     (count, named)
 }
 
-// Loads the sessions that a command names, and frees a place for one that it may start. Where all
-// numbers are taken, no place is freed: the device refuses the command by itself.
+// Loads the sessions that a command names, and frees a place for one that it may start. Where as
+// many are active as may be, no place is freed: the device refuses the command by itself.
 fn load_sessions<D: Device>(
     held: &mut Held,
     device: &mut D,
@@ -107,9 +111,10 @@ fn load_sessions<D: Device>(
     ensures prepared { Prepares 3 D.seen device.old device.new held.old held.new }
     ensures rest { held.new.objects ≡ held.old.objects }
     ensures ok { OnOk result
-        (HasSessions (D.seen device.new).state held.new.sessions.items admitted.now
-        × (gap_in (D.seen device.new).state < RENEWAL_GAP + LOADED_SESSIONS)) }
-    ensures still { NeedsNoSession held.old.sessions.items admitted.now
+        (HasSessions (D.seen device.new).state held.new.sessions admitted.now
+        × IfSome (D.seen device.new).state
+        (λ slots. gap_of slots < renewal_gap slots.numbers + NEEDED_MOST)) }
+    ensures still { NeedsNoSession held.old.sessions admitted.now
         → device.new ≡ device.old }
     ensures costs { MovesSessions D.seen device.old device.new held.old held.new
         admitted.now result }
@@ -117,7 +122,8 @@ fn load_sessions<D: Device>(
 {
     let (count, named) = sessions_of(admitted);
     let starts = admitted.shape.row.code == CC_START_AUTH_SESSION;
-    let new_places = u8::from(starts && u32::from(held.sessions.active()) < ACTIVE_SESSIONS);
+    let most = held.sessions.most();
+    let new_places = u8::from(starts && held.sessions.active() < most);
     held.sessions
         .make_sessions(device, &named[..count], new_places, scratch)
 }
@@ -200,9 +206,10 @@ pub(crate) fn prepare<D: Device>(
     ensures still { IsAtHand held.old table.now.items admitted.now bytes.now
         → device.new ≡ device.old }
     ensures costs { SendsUpTo D.seen
-        (11 + orphan_count held.old + renewal_bound (gap_kept held.old.sessions))
+        (11 + orphan_count held.old
+        + renewal_bound (gap_kept held.old.sessions) held.old.sessions.numbers)
         device.old device.new }
-    ensures stays { OnOk result (gap_kept held.old.sessions < RENEWAL_GAP
+    ensures stays { OnOk result (gap_kept held.old.sessions < renewal_gap held.old.sessions.numbers
         → StaysIn 1 (places_of admitted.now) None held.old held.new) }
     // Where nothing is nobody's and no renewal is due, it sends what moves that, and uses it.
     ensures few { IsCalm held.old → SendsUpTo D.seen

@@ -90,13 +90,19 @@ fn load_context(sessions: &mut Sessions, client: u32, params: &[u8], reply: &mut
 fn tell_capability(seen: &ClientView<'_>, params: &[u8], reply: &mut Buffer) -> bool
     ensures told { MatchBool result
         ((is_of_device params.now ≡ false) × ((persist : Persist) → reply.new ≡ reply_of
-        (own_capability persist seen.now.client seen.now.table.now.items seen.now.sessions.now.items
+        (own_capability persist seen.now.client seen.now.table.now.items seen.now.sessions.now
         params.now)))
         (is_of_device params.now ≡ true) }
     ensures whole { result ≡ true → is_frame reply.new ≡ true }
 {
     start_response(ST_NO_SESSIONS, RC_SUCCESS, reply);
-    match client_capability(seen, u32::from(seen.sessions.active()), params, reply) {
+    match client_capability(
+        seen,
+        u32::from(seen.sessions.active()),
+        seen.sessions.most(),
+        params,
+        reply,
+    ) {
         Viewed::Answered => {
             end_response(reply);
             true
@@ -124,7 +130,7 @@ pub(crate) fn answer_alone(
     requires short { length table.now.items ≤ CLIENT_OBJECTS }
     ensures sort { result ≡ not (is_sent admitted.now bytes.now) }
     ensures reply { result ≡ true → (persist : Persist) → reply.new ≡ reply_of
-        (own_answer persist client table.now.items sessions.old.items admitted.now bytes.now) }
+        (own_answer persist client table.now.items sessions.old admitted.now bytes.now) }
     ensures whole { result ≡ true → is_frame reply.new ≡ true }
     ensures sessions { MatchBool result (sessions.new ≡ record sessions.old {
       items = sessions_given client admitted.now bytes.now sessions.old.items;

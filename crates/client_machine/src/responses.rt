@@ -134,7 +134,7 @@ pub(crate) fn adopt(
 pub(crate) fn keep_sessions(sessions: &mut Sessions, client: u32, admitted: &Admitted, reply: &[u8])
     requires long { 10 ≤ length reply.now }
     requires started { ready.tells_session admitted.now reply.now ≡ true
-        → MayStart reply.now sessions.old.items }
+        → MayStart reply.now sessions.old }
     requires named { ready.ends_session admitted.now reply.now ≡ true
         → Names sessions.old.items (command_auth admitted.now.auths).session }
     requires saved { saves_session admitted.now reply.now ≡ false }

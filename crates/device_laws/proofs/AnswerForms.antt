@@ -5,7 +5,7 @@ use Rattle.std.specs.Int.{w32, to_be_bytes}
 use Rattle.std.proofs.lemmas.Bool.{and_from, eq-eqb, eqb-true, le-ltb, ltb-true}
 use Rattle.std.proofs.lemmas.List.{append-nil}
 use Rattle.std.proofs.lemmas.Nat.{from_be_bytes-to_be_bytes_2, from_be_bytes-to_be_bytes_4}
-use Rattle.tab_spec.specs.declared.TheConstants.{ACTIVE_SESSIONS, ST_NO_SESSIONS, ST_RSP_COMMAND, ST_SESSIONS, CC_STARTUP, CC_CONTEXT_LOAD, CC_CONTEXT_SAVE, CC_FLUSH_CONTEXT, CC_GET_CAPABILITY, CC_START_AUTH_SESSION, HT_TRANSIENT, TRANSIENT_FIRST, RC_SUCCESS, RC_BAD_TAG, RC_INITIALIZE, RC_INSUFFICIENT}
+use Rattle.tab_spec.specs.declared.TheConstants.{SESSION_NUMBERS, ST_NO_SESSIONS, ST_RSP_COMMAND, ST_SESSIONS, CC_STARTUP, CC_CONTEXT_LOAD, CC_CONTEXT_SAVE, CC_FLUSH_CONTEXT, CC_GET_CAPABILITY, CC_START_AUTH_SESSION, HT_TRANSIENT, TRANSIENT_FIRST, RC_SUCCESS, RC_BAD_TAG, RC_INITIALIZE, RC_INSUFFICIENT}
 use Rattle.tab_spec.specs.Commands.{row_of}
 use Rattle.tab_spec.specs.Frame.{code_of, is_frame, tag_of}
 use Rattle.tab_spec.specs.Reply.{error_reply, response}
@@ -213,7 +213,7 @@ handle_of_response tag handle body fits =
     let long : nat_lt (length all) 14 ≡ false = le-ltb (length all) 14 (omega arith) in
     rw long (ap (λ (h : ℕ). Some h) (from_be_bytes-to_be_bytes_4 handle fits))
 
-pub transient_octet : (number : ℕ) → number ≤ 3 → (octet_of (TRANSIENT_FIRST + number) == HT_TRANSIENT) ≡ true
+pub transient_octet : (number : ℕ) → number ≤ 254 → (octet_of (TRANSIENT_FIRST + number) == HT_TRANSIENT) ≡ true
 transient_octet number few = eq-eqb (octet_of (TRANSIENT_FIRST + number)) HT_TRANSIENT (omega (arith, few))
 
 -- ---- what the broker holds matters to ContextLoad and StartAuthSession alone
@@ -282,7 +282,7 @@ untaken false octet number true e = absurd cc
 started_more : (is_taken : Bool) (read : Reading ℕ) (handle : ℕ) → is_started_handle is_taken read handle ≡ true → is_started_handle false read handle ≡ true
 started_more is_taken (Err code) handle e = absurd cc
 started_more is_taken (Ok read) handle e =
-    untaken (is_kind_number read.0) (octet_of handle == kind_octet (kind_of read.0)) (nat_lt (number_of_session handle) ACTIVE_SESSIONS) is_taken e
+    untaken (is_kind_number read.0) (octet_of handle == kind_octet (kind_of read.0)) (nat_lt (number_of_session handle) SESSION_NUMBERS) is_taken e
 
 where_more : (start first second other : Bool) → (first ≡ true → second ≡ true) → (if start then first else other) ≡ true → (if start then second else other) ≡ true
 where_more true first second other more e = more e

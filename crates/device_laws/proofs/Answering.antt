@@ -208,7 +208,7 @@ handle_fits start session ok saved octet a b c = rw (a, b, c) refl
 loads_none : (load session : Bool) → load ≡ false → (load && session) ≡ false
 loads_none load session is = rw is refl
 
-object_fits : (bytes : List ℕ) (number : ℕ) → OfEffects (code_of bytes) → number ≤ 3 → fits_handle false bytes (TRANSIENT_FIRST + number) ≡ true
+object_fits : (bytes : List ℕ) (number : ℕ) → OfEffects (code_of bytes) → number ≤ 254 → fits_handle false bytes (TRANSIENT_FIRST + number) ≡ true
 object_fits bytes number of few =
     handle_fits (code_of bytes == CC_START_AUTH_SESSION) (code_of bytes == CC_CONTEXT_LOAD && _) _ _ (octet_of (TRANSIENT_FIRST + number) == HT_TRANSIENT) of.start
     (loads_none (code_of bytes == CC_CONTEXT_LOAD) _ of.load) (transient_octet number few)
@@ -226,7 +226,7 @@ plain_taken bytes tag params answer asked small is frame =
     (record { handled = refl; authorized = authorized_as tag (tag_of bytes) _ asked.tag_is (body_whole tag params answer (omega (arith, small)) is) })
     asked.of.save (no_handles_asked bytes asked.of.capability)
 
-object_taken : (bytes : List ℕ) (tag number : ℕ) (params answer : List ℕ) → Asked bytes tag true → number ≤ 3 → length params ≤ 4000
+object_taken : (bytes : List ℕ) (tag number : ℕ) (params answer : List ℕ) → Asked bytes tag true → number ≤ 254 → length params ≤ 4000
     → ((tag == ST_SESSIONS) ≡ true → IsAnswer answer)
     → Taken bytes (response tag RC_SUCCESS (to_be_bytes w32 (TRANSIENT_FIRST + number) ++ response_body tag params answer))
 object_taken bytes tag number params answer asked few small is frame =
@@ -243,34 +243,34 @@ object_taken bytes tag number params answer asked few small is frame =
     asked.of.save (no_handles_asked bytes asked.of.capability)
 
 made_taken : (bytes : List ℕ) (slots : SlotState) (created : Created) (named : Bool) (tag : ℕ) (params answer : List ℕ) → Asked bytes tag named
-    → length slots.slots ≡ 3 → length params ≤ 4000 → ((tag == ST_SESSIONS) ≡ true → IsAnswer answer) → Makes named created → TellsBy named created
+    → length slots.slots ≤ 254 → length params ≤ 4000 → ((tag == ST_SESSIONS) ≡ true → IsAnswer answer) → Makes named created → TellsBy named created
     → Taken bytes (made_by slots created (response tag RC_SUCCESS (handle_area named ++ response_body tag params answer))).1
-made_taken bytes slots nothing false tag params answer asked three small is makes tells = plain_taken bytes tag params answer asked small is
-made_taken bytes slots nothing true tag params answer asked three small is makes tells = absurd makes
-made_taken bytes slots (new_object o) true tag params answer asked three small is makes tells =
-    object_taken bytes tag (free_slot slots.slots) params answer asked (omega (arith, free_few slots.slots, three)) small is
-made_taken bytes slots (new_object o) false tag params answer asked three small is makes tells = absurd cc
-made_taken bytes slots (new_session s) true tag params answer asked three small is makes tells = absurd makes
-made_taken bytes slots (new_session s) false tag params answer asked three small is makes tells = absurd cc
+made_taken bytes slots nothing false tag params answer asked few_slots small is makes tells = plain_taken bytes tag params answer asked small is
+made_taken bytes slots nothing true tag params answer asked few_slots small is makes tells = absurd makes
+made_taken bytes slots (new_object o) true tag params answer asked few_slots small is makes tells =
+    object_taken bytes tag (free_slot slots.slots) params answer asked (omega (arith, free_few slots.slots, few_slots)) small is
+made_taken bytes slots (new_object o) false tag params answer asked few_slots small is makes tells = absurd cc
+made_taken bytes slots (new_session s) true tag params answer asked few_slots small is makes tells = absurd makes
+made_taken bytes slots (new_session s) false tag params answer asked few_slots small is makes tells = absurd cc
 
 closed_taken : (bytes : List ℕ) (slots : SlotState) (operands : Operands) (shape : Shape) (auths : Auths) (done : RowOutcome) (closed : Result ResponseAuth ℕ)
-    → Asked bytes shape.tag shape.row.response_handle → length slots.slots ≡ 3 → length done.params ≤ 4000 → ClosesWell (shape.tag == ST_SESSIONS) closed
+    → Asked bytes shape.tag shape.row.response_handle → length slots.slots ≤ 254 → length done.params ≤ 4000 → ClosesWell (shape.tag == ST_SESSIONS) closed
     → Makes shape.row.response_handle done.created → TellsBy shape.row.response_handle done.created
     → Taken bytes (effect_by slots (effect_authorized slots.persist operands shape auths done closed)).1
-closed_taken bytes slots operands shape auths done (Err code) asked three small well makes tells = refused_taken bytes code asked.of well.plain
-closed_taken bytes slots operands shape auths done (Ok closed) asked three small well makes tells =
+closed_taken bytes slots operands shape auths done (Err code) asked few_slots small well makes tells = refused_taken bytes code asked.of well.plain
+closed_taken bytes slots operands shape auths done (Ok closed) asked few_slots small well makes tells =
     let after : Operands = record { handles = handles_left done.policy operands.handles; session = session_left operands.session closed.session } in
     let ended = ends_session operands shape auths in
     made_taken bytes (record slots { persist = closed.persist; sessions = sessions_left slots.sessions after ended }) done.created shape.row.response_handle
-    shape.tag done.params closed.answer asked three small well.answers makes tells
+    shape.tag done.params closed.answer asked few_slots small well.answers makes tells
 
 outcome_taken : (slots : SlotState) (operands : Operands) (shape : Shape) (auths : Auths) (bytes : List ℕ) (row : Result RowOutcome ℕ)
-    → Asked bytes shape.tag shape.row.response_handle → length slots.slots ≡ 3 → IfSome (named_session operands.session) IsSession → Fails IsPlain row
+    → Asked bytes shape.tag shape.row.response_handle → length slots.slots ≤ 254 → IfSome (named_session operands.session) IsSession → Fails IsPlain row
     → LeftWell (AreBytes (drop auths.params bytes)) row → MadeAs shape.row.response_handle row → Tells shape.row (drop auths.params bytes) row
     → Taken bytes (effect_by slots (effect_in slots.persist operands shape auths bytes row)).1
-outcome_taken slots operands shape auths bytes (Err code) asked three named plain left made tells = refused_taken bytes code asked.of plain
-outcome_taken slots operands shape auths bytes (Ok done) asked three named plain left made tells =
-    closed_taken bytes slots operands shape auths done (response_auth_of slots.persist operands shape auths bytes done) asked three left.0
+outcome_taken slots operands shape auths bytes (Err code) asked few_slots named plain left made tells = refused_taken bytes code asked.of plain
+outcome_taken slots operands shape auths bytes (Ok done) asked few_slots named plain left made tells =
+    closed_taken bytes slots operands shape auths done (response_auth_of slots.persist operands shape auths bytes done) asked few_slots left.0
     (outcome_closes slots.persist operands shape auths bytes done left.1.0 named) made tells.0
 
 effect_taken : (slots : SlotState) (shape : Shape) (auths : Auths) (bytes : List ℕ) → IsSlots slots → IsShape shape → Asked bytes shape.tag shape.row.response_handle
@@ -279,7 +279,7 @@ unfolding effect_of
 effect_taken slots shape auths bytes sound is asked of =
     let operands = slot_operands slots shape auths in
     let stand = operands_stand slots shape auths sound in
-    outcome_taken slots operands shape auths bytes (outcome_of slots.persist operands shape auths bytes) asked sound.count
+    outcome_taken slots operands shape auths bytes (outcome_of slots.persist operands shape auths bytes) asked (omega (arith, sound.count, sound.range.slots_most))
     (named_is slots.sessions operands.session stand.named) (outcome_plain slots.persist operands shape auths bytes)
     (left_outcome slots.persist operands shape auths bytes sound.persist (policy_stands slots.sessions operands stand) (object_stands slots.sessions operands stand))
     (made_outcome slots.persist operands shape auths bytes is.row of) (tells_outcome slots.persist operands shape auths bytes is.row)

@@ -2,7 +2,7 @@
 use Rattle.std.proofs.Common.{◌≡◌, ◌+◌, ◌≤◌, ℕ, List, drop, get_or, refl, arith}
 use Rattle.std.specs.Prelude.{Option, Some, None, Result, Ok, Err, nat_le, not, ◌==◌, ◌||◌, if◌then◌else◌}
 use Rattle.std.proofs.lemmas.Bool.{cond_both}
-use Rattle.tab_spec.specs.declared.TheConstants.{CC_CONTEXT_LOAD, CC_CONTEXT_SAVE, CC_FLUSH_CONTEXT, CC_GET_CAPABILITY, CC_STARTUP, CONTEXT_GAP, CONTEXT_LIMIT, HT_TRANSIENT, LOADED_SESSIONS, RC_1, RC_CONTEXT_GAP, RC_FAILURE, RC_HANDLE, RC_INITIALIZE, RC_INSUFFICIENT, RC_P, RC_SESSION_MEMORY, RC_SIZE, RC_SUCCESS, RC_VALUE, TRANSIENT_FIRST}
+use Rattle.tab_spec.specs.declared.TheConstants.{CC_CONTEXT_LOAD, CC_CONTEXT_SAVE, CC_FLUSH_CONTEXT, CC_GET_CAPABILITY, CC_STARTUP, CONTEXT_LIMIT, HT_TRANSIENT, RC_1, RC_CONTEXT_GAP, RC_FAILURE, RC_HANDLE, RC_INITIALIZE, RC_INSUFFICIENT, RC_P, RC_SESSION_MEMORY, RC_SIZE, RC_SUCCESS, RC_VALUE, TRANSIENT_FIRST}
 use Rattle.tab_spec.specs.declared.Admitted.{Admitted}
 use Rattle.tab_spec.specs.declared.Auths.{Auths}
 use Rattle.tab_spec.specs.declared.CommandRow.{CommandRow}
@@ -47,7 +47,7 @@ saved_session_rises : (slots : SlotState) (handle : ℕ) (found : Option Session
 saved_session_rises slots handle None = refused slots RC_FAILURE
 saved_session_rises slots handle (Some s) =
     cond_both (nat_le CONTEXT_LIMIT slots.counter) (Err RC_FAILURE) _ (RisesBy slots) (λ last. refused slots RC_FAILURE) (λ more.
-    cond_both (nat_le CONTEXT_GAP (gap_of slots)) (Err RC_CONTEXT_GAP) _ (RisesBy slots) (λ gap. refused slots RC_CONTEXT_GAP)
+    cond_both (nat_le slots.numbers.gap (gap_of slots)) (Err RC_CONTEXT_GAP) _ (RisesBy slots) (λ gap. refused slots RC_CONTEXT_GAP)
     (λ near. record { objects = omega arith; sessions = omega arith }))
 
 save_rises : (slots : SlotState) (handle : ℕ) (params : List ℕ) → RisesBy slots (context_save slots handle params)
@@ -69,7 +69,7 @@ loaded_session_rises slots c None = stays slots slots refl refl
 loaded_session_rises slots c (Some s) =
     cond_both (not (is_saved_under slots c.saved_handle c.sequence)) (Err (RC_HANDLE + RC_P + RC_1)) _ (RisesBy slots)
     (λ other. refused slots (RC_HANDLE + RC_P + RC_1)) (λ same.
-    cond_both (nat_le LOADED_SESSIONS (loaded_count slots.sessions)) (Err RC_SESSION_MEMORY) _ (RisesBy slots) (λ full. refused slots RC_SESSION_MEMORY)
+    cond_both (nat_le slots.numbers.loaded (loaded_count slots.sessions)) (Err RC_SESSION_MEMORY) _ (RisesBy slots) (λ full. refused slots RC_SESSION_MEMORY)
     (λ room. record { objects = omega arith; sessions = omega arith }))
 
 load_rises : (slots : SlotState) (params : List ℕ) → RisesBy slots (context_load slots params)

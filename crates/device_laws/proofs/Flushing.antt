@@ -49,7 +49,7 @@ flushed_as slots left handle rest sound steps rest_is same = record {
 
 -- ---- an object
 
-object_leaves : (slots : SlotState) (slot : ℕ) (o : Object) (rest : List ℕ) → IsSlots slots → slots.started ≡ true → slot < 3
+object_leaves : (slots : SlotState) (slot : ℕ) (o : Object) (rest : List ℕ) → IsSlots slots → slots.started ≡ true → slot < 254
     → get_or slots.slots slot None ≡ Some o → remains (with_slot slots slot None) ≡ rest → IsFlushed slots (TRANSIENT_FIRST + slot) rest
 object_leaves slots slot o rest sound started below there rest_is =
     let handle = TRANSIENT_FIRST + slot in
@@ -66,7 +66,7 @@ first_leaves slots handle objects sound started is =
     let first = first_object TRANSIENT_FIRST slots.slots handle objects is in
     let rest = objects ++ session_handles true slots ++ session_handles false slots in
     subst (λ (h : ℕ). IsFlushed slots h rest) (sym first.handle_is)
-    (object_leaves slots first.slot first.object rest sound started (omega (arith, first.below, sound.count)) first.there
+    (object_leaves slots first.slot first.object rest sound started (omega (arith, first.below, sound.count, sound.range.slots_most)) first.there
     (ap (λ (left : List ℕ). left ++ session_handles true slots ++ session_handles false slots) first.gone))
 
 -- ---- a session

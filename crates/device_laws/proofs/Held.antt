@@ -70,7 +70,7 @@ handle_of octet number is below =
 
 -- ---- they may be listed
 
-pub objects_listed : (from : ℕ) (slots : List (Option Object)) → 0x80000000 ≤ from → from + length slots ≤ 0x80000003
+pub objects_listed : (from : ℕ) (slots : List (Option Object)) → 0x80000000 ≤ from → from + length slots ≤ 0x800000fe
     → AreListed 0x80000000 (transient_from from slots)
 objects_listed from [] least most = tt
 objects_listed from (None ∷ slots) least most = objects_listed (from + 1) slots (omega arith) (omega arith)

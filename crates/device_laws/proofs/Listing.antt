@@ -117,8 +117,8 @@ pub objects_are_listed : (slots : SlotState) → IsSlots slots → slots.started
 objects_are_listed slots sound started =
     listed_by slots 0x80000000 (object_handles slots) started (omega arith)
     (ap (λ (items : List (List ℕ)). let found : Result (List (List ℕ)) ℕ = Ok items in found) (object_items 0x80000000 TRANSIENT_FIRST slots.slots (omega arith)))
-    (omega (arith, objects_few TRANSIENT_FIRST slots.slots, sound.count))
-    (objects_listed TRANSIENT_FIRST slots.slots (omega arith) (omega (arith, sound.count)))
+    (omega (arith, objects_few TRANSIENT_FIRST slots.slots, sound.count, sound.range.slots_most))
+    (objects_listed TRANSIENT_FIRST slots.slots (omega arith) (omega (arith, sound.count, sound.range.slots_most)))
 
 pub loaded_are_listed : (slots : SlotState) → IsSlots slots → slots.started ≡ true → IsListed slots 0x02000000 (session_handles true slots)
 loaded_are_listed slots sound started =

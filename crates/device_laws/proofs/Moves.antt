@@ -169,7 +169,7 @@ saved_word context long is =
 fits_by : (session : Bool) (saved octet : Bool) → session ≡ false → octet ≡ true → (if session then saved else octet) ≡ true
 fits_by session saved octet none is = rw (none, is) refl
 
-load_fits : (context : List ℕ) (number : ℕ) → word_at 18 (context_load_command context) ≡ Some TRANSIENT_FIRST → number ≤ 3
+load_fits : (context : List ℕ) (number : ℕ) → word_at 18 (context_load_command context) ≡ Some TRANSIENT_FIRST → number ≤ 254
     → fits_handle true (context_load_command context) (TRANSIENT_FIRST + number) ≡ true
 load_fits context number is few =
     let none : loads_session (context_load_command context) ≡ false = ap (is_word is_session_handle) is in
@@ -182,7 +182,7 @@ load_taken slots context o sound started small free is =
     let command = context_load_command context in
     let handle = TRANSIENT_FIRST + free_slot slots.slots in
     let last = response ST_NO_SESSIONS RC_SUCCESS (to_be_bytes w32 handle ++ []) in
-    let few : free_slot slots.slots ≤ 3 = omega (arith, free_few slots.slots, sound.count) in
+    let few : free_slot slots.slots ≤ 254 = omega (arith, free_few slots.slots, sound.count, sound.range.slots_most) in
     let steps = object_load_step slots context o started small free is in
     let frame : is_frame last ≡ true = sym (ap (λ (step : Step). is_frame step.1) steps) ∙ step_replies slots command sound in
     let has = object_handle slots.persist.seed context (context_of context) o (handle_read context) is in

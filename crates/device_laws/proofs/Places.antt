@@ -4,7 +4,7 @@ use Rattle.std.specs.Prelude.{◌==◌}
 use Rattle.std.specs.List.{AllByRecursion, count_by}
 use Rattle.std.proofs.lemmas.Bool.{eqb-true}
 use Rattle.std.proofs.lemmas.List.Sums.{sum_by-cons}
-use Rattle.tab_spec.specs.declared.TheConstants.{ACTIVE_SESSIONS, LOADED_SESSIONS}
+use Rattle.tab_spec.specs.declared.TheConstants.{SESSION_NUMBERS}
 use Rattle.tab_spec.specs.Session.{Session, IsSession}
 use Rattle.tab_spec.specs.Shape.{is_session_octet}
 use Rattle.device_spec.specs.Slots.{SessionPlace, inactive, loaded, saved, IsPlace, is_loaded, is_saved_as, loaded_count}
@@ -101,18 +101,18 @@ none_saved counter number (place ∷ places) all above =
 
 -- ---- all of them
 
--- the session numbers that a device of this profile may have, where the next session's context gets this number
-pub record ArePlaces (counter : ℕ) (sessions : List SessionPlace) : Type 0 where
-  pub numbers : length sessions ≡ ACTIVE_SESSIONS
+-- the session numbers that a device with so many places may have, where the next session's context gets this number
+pub record ArePlaces (most counter : ℕ) (sessions : List SessionPlace) : Type 0 where
+  pub numbers : length sessions ≡ SESSION_NUMBERS
   pub places : AllByRecursion (λ place. IsPlace counter place) sessions
-  pub few : loaded_count sessions ≤ LOADED_SESSIONS
+  pub few : loaded_count sessions ≤ most
   pub apart : (number : ℕ) → count_by (is_saved_as number) sessions ≤ 1
 
 -- a loaded session in the place of a loaded one
-pub loaded_again : (counter : ℕ) (places : List SessionPlace) (n octet : ℕ) (s : Session) → ArePlaces counter places
+pub loaded_again : (most counter : ℕ) (places : List SessionPlace) (n octet : ℕ) (s : Session) → ArePlaces most counter places
     → is_loaded (get_or places n inactive) ≡ true → is_session_octet octet ≡ true → IsSession s
-    → ArePlaces counter (set places n (loaded octet s))
-loaded_again counter places n octet s are there session is = record {
+    → ArePlaces most counter (set places n (loaded octet s))
+loaded_again most counter places n octet s are there session is = record {
   numbers = length-set places n (loaded octet s) ∙ are.numbers;
   places = place_set counter places n (loaded octet s) (session, is) are.places;
   few = omega (arith, count_swapped is_loaded places n (loaded octet s) there, are.few);
@@ -120,10 +120,10 @@ loaded_again counter places n octet s are there session is = record {
 }
 
 -- a session where there is room for it
-pub loaded_new : (counter : ℕ) (places : List SessionPlace) (n octet : ℕ) (s : Session) → ArePlaces counter places
-    → loaded_count places < LOADED_SESSIONS → is_session_octet octet ≡ true → IsSession s
-    → ArePlaces counter (set places n (loaded octet s))
-loaded_new counter places n octet s are room session is = record {
+pub loaded_new : (most counter : ℕ) (places : List SessionPlace) (n octet : ℕ) (s : Session) → ArePlaces most counter places
+    → loaded_count places < most → is_session_octet octet ≡ true → IsSession s
+    → ArePlaces most counter (set places n (loaded octet s))
+loaded_new most counter places n octet s are room session is = record {
   numbers = length-set places n (loaded octet s) ∙ are.numbers;
   places = place_set counter places n (loaded octet s) (session, is) are.places;
   few = omega (arith, count_set is_loaded places n (loaded octet s), room);
@@ -131,8 +131,8 @@ loaded_new counter places n octet s are room session is = record {
 }
 
 -- nobody's
-pub made_inactive : (counter : ℕ) (places : List SessionPlace) (n : ℕ) → ArePlaces counter places → ArePlaces counter (set places n inactive)
-made_inactive counter places n are = record {
+pub made_inactive : (most counter : ℕ) (places : List SessionPlace) (n : ℕ) → ArePlaces most counter places → ArePlaces most counter (set places n inactive)
+made_inactive most counter places n are = record {
   numbers = length-set places n inactive ∙ are.numbers;
   places = place_set counter places n inactive tt are.places;
   few = omega (arith, count_set is_loaded places n inactive, are.few);
@@ -147,9 +147,9 @@ apart_by true counter number places is all few =
     omega (arith, none_saved counter number places all (omega (arith, eqb-true counter number is)))
 
 -- saved under the next number
-pub saved_next : (counter : ℕ) (places : List SessionPlace) (n octet : ℕ) → ArePlaces counter places → is_session_octet octet ≡ true
-    → ArePlaces (counter + 1) (set places n (saved octet counter))
-saved_next counter places n octet are session = record {
+pub saved_next : (most counter : ℕ) (places : List SessionPlace) (n octet : ℕ) → ArePlaces most counter places → is_session_octet octet ≡ true
+    → ArePlaces most (counter + 1) (set places n (saved octet counter))
+saved_next most counter places n octet are session = record {
   numbers = length-set places n (saved octet counter) ∙ are.numbers;
   places = place_set (counter + 1) places n (saved octet counter) (session, omega arith) (later_places counter places are.places);
   few = omega (arith, count_set is_loaded places n (saved octet counter), are.few);
@@ -164,23 +164,23 @@ saved_next counter places n octet are session = record {
 -- ---- what a command keeps of them
 
 -- the session numbers are as they may be, and no more are loaded than were
-pub record KeepsPlaces (counter : ℕ) (old new : List SessionPlace) : Type 0 where
-  pub are : ArePlaces counter new
+pub record KeepsPlaces (most counter : ℕ) (old new : List SessionPlace) : Type 0 where
+  pub are : ArePlaces most counter new
   pub fewer : loaded_count new ≤ loaded_count old
 
-pub same_places : (counter : ℕ) (places : List SessionPlace) → ArePlaces counter places → KeepsPlaces counter places places
-same_places counter places are = record { are = are; fewer = omega arith }
+pub same_places : (most counter : ℕ) (places : List SessionPlace) → ArePlaces most counter places → KeepsPlaces most counter places places
+same_places most counter places are = record { are = are; fewer = omega arith }
 
-pub kept_loaded : (counter : ℕ) (old new : List SessionPlace) (n octet : ℕ) (s : Session) → KeepsPlaces counter old new
+pub kept_loaded : (most counter : ℕ) (old new : List SessionPlace) (n octet : ℕ) (s : Session) → KeepsPlaces most counter old new
     → is_loaded (get_or new n inactive) ≡ true → is_session_octet octet ≡ true → IsSession s
-    → KeepsPlaces counter old (set new n (loaded octet s))
-kept_loaded counter old new n octet s keeps there session is = record {
-  are = loaded_again counter new n octet s keeps.are there session is;
+    → KeepsPlaces most counter old (set new n (loaded octet s))
+kept_loaded most counter old new n octet s keeps there session is = record {
+  are = loaded_again most counter new n octet s keeps.are there session is;
   fewer = omega (arith, count_swapped is_loaded new n (loaded octet s) there, keeps.fewer);
 }
 
-pub kept_inactive : (counter : ℕ) (old new : List SessionPlace) (n : ℕ) → KeepsPlaces counter old new → KeepsPlaces counter old (set new n inactive)
-kept_inactive counter old new n keeps = record {
-  are = made_inactive counter new n keeps.are;
+pub kept_inactive : (most counter : ℕ) (old new : List SessionPlace) (n : ℕ) → KeepsPlaces most counter old new → KeepsPlaces most counter old (set new n inactive)
+kept_inactive most counter old new n keeps = record {
+  are = made_inactive most counter new n keeps.are;
   fewer = omega (arith, count_set is_loaded new n inactive, keeps.fewer);
 }

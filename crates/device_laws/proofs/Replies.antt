@@ -4,13 +4,16 @@ use Rattle.std.specs.Prelude.{Option, Some, None, IfSome, Result, Ok, Err, is_ok
 use Rattle.std.specs.List.{AllByRecursion}
 use Rattle.std.specs.Int.{w32, to_be_bytes}
 use Rattle.std.proofs.lemmas.Bool.{leb-false, cond_both}
-use Rattle.tab_spec.specs.declared.TheConstants.{CONTEXT_GAP, CONTEXT_LIMIT, ACTIVE_SESSIONS, LOADED_SESSIONS, TRANSIENT_FIRST, HT_TRANSIENT, PCRS, ST_NO_SESSIONS, ST_SESSIONS, CC_STARTUP, CC_GET_CAPABILITY, CC_CONTEXT_SAVE, CC_CONTEXT_LOAD, CC_FLUSH_CONTEXT, RC_SUCCESS, RC_BAD_TAG, RC_COMMAND_SIZE, RC_CONTEXT_GAP, RC_SESSION_HANDLES, RC_SESSION_MEMORY, RC_SIZE, RC_HANDLE, RC_INTEGRITY, RC_FAILURE, RC_INITIALIZE, RC_INSUFFICIENT, RC_VALUE, RC_P, RC_1}
+use Rattle.std.proofs.lemmas.List.{length-replicate}
+use Rattle.tab_spec.specs.declared.TheConstants.{CONTEXT_LIMIT, SESSION_NUMBERS, TRANSIENT_FIRST, HT_TRANSIENT, PCRS, ST_NO_SESSIONS, ST_SESSIONS, CC_STARTUP, CC_GET_CAPABILITY, CC_CONTEXT_SAVE, CC_CONTEXT_LOAD, CC_FLUSH_CONTEXT, RC_SUCCESS, RC_BAD_TAG, RC_COMMAND_SIZE, RC_CONTEXT_GAP, RC_SESSION_HANDLES, RC_SESSION_MEMORY, RC_SIZE, RC_HANDLE, RC_INTEGRITY, RC_FAILURE, RC_INITIALIZE, RC_INSUFFICIENT, RC_VALUE, RC_P, RC_1}
 use Rattle.tab_spec.specs.Frame.{tag_of, code_of, is_frame}
 use Rattle.tab_spec.specs.declared.SessionKind.{SessionKind}
 use Rattle.tab_spec.specs.declared.SessionKind.TheVariants as session_kinds
 use Rattle.tab_spec.specs.declared.Shape.{Shape}
 use Rattle.tab_spec.specs.declared.Auths.{Auths}
 use Rattle.tab_spec.specs.declared.CommandRow.{CommandRow}
+use Rattle.tab_spec.specs.declared.numbers.Numbers.{Numbers}
+use Rattle.tab_spec.specs.Numbers.{AreInRange}
 use Rattle.tab_spec.specs.declared.Admitted.{Admitted}
 use Rattle.tab_spec.specs.Commands.{row_of, all_commands, startup_command}
 use Rattle.tab_spec.specs.Shape.{IsShape, octet_of, is_command_tag, is_session_octet, known_row, row_in, number_of_session}
@@ -44,14 +47,15 @@ use Rattle.device_laws.proofs.Standing.{IsLoadedAs, StandAll, is_loaded_as, left
 
 -- ---- states
 
-places_are : (slots : SlotState) → IsSlots slots → ArePlaces slots.counter slots.sessions
+places_are : (slots : SlotState) → IsSlots slots → ArePlaces slots.numbers.loaded slots.counter slots.sessions
 places_are slots sound = record { numbers = sound.numbers; places = sound.places; few = sound.loaded; apart = sound.apart }
 
 -- with other sessions, and another number of the next context
-with_places_sound : (slots : SlotState) (sessions : List SessionPlace) (counter : ℕ) → IsSlots slots → ArePlaces counter sessions → counter ≤ CONTEXT_LIMIT
+with_places_sound : (slots : SlotState) (sessions : List SessionPlace) (counter : ℕ) → IsSlots slots → ArePlaces slots.numbers.loaded counter sessions → counter ≤ CONTEXT_LIMIT
     → IsSlots (record slots { sessions = sessions; counter = counter })
 with_places_sound slots sessions counter sound are within = record {
   persist = sound.persist;
+  range = sound.range;
   count = sound.count;
   objects = sound.objects;
   object_counter = sound.object_counter;
@@ -62,13 +66,14 @@ with_places_sound slots sessions counter sound are within = record {
   counter = within;
 }
 
-with_sessions_sound : (slots : SlotState) (sessions : List SessionPlace) → IsSlots slots → ArePlaces slots.counter sessions
+with_sessions_sound : (slots : SlotState) (sessions : List SessionPlace) → IsSlots slots → ArePlaces slots.numbers.loaded slots.counter sessions
     → IsSlots (record slots { sessions = sessions })
 with_sessions_sound slots sessions sound are = with_places_sound slots sessions slots.counter sound are sound.counter
 
 with_persist_sound : (slots : SlotState) (persist : Persist) → IsSlots slots → IsPersist persist → IsSlots (record slots { persist = persist })
 with_persist_sound slots persist sound is = record {
   persist = is;
+  range = sound.range;
   count = sound.count;
   objects = sound.objects;
   object_counter = sound.object_counter;
@@ -82,6 +87,7 @@ with_persist_sound slots persist sound is = record {
 started_sound : (slots : SlotState) → IsSlots slots → IsSlots (record slots { started = true })
 started_sound slots sound = record {
   persist = sound.persist;
+  range = sound.range;
   count = sound.count;
   objects = sound.objects;
   object_counter = sound.object_counter;
@@ -101,6 +107,7 @@ all_in_place (held ∷ slots) (suc place) slot is all = (all.0, all_in_place slo
 pub with_slot_sound : (slots : SlotState) (place : ℕ) (slot : Option Object) → IsSlots slots → IfSome slot IsObject → IsSlots (with_slot slots place slot)
 with_slot_sound slots place slot sound is = record {
   persist = sound.persist;
+  range = sound.range;
   count = length-set slots.slots place slot ∙ sound.count;
   objects = all_in_place slots.slots place slot is sound.objects;
   object_counter = sound.object_counter;
@@ -114,6 +121,7 @@ with_slot_sound slots place slot sound is = record {
 object_counted_sound : (slots : SlotState) (next : ℕ) → IsSlots slots → next ≤ CONTEXT_LIMIT → IsSlots (record slots { object_counter = next })
 object_counted_sound slots next sound within = record {
   persist = sound.persist;
+  range = sound.range;
   count = sound.count;
   objects = sound.objects;
   object_counter = within;
@@ -156,7 +164,7 @@ kind_is_octet session_kinds.Policy = refl
 kind_is_octet session_kinds.Trial = refl
 
 session_placed_replies : (Bytes : Type 0) (slots : SlotState) (s : Session) (tag : ℕ) (body : List ℕ) → (Bytes → IsSlots slots)
-    → (Bytes → loaded_count slots.sessions < LOADED_SESSIONS) → IsSession s → length body ≤ 4080
+    → (Bytes → loaded_count slots.sessions < slots.numbers.loaded) → IsSession s → length body ≤ 4080
     → Replies Bytes (session_placed slots s (response tag RC_SUCCESS (0 ∷ 0 ∷ 0 ∷ 0 ∷ body)))
 session_placed_replies Bytes slots s tag body sound room is small =
     let number = free_number slots.sessions in
@@ -165,14 +173,14 @@ session_placed_replies Bytes slots s tag body sound room is small =
       reply = handled_is_frame tag (octet * 2 ^ 24 + number) body small;
       sound = λ bytes.
           with_sessions_sound slots (set slots.sessions number (loaded octet s)) (sound bytes)
-          (loaded_new slots.counter slots.sessions number octet s (places_are slots (sound bytes)) (room bytes) (kind_is_octet s.kind) is);
+          (loaded_new slots.numbers.loaded slots.counter slots.sessions number octet s (places_are slots (sound bytes)) (room bytes) (kind_is_octet s.kind) is);
     }
 
 -- there is room for what was made
 abbrev RoomFor : SlotState → Created → Type 0
 RoomFor slots nothing = Unit
 RoomFor slots (new_object o) = Unit
-RoomFor slots (new_session s) = loaded_count slots.sessions < LOADED_SESSIONS
+RoomFor slots (new_session s) = loaded_count slots.sessions < slots.numbers.loaded
 
 not_many : (numbers places : Bool) (first second : ℕ) → (if numbers then Some first else if places then Some second else None) ≡ None → places ≡ false
 not_many true places first second is = absurd cc
@@ -180,11 +188,12 @@ not_many false true first second is = absurd cc
 not_many false false first second is = refl
 
 room_checked : (slots : SlotState) (check : Result StartParameters ℕ) → is_ok check ≡ true → session_too_many slots check ≡ None
-    → loaded_count slots.sessions < LOADED_SESSIONS
+    → loaded_count slots.sessions < slots.numbers.loaded
 room_checked slots (Err code) checked none = absurd (true≢false (sym checked))
 room_checked slots (Ok b) checked none =
-    leb-false LOADED_SESSIONS (loaded_count slots.sessions)
-    (not_many (nat_le ACTIVE_SESSIONS (active_count slots.sessions)) (nat_le LOADED_SESSIONS (loaded_count slots.sessions)) RC_SESSION_HANDLES RC_SESSION_MEMORY none)
+    leb-false slots.numbers.loaded (loaded_count slots.sessions)
+    (not_many (nat_le slots.numbers.active (active_count slots.sessions) || nat_le SESSION_NUMBERS (active_count slots.sessions))
+    (nat_le slots.numbers.loaded (loaded_count slots.sessions)) RC_SESSION_HANDLES RC_SESSION_MEMORY none)
 
 has_room : (slots : SlotState) (code : ℕ) (params : List ℕ) (created : Created) → room_for slots code params ≡ None → StartsBy code params created
     → RoomFor slots created
@@ -237,14 +246,14 @@ between_sound : (slots : SlotState) (persist : Persist) (operands : Operands) (e
     → StandAll slots.sessions operands → IsSlots (record slots { persist = persist; sessions = sessions_left slots.sessions operands ended })
 between_sound slots persist operands ended sound is stand =
     with_sessions_sound (record slots { persist = persist }) (sessions_left slots.sessions operands ended) (with_persist_sound slots persist sound is)
-    (sessions_kept slots.counter slots.sessions operands ended (places_are slots sound) stand).are
+    (sessions_kept slots.numbers.loaded slots.counter slots.sessions operands ended (places_are slots sound) stand).are
 
 still_room : (slots : SlotState) (persist : Persist) (operands : Operands) (ended : Bool) (created : Created) → IsSlots slots → StandAll slots.sessions operands
     → RoomFor slots created → RoomFor (record slots { persist = persist; sessions = sessions_left slots.sessions operands ended }) created
 still_room slots persist operands ended nothing sound stand room = tt
 still_room slots persist operands ended (new_object o) sound stand room = tt
 still_room slots persist operands ended (new_session s) sound stand room =
-    omega (arith, (sessions_kept slots.counter slots.sessions operands ended (places_are slots sound) stand).fewer, room)
+    omega (arith, (sessions_kept slots.numbers.loaded slots.counter slots.sessions operands ended (places_are slots sound) stand).fewer, room)
 
 effect_refused : (Bytes : Type 0) (slots : SlotState) (operands : Operands) (code : ℕ) → IsSlots slots → StandAll slots.sessions operands
     → Replies Bytes (record slots { persist = slots.persist; sessions = sessions_left slots.sessions operands false }, error_reply code)
@@ -323,7 +332,7 @@ session_saved_replies Bytes slots handle (Some s) sound is =
     let number = number_of_session handle in
     let octet = octet_of handle in
     cond_both (nat_le CONTEXT_LIMIT slots.counter) (Err RC_FAILURE) _ (StepWell Bytes slots) (λ last. step_refused Bytes slots RC_FAILURE sound) (λ more.
-    cond_both (nat_le CONTEXT_GAP (gap_of slots)) (Err RC_CONTEXT_GAP)
+    cond_both (nat_le slots.numbers.gap (gap_of slots)) (Err RC_CONTEXT_GAP)
     (Ok (record (with_place slots number (saved octet slots.counter)) { counter = slots.counter + 1 }, response ST_NO_SESSIONS RC_SUCCESS context))
     (StepWell Bytes slots) (λ gap. step_refused Bytes slots RC_CONTEXT_GAP sound) (λ near.
     let before = leb-false CONTEXT_LIMIT slots.counter more in
@@ -332,7 +341,7 @@ session_saved_replies Bytes slots handle (Some s) sound is =
       reply = response_is_frame ST_NO_SESSIONS RC_SUCCESS context (omega (arith, small));
       sound = λ bytes.
           with_places_sound slots (set slots.sessions number (saved octet slots.counter)) (slots.counter + 1) sound
-          (saved_next slots.counter slots.sessions number octet (places_are slots sound) is.0) (omega (arith, before));
+          (saved_next slots.numbers.loaded slots.counter slots.sessions number octet (places_are slots sound) is.0) (omega (arith, before));
     }))
 
 save_replies : (Bytes : Type 0) (slots : SlotState) (handle : ℕ) (params : List ℕ) → IsSlots slots → StepWell Bytes slots (context_save slots handle params)
@@ -357,14 +366,14 @@ session_loaded_replies Bytes slots c (Some s) sound octet is =
     let place = loaded (octet_of c.saved_handle) s in
     cond_both (not (is_saved_under slots c.saved_handle c.sequence)) (Err (RC_HANDLE + RC_P + RC_1)) _ (StepWell Bytes slots)
     (λ other. step_refused Bytes slots (RC_HANDLE + RC_P + RC_1) sound) (λ same.
-    cond_both (nat_le LOADED_SESSIONS (loaded_count slots.sessions)) (Err RC_SESSION_MEMORY)
+    cond_both (nat_le slots.numbers.loaded (loaded_count slots.sessions)) (Err RC_SESSION_MEMORY)
     (Ok (with_place slots number place, response ST_NO_SESSIONS RC_SUCCESS (to_be_bytes w32 c.saved_handle))) (StepWell Bytes slots)
     (λ full. step_refused Bytes slots RC_SESSION_MEMORY sound) (λ room. record {
       reply = response_is_frame ST_NO_SESSIONS RC_SUCCESS (to_be_bytes w32 c.saved_handle) (omega arith);
       sound = λ bytes.
           with_sessions_sound slots (set slots.sessions number place) sound
-          (loaded_new slots.counter slots.sessions number (octet_of c.saved_handle) s (places_are slots sound)
-          (leb-false LOADED_SESSIONS (loaded_count slots.sessions) room) octet (is bytes));
+          (loaded_new slots.numbers.loaded slots.counter slots.sessions number (octet_of c.saved_handle) s (places_are slots sound)
+          (leb-false slots.numbers.loaded (loaded_count slots.sessions) room) octet (is bytes));
     }))
 
 opened_well : (seed bytes : List ℕ) (opened : Option Object) → opened_object seed bytes ≡ opened → IfSome opened IsObject
@@ -400,7 +409,7 @@ session_flushed_replies Bytes slots handle sound =
     (λ active. record {
       reply = refl;
       sound = λ bytes.
-          with_sessions_sound slots (set slots.sessions number inactive) sound (made_inactive slots.counter slots.sessions number (places_are slots sound));
+          with_sessions_sound slots (set slots.sessions number inactive) sound (made_inactive slots.numbers.loaded slots.counter slots.sessions number (places_are slots sound));
     })
     (λ none. step_refused Bytes slots (RC_HANDLE + RC_P + RC_1) sound)
 
@@ -420,7 +429,7 @@ told_replies Bytes slots (Ok params) sound short =
 capability_replies : (Bytes : Type 0) (slots : SlotState) (params : List ℕ) → IsSlots slots → StepWell Bytes slots (get_capability slots params)
 capability_replies Bytes slots params sound =
     told_replies Bytes slots (capability_row slots params) sound
-    (short_capability device_limits all_commands slots.persist (transient_from TRANSIENT_FIRST slots.slots) (listed_from 0 slots.sessions)
+    (short_capability (device_limits slots.numbers) all_commands slots.persist (transient_from TRANSIENT_FIRST slots.slots) (listed_from 0 slots.sessions)
     (active_count slots.sessions) params)
 
 -- ---- every command
@@ -506,14 +515,19 @@ all_inactive : (count : ℕ) → AllByRecursion (λ place. IsPlace 0 place) (rep
 all_inactive zero = tt
 all_inactive (suc count) = (tt, all_inactive count)
 
-pub new_is_slots : (seed : List ℕ) → length seed ≡ 32 → IsSlots (new_slots (fresh_persist seed))
-new_is_slots seed is = record {
+all_free : (count : ℕ) → AllByRecursion (λ slot. IfSome slot IsObject) (replicate count None)
+all_free zero = tt
+all_free (suc count) = (tt, all_free count)
+
+pub new_is_slots : (numbers : Numbers) (seed : List ℕ) → AreInRange numbers → length seed ≡ 32 → IsSlots (new_slots numbers (fresh_persist seed))
+new_is_slots numbers seed range is = record {
   persist = fresh_is_persist seed is;
-  count = refl;
-  objects = (tt, (tt, (tt, tt)));
+  range = range;
+  count = length-replicate numbers.slots None;
+  objects = all_free numbers.slots;
   object_counter = omega arith;
   numbers = refl;
-  places = all_inactive ACTIVE_SESSIONS;
+  places = all_inactive SESSION_NUMBERS;
   loaded = omega arith;
   apart = λ number. omega arith;
   counter = omega arith;
@@ -526,13 +540,13 @@ pub record Starts (slots : SlotState) (step : Step) : Type 0 where
   pub state : step.0 ≡ record slots { started = true }
   pub taken : takes true true startup_command step.1 ≡ true
 
-starts_from : (started : Bool) (persist : Persist) (held : List (Option Object)) (sessions : List SessionPlace) (object_counter counter : ℕ)
+starts_from : (started : Bool) (persist : Persist) (numbers : Numbers) (held : List (Option Object)) (sessions : List SessionPlace) (object_counter counter : ℕ)
     → let slots : SlotState =
-    record { started = started; persist = persist; slots = held; sessions = sessions; object_counter = object_counter; counter = counter } in
+    record { started = started; persist = persist; numbers = numbers; slots = held; sessions = sessions; object_counter = object_counter; counter = counter } in
     Starts slots (slot_step slots startup_command)
 unfolding slot_step auths_of
-starts_from true persist held sessions object_counter counter = record { state = refl; taken = refl }
-starts_from false persist held sessions object_counter counter = record { state = refl; taken = refl }
+starts_from true persist numbers held sessions object_counter counter = record { state = refl; taken = refl }
+starts_from false persist numbers held sessions object_counter counter = record { state = refl; taken = refl }
 
 pub startup_starts : (slots : SlotState) → Starts slots (slot_step slots startup_command)
-startup_starts slots = starts_from slots.started slots.persist slots.slots slots.sessions slots.object_counter slots.counter
+startup_starts slots = starts_from slots.started slots.persist slots.numbers slots.slots slots.sessions slots.object_counter slots.counter

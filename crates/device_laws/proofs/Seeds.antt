@@ -2,7 +2,7 @@
 use Rattle.std.proofs.Common.{◌≡◌, ◌+◌, ℕ, List, [], ◌∷◌, length, drop, get_or, set, min, refl, ◌∙◌, ap, subst}
 use Rattle.std.specs.Prelude.{Option, Some, None, Result, Ok, Err, nat_le, not, is_some, ◌==◌, ◌||◌, if◌then◌else◌}
 use Rattle.std.proofs.lemmas.Bool.{cond_both}
-use Rattle.tab_spec.specs.declared.TheConstants.{CONTEXT_GAP, CONTEXT_LIMIT, LAST_PLACE, LOADED_SESSIONS, MOST_RANDOM_BYTES, NV_INDEXES, TRANSIENT_FIRST, HT_TRANSIENT, ST_NO_SESSIONS, ST_SESSIONS, CC_STARTUP, CC_SELF_TEST, CC_GET_RANDOM, CC_PCR_READ, CC_PCR_EXTEND, CC_NV_DEFINE_SPACE, CC_NV_UNDEFINE_SPACE, CC_NV_READ_PUBLIC, CC_NV_WRITE, CC_NV_INCREMENT, CC_NV_READ, CC_CREATE_PRIMARY, CC_CREATE, CC_LOAD, CC_UNSEAL, CC_HMAC, CC_READ_PUBLIC, CC_START_AUTH_SESSION, CC_GET_CAPABILITY, CC_CONTEXT_SAVE, CC_CONTEXT_LOAD, CC_FLUSH_CONTEXT, RC_1, RC_COMMAND_CODE, RC_CONTEXT_GAP, RC_FAILURE, RC_HANDLE, RC_INITIALIZE, RC_INSUFFICIENT, RC_NV_DEFINED, RC_NV_SPACE, RC_P, RC_SESSION_MEMORY, RC_SIZE, RC_SUCCESS, RC_TYPE, RC_VALUE, RC_ATTRIBUTES}
+use Rattle.tab_spec.specs.declared.TheConstants.{CONTEXT_LIMIT, LAST_PLACE, MOST_RANDOM_BYTES, NV_INDEXES, TRANSIENT_FIRST, HT_TRANSIENT, ST_NO_SESSIONS, ST_SESSIONS, CC_STARTUP, CC_SELF_TEST, CC_GET_RANDOM, CC_PCR_READ, CC_PCR_EXTEND, CC_NV_DEFINE_SPACE, CC_NV_UNDEFINE_SPACE, CC_NV_READ_PUBLIC, CC_NV_WRITE, CC_NV_INCREMENT, CC_NV_READ, CC_CREATE_PRIMARY, CC_CREATE, CC_LOAD, CC_UNSEAL, CC_HMAC, CC_READ_PUBLIC, CC_START_AUTH_SESSION, CC_GET_CAPABILITY, CC_CONTEXT_SAVE, CC_CONTEXT_LOAD, CC_FLUSH_CONTEXT, RC_1, RC_COMMAND_CODE, RC_CONTEXT_GAP, RC_FAILURE, RC_HANDLE, RC_INITIALIZE, RC_INSUFFICIENT, RC_NV_DEFINED, RC_NV_SPACE, RC_P, RC_SESSION_MEMORY, RC_SIZE, RC_SUCCESS, RC_TYPE, RC_VALUE, RC_ATTRIBUTES}
 use Rattle.tab_spec.specs.declared.Auth.{Auth}
 use Rattle.tab_spec.specs.declared.Auths.{Auths}
 use Rattle.tab_spec.specs.declared.Admitted.{Admitted}
@@ -288,6 +288,15 @@ effect_by_seed slots effect =
     ap (λ (persist : Persist). persist.seed)
     (made_persist (record slots { persist = effect.persist; sessions = sessions_left slots.sessions effect.operands effect.outcome.auth_ended }) effect.outcome.created effect.reply)
 
+made_numbers : (slots : SlotState) (created : Created) (reply : List ℕ) → (made_by slots created reply).0.numbers ≡ slots.numbers
+made_numbers slots nothing reply = refl
+made_numbers slots (new_object o) reply = refl
+made_numbers slots (new_session s) reply = refl
+
+effect_by_numbers : (slots : SlotState) (effect : Effect) → (effect_by slots effect).0.numbers ≡ slots.numbers
+effect_by_numbers slots effect =
+    made_numbers (record slots { persist = effect.persist; sessions = sessions_left slots.sessions effect.operands effect.outcome.auth_ended }) effect.outcome.created effect.reply
+
 -- the slots after an effect, by what was made
 abbrev made_slots : SlotState → Effect → Created → List (Option Object)
 made_slots slots effect created =
@@ -303,40 +312,40 @@ session_fills_none slots effect s is = ap (made_slots slots effect) is
 pub nothing_fills_none : (slots : SlotState) (effect : Effect) → effect.outcome.created ≡ nothing → (effect_by slots effect).0.slots ≡ slots.slots
 nothing_fills_none slots effect is = ap (made_slots slots effect) is
 
--- ---- the commands of the machine itself keep all that is kept
+-- ---- the commands of the machine itself keep all that is kept, and its numbers
 
 abbrev Keeps : SlotState → Result Step ℕ → Type 0
-Keeps slots step = (step_by slots step).0.persist ≡ slots.persist
+Keeps slots step = ((step_by slots step).0.persist ≡ slots.persist) × ((step_by slots step).0.numbers ≡ slots.numbers)
 
 saved_object_keeps : (slots : SlotState) (slot : Option Object) → Keeps slots (object_saved slots slot)
-saved_object_keeps slots None = refl
+saved_object_keeps slots None = (refl, refl)
 saved_object_keeps slots (Some o) =
-    cond_both (nat_le CONTEXT_LIMIT slots.object_counter) (Err RC_FAILURE) _ (Keeps slots) (λ last. refl) (λ more. refl)
+    cond_both (nat_le CONTEXT_LIMIT slots.object_counter) (Err RC_FAILURE) _ (Keeps slots) (λ last. (refl, refl)) (λ more. (refl, refl))
 
 saved_session_keeps : (slots : SlotState) (handle : ℕ) (found : Option Session) → Keeps slots (session_saved slots handle found)
-saved_session_keeps slots handle None = refl
+saved_session_keeps slots handle None = (refl, refl)
 saved_session_keeps slots handle (Some s) =
-    cond_both (nat_le CONTEXT_LIMIT slots.counter) (Err RC_FAILURE) _ (Keeps slots) (λ last. refl) (λ more.
-    cond_both (nat_le CONTEXT_GAP (gap_of slots)) (Err RC_CONTEXT_GAP) _ (Keeps slots) (λ gap. refl) (λ near. refl))
+    cond_both (nat_le CONTEXT_LIMIT slots.counter) (Err RC_FAILURE) _ (Keeps slots) (λ last. (refl, refl)) (λ more.
+    cond_both (nat_le slots.numbers.gap (gap_of slots)) (Err RC_CONTEXT_GAP) _ (Keeps slots) (λ gap. (refl, refl)) (λ near. (refl, refl)))
 
 save_keeps : (slots : SlotState) (handle : ℕ) (params : List ℕ) → Keeps slots (context_save slots handle params)
 save_keeps slots handle params =
     fitting_read (Keeps slots) (nothing_of params)
     (λ none.
     if octet_of handle == HT_TRANSIENT then object_saved slots (in_slot slots handle) else session_saved slots handle (loaded_session slots handle))
-    (λ code. refl) (λ none.
+    (λ code. (refl, refl)) (λ none.
     cond_both (octet_of handle == HT_TRANSIENT) (object_saved slots (in_slot slots handle)) (session_saved slots handle (loaded_session slots handle)) (Keeps slots)
     (λ object. saved_object_keeps slots (in_slot slots handle)) (λ session. saved_session_keeps slots handle (loaded_session slots handle)))
 
 loaded_object_keeps : (slots : SlotState) (found : Option Object) → Keeps slots (object_loaded slots found)
-loaded_object_keeps slots None = refl
-loaded_object_keeps slots (Some o) = refl
+loaded_object_keeps slots None = (refl, refl)
+loaded_object_keeps slots (Some o) = (refl, refl)
 
 loaded_session_keeps : (slots : SlotState) (c : Context) (found : Option Session) → Keeps slots (session_loaded slots c found)
-loaded_session_keeps slots c None = refl
+loaded_session_keeps slots c None = (refl, refl)
 loaded_session_keeps slots c (Some s) =
-    cond_both (not (is_saved_under slots c.saved_handle c.sequence)) (Err (RC_HANDLE + RC_P + RC_1)) _ (Keeps slots) (λ other. refl) (λ same.
-    cond_both (nat_le LOADED_SESSIONS (loaded_count slots.sessions)) (Err RC_SESSION_MEMORY) _ (Keeps slots) (λ full. refl) (λ room. refl))
+    cond_both (not (is_saved_under slots c.saved_handle c.sequence)) (Err (RC_HANDLE + RC_P + RC_1)) _ (Keeps slots) (λ other. (refl, refl)) (λ same.
+    cond_both (nat_le slots.numbers.loaded (loaded_count slots.sessions)) (Err RC_SESSION_MEMORY) _ (Keeps slots) (λ full. (refl, refl)) (λ room. (refl, refl)))
 
 load_keeps : (slots : SlotState) (params : List ℕ) → Keeps slots (context_load slots params)
 load_keeps slots params =
@@ -346,20 +355,20 @@ load_keeps slots params =
     if c.saved_handle == TRANSIENT_FIRST then object_loaded slots (opened_object slots.persist.seed params)
     else if is_session_handle c.saved_handle then session_loaded slots c (opened_session slots.persist.seed params)
     else Err (RC_VALUE + RC_P + RC_1))
-    (λ code. refl) (λ c.
+    (λ code. (refl, refl)) (λ c.
     cond_both (c.saved_handle == TRANSIENT_FIRST) (object_loaded slots (opened_object seed params)) _ (Keeps slots)
     (λ object. loaded_object_keeps slots (opened_object seed params)) (λ other.
     cond_both (is_session_handle c.saved_handle) (session_loaded slots c (opened_session seed params)) (Err (RC_VALUE + RC_P + RC_1)) (Keeps slots)
-    (λ session. loaded_session_keeps slots c (opened_session seed params)) (λ neither. refl)))
+    (λ session. loaded_session_keeps slots c (opened_session seed params)) (λ neither. (refl, refl))))
 
 flushed_object_keeps : (slots : SlotState) (handle : ℕ) (slot : Option Object) → Keeps slots (object_flushed slots handle slot)
-flushed_object_keeps slots handle None = refl
-flushed_object_keeps slots handle (Some o) = refl
+flushed_object_keeps slots handle None = (refl, refl)
+flushed_object_keeps slots handle (Some o) = (refl, refl)
 
 flushed_session_keeps : (slots : SlotState) (handle : ℕ) → Keeps slots (session_flushed slots handle)
 flushed_session_keeps slots handle =
     let flushed : Result Step ℕ = Ok (with_place slots (number_of_session handle) inactive, response ST_NO_SESSIONS RC_SUCCESS []) in
-    cond_both (is_active_with (octet_of handle) (place_of slots handle)) flushed (Err (RC_HANDLE + RC_P + RC_1)) (Keeps slots) (λ active. refl) (λ none. refl)
+    cond_both (is_active_with (octet_of handle) (place_of slots handle)) flushed (Err (RC_HANDLE + RC_P + RC_1)) (Keeps slots) (λ active. (refl, refl)) (λ none. (refl, refl))
 
 flush_keeps : (slots : SlotState) (params : List ℕ) → Keeps slots (flush_context slots params)
 flush_keeps slots params =
@@ -368,26 +377,26 @@ flush_keeps slots params =
     if octet_of handle == HT_TRANSIENT then object_flushed slots handle (in_slot slots handle)
     else if is_session_handle handle then session_flushed slots handle
     else Err (RC_VALUE + RC_P + RC_1))
-    (λ code. refl) (λ handle.
+    (λ code. (refl, refl)) (λ handle.
     cond_both (octet_of handle == HT_TRANSIENT) (object_flushed slots handle (in_slot slots handle)) _ (Keeps slots)
     (λ object. flushed_object_keeps slots handle (in_slot slots handle)) (λ other.
     cond_both (is_session_handle handle) (session_flushed slots handle) (Err (RC_VALUE + RC_P + RC_1)) (Keeps slots)
-    (λ session. flushed_session_keeps slots handle) (λ neither. refl)))
+    (λ session. flushed_session_keeps slots handle) (λ neither. (refl, refl))))
 
 told_keeps : (slots : SlotState) (row : Result (List ℕ) ℕ) → Keeps slots (capability_told slots row)
-told_keeps slots (Err code) = refl
-told_keeps slots (Ok params) = refl
+told_keeps slots (Err code) = (refl, refl)
+told_keeps slots (Ok params) = (refl, refl)
 
 -- ---- every command
 
 abbrev SameSeed : SlotState → Step → Type 0
-SameSeed slots step = step.0.persist.seed ≡ slots.persist.seed
+SameSeed slots step = (step.0.persist.seed ≡ slots.persist.seed) × (step.0.numbers ≡ slots.numbers)
 
 kept_seed : (slots : SlotState) (step : Result Step ℕ) → Keeps slots step → SameSeed slots (step_by slots step)
-kept_seed slots step keeps = ap (λ (persist : Persist). persist.seed) keeps
+kept_seed slots step keeps = (ap (λ (persist : Persist). persist.seed) keeps.0, keeps.1)
 
 unless_full_seed : (slots : SlotState) (full : Option ℕ) (next : Step) → SameSeed slots next → SameSeed slots (unless_full slots full next)
-unless_full_seed slots (Some code) next same = refl
+unless_full_seed slots (Some code) next same = (refl, refl)
 unless_full_seed slots None next same = same
 
 run_seed : (slots : SlotState) (shape : Shape) (auths : Auths) (bytes : List ℕ) → SameSeed slots (slot_effect slots shape auths bytes)
@@ -398,25 +407,30 @@ run_seed slots shape auths bytes =
     let effect = effect_of slots.persist operands shape auths bytes in
     let room = room_for slots shape.row.code params in
     cond_both (shape.row.code == CC_STARTUP) (started_with slots (startup_code slots.started params)) _ (SameSeed slots)
-    (λ so. cond_both (startup_code slots.started params == RC_SUCCESS) _ _ (SameSeed slots) (λ starts. refl) (λ refused. refl)) (λ not.
+    (λ so. cond_both (startup_code slots.started params == RC_SUCCESS) _ _ (SameSeed slots) (λ starts. (refl, refl)) (λ refused. (refl, refl))) (λ not.
     cond_both (shape.row.code == CC_CONTEXT_SAVE) _ _ (SameSeed slots) (λ so. kept_seed slots (context_save slots handle params) (save_keeps slots handle params)) (λ not.
     cond_both (shape.row.code == CC_CONTEXT_LOAD) _ _ (SameSeed slots) (λ so. kept_seed slots (context_load slots params) (load_keeps slots params)) (λ not.
     cond_both (shape.row.code == CC_FLUSH_CONTEXT) _ _ (SameSeed slots) (λ so. kept_seed slots (flush_context slots params) (flush_keeps slots params)) (λ not.
     cond_both (shape.row.code == CC_GET_CAPABILITY) (step_by slots (get_capability slots params)) (unless_full slots room (effect_by slots effect)) (SameSeed slots)
     (λ so. kept_seed slots (get_capability slots params) (told_keeps slots (capability_row slots params)))
-    (λ not. unless_full_seed slots room (effect_by slots effect) (effect_by_seed slots effect ∙ effect_seed slots.persist operands shape auths bytes))))))
+    (λ not. unless_full_seed slots room (effect_by slots effect)
+    (effect_by_seed slots effect ∙ effect_seed slots.persist operands shape auths bytes, effect_by_numbers slots effect))))))
 
 admitted_seed : (slots : SlotState) (admitted : Result Admitted ℕ) (bytes : List ℕ) → SameSeed slots (slot_admitted slots admitted bytes)
-admitted_seed slots (Err code) bytes = refl
+admitted_seed slots (Err code) bytes = (refl, refl)
 admitted_seed slots (Ok a) bytes = run_seed slots a.shape a.auths bytes
 
 slot_row_seed : (slots : SlotState) (row : Result CommandRow ℕ) (bytes : List ℕ) → SameSeed slots (slot_row slots row bytes)
-slot_row_seed slots (Err code) bytes = refl
+slot_row_seed slots (Err code) bytes = (refl, refl)
 slot_row_seed slots (Ok row) bytes =
     let admitted = admitted_by (slot_tables slots) (Ok row) bytes in
     cond_both (slots.started || row.code == CC_STARTUP) (slot_admitted slots admitted bytes) (slots, error_reply RC_INITIALIZE) (SameSeed slots)
-    (λ goes. admitted_seed slots admitted bytes) (λ refused. refl)
+    (λ goes. admitted_seed slots admitted bytes) (λ refused. (refl, refl))
 
 pub step_seed : (slots : SlotState) (bytes : List ℕ) → (slot_step slots bytes).0.persist.seed ≡ slots.persist.seed
 unfolding slot_step
-step_seed slots bytes = slot_row_seed slots (row_in row_of bytes) bytes
+step_seed slots bytes = (slot_row_seed slots (row_in row_of bytes) bytes).0
+
+pub step_numbers : (slots : SlotState) (bytes : List ℕ) → (slot_step slots bytes).0.numbers ≡ slots.numbers
+unfolding slot_step
+step_numbers slots bytes = (slot_row_seed slots (row_in row_of bytes) bytes).1

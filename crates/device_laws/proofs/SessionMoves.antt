@@ -4,7 +4,7 @@ use Rattle.std.specs.Prelude.{Option, Some, None, IfSome, Result, Ok, Err, nat_l
 use Rattle.std.specs.Int.{w32, from_be_bytes, to_be_bytes}
 use Rattle.std.proofs.lemmas.Bool.{eq-eqb, eqb-true, le-leb, le-ltb, lt-leb}
 use Rattle.std.proofs.lemmas.List.{append-nil}
-use Rattle.tab_spec.specs.declared.TheConstants.{ST_NO_SESSIONS, CONTEXT_GAP, CONTEXT_LIMIT, HT_TRANSIENT, LOADED_SESSIONS, RC_1, RC_CONTEXT_GAP, RC_FAILURE, RC_HANDLE, RC_P, RC_SUCCESS, RH_NULL}
+use Rattle.tab_spec.specs.declared.TheConstants.{ST_NO_SESSIONS, CONTEXT_LIMIT, HT_TRANSIENT, RC_1, RC_CONTEXT_GAP, RC_FAILURE, RC_HANDLE, RC_P, RC_SUCCESS, RH_NULL}
 use Rattle.tab_spec.specs.Admission.{is_session_handle}
 use Rattle.tab_spec.specs.Frame.{is_frame}
 use Rattle.tab_spec.specs.Reply.{response}
@@ -54,15 +54,15 @@ session_out slots handle s = (
 )
 
 pub session_out_step : (slots : SlotState) (handle : ℕ) (s : Session) → slots.started ≡ true → handle < 2 ^ 32 → is_session_handle handle ≡ true
-    → loaded_session slots handle ≡ Some s → slots.counter < CONTEXT_LIMIT → gap_of slots < CONTEXT_GAP
+    → loaded_session slots handle ≡ Some s → slots.counter < CONTEXT_LIMIT → gap_of slots < slots.numbers.gap
     → slot_step slots (context_save_command handle) ≡ session_out slots handle s
 session_out_step slots handle s started fits session there more narrow =
     session_save_step slots handle s started fits session there
-    ∙ saved_by (nat_le CONTEXT_LIMIT slots.counter) (nat_le CONTEXT_GAP (gap_of slots)) slots (Err RC_FAILURE) (Err RC_CONTEXT_GAP) (Ok (session_out slots handle s))
-    (lt-leb CONTEXT_LIMIT slots.counter more) (lt-leb CONTEXT_GAP (gap_of slots) narrow)
+    ∙ saved_by (nat_le CONTEXT_LIMIT slots.counter) (nat_le slots.numbers.gap (gap_of slots)) slots (Err RC_FAILURE) (Err RC_CONTEXT_GAP) (Ok (session_out slots handle s))
+    (lt-leb CONTEXT_LIMIT slots.counter more) (lt-leb slots.numbers.gap (gap_of slots) narrow)
 
 pub session_save_taken : (slots : SlotState) (handle : ℕ) (s : Session) → IsSlots slots → slots.started ≡ true → handle < 2 ^ 32
-    → is_session_handle handle ≡ true → loaded_session slots handle ≡ Some s → slots.counter < CONTEXT_LIMIT → gap_of slots < CONTEXT_GAP
+    → is_session_handle handle ≡ true → loaded_session slots handle ≡ Some s → slots.counter < CONTEXT_LIMIT → gap_of slots < slots.numbers.gap
     → takes true true (context_save_command handle) (slot_step slots (context_save_command handle)).1 ≡ true
 session_save_taken slots handle s sound started fits session there more narrow =
     let seed = slots.persist.seed in
@@ -130,7 +130,7 @@ load_fits context handle is session =
 
 pub session_load_taken : (slots : SlotState) (context : List ℕ) (handle number : ℕ) (s : Session) → IsSlots slots → slots.started ≡ true
     → length context ≤ 4086 → handle < 2 ^ 32 → is_session_handle handle ≡ true → place_of slots handle ≡ saved (octet_of handle) number
-    → loaded_count slots.sessions < LOADED_SESSIONS → session_at slots handle (Some context) ≡ Some s
+    → loaded_count slots.sessions < slots.numbers.loaded → session_at slots handle (Some context) ≡ Some s
     → takes true true (context_load_command context) (slot_step slots (context_load_command context)).1 ≡ true
 session_load_taken slots context handle number s sound started small fits session there room is =
     let seed = slots.persist.seed in

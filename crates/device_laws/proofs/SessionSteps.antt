@@ -3,7 +3,7 @@ use Rattle.std.proofs.Common.{◌≡◌, ◌+◌, ◌^◌, ◌<◌, ◌≤◌, �
 use Rattle.std.specs.Prelude.{◌==◌, ◌||◌, ◌&&◌, not, is_some, nat_le, nat_lt, Option, Some, None, Result, Ok, Err, if◌then◌else◌}
 use Rattle.std.specs.Int.{w32, to_be_bytes, from_be_bytes}
 use Rattle.std.proofs.lemmas.Bool.{and_from, cond_both, eq-eqb, eqb-true, lt-leb}
-use Rattle.tab_spec.specs.declared.TheConstants.{HT_HMAC_SESSION, HT_POLICY_SESSION, HT_TRANSIENT, LOADED_SESSIONS, TRANSIENT_FIRST, ST_NO_SESSIONS, RC_1, RC_INSUFFICIENT, RC_P, RC_REFERENCE_H0, RC_SIZE, RC_SUCCESS, RC_VALUE}
+use Rattle.tab_spec.specs.declared.TheConstants.{HT_HMAC_SESSION, HT_POLICY_SESSION, HT_TRANSIENT, TRANSIENT_FIRST, ST_NO_SESSIONS, RC_1, RC_INSUFFICIENT, RC_P, RC_REFERENCE_H0, RC_SIZE, RC_SUCCESS, RC_VALUE}
 use Rattle.tab_spec.specs.declared.Kind.TheVariants.{Saved}
 use Rattle.tab_spec.specs.Shape.{is_of_kind, loads_object, octet_of, number_of_session}
 use Rattle.tab_spec.specs.Admission.{is_session_handle, missing_handle}
@@ -171,7 +171,7 @@ session_back slots handle s = (
 
 read_back : (slots : SlotState) (read : Context × List ℕ) (made : Result Step ℕ) (opened : Option Session) (s : Session)
     → (length read.1 == 0) ≡ true → blob_fits read.0 ≡ true → (read.0.saved_handle == TRANSIENT_FIRST) ≡ false → is_session_handle read.0.saved_handle ≡ true
-    → opened ≡ Some s → is_saved_under slots read.0.saved_handle read.0.sequence ≡ true → nat_le LOADED_SESSIONS (loaded_count slots.sessions) ≡ false
+    → opened ≡ Some s → is_saved_under slots read.0.saved_handle read.0.sequence ≡ true → nat_le slots.numbers.loaded (loaded_count slots.sessions) ≡ false
     → when_read (in_parameter 1 (require blob_fits RC_SIZE (Ok read)))
     (λ c.
     if c.saved_handle == TRANSIENT_FIRST then made
@@ -188,7 +188,7 @@ saved_under slots handle number there =
 
 loaded_back : (slots : SlotState) (context : List ℕ) (handle number : ℕ) (s : Session) (r : Reading Context) → context_of context ≡ r
     → context_session slots.persist.seed context handle number r ≡ Some s → slots.started ≡ true → length context ≤ 4086 → is_session_handle handle ≡ true
-    → place_of slots handle ≡ saved (octet_of handle) number → loaded_count slots.sessions < LOADED_SESSIONS
+    → place_of slots handle ≡ saved (octet_of handle) number → loaded_count slots.sessions < slots.numbers.loaded
     → slot_step slots (context_load_command context) ≡ session_back slots handle s
 loaded_back slots context handle number s (Err code) is found started fits session there room = absurd cc
 loaded_back slots context handle number s (Ok read) is found started fits session there room =
@@ -205,12 +205,12 @@ loaded_back slots context handle number s (Ok read) is found started fits sessio
     ∙ ap (λ (r : Reading Context). step_by slots (loaded_by slots context r)) is
     ∙ ap (step_by slots)
     (read_back slots read (object_loaded slots (opened_object seed context)) (opened_session seed context) s gives.whole gives.fits (other_handle c.saved_handle its) its
-    gives.opened under (lt-leb LOADED_SESSIONS (loaded_count slots.sessions) room))
+    gives.opened under (lt-leb slots.numbers.loaded (loaded_count slots.sessions) room))
     ∙ ap (λ (h : ℕ). session_back slots h s) same
 
--- ContextLoad of the last context of a saved session, where fewer than three are loaded
+-- ContextLoad of the last context of a saved session, where a place is free
 pub session_load_step : (slots : SlotState) (context : List ℕ) (handle number : ℕ) (s : Session) → slots.started ≡ true → length context ≤ 4086
-    → is_session_handle handle ≡ true → place_of slots handle ≡ saved (octet_of handle) number → loaded_count slots.sessions < LOADED_SESSIONS
+    → is_session_handle handle ≡ true → place_of slots handle ≡ saved (octet_of handle) number → loaded_count slots.sessions < slots.numbers.loaded
     → session_at slots handle (Some context) ≡ Some s → slot_step slots (context_load_command context) ≡ session_back slots handle s
 session_load_step slots context handle number s started fits session there room is =
     let seed = slots.persist.seed in

@@ -181,28 +181,28 @@ named_after : (sessions : List SessionPlace) (operand : Operand) (session : Opti
 named_after sessions operand None named = tt
 named_after sessions operand (Some session) named = loaded_after sessions operand session.0 session.1 named
 
-operand_keeps : (counter : ℕ) (old new : List SessionPlace) (operand : Operand) → KeepsPlaces counter old new → Stands new operand
-    → KeepsPlaces counter old (with_operand loaded_under new operand)
-operand_keeps counter old new absent keeps stands = keeps
-operand_keeps counter old new (plain handle) keeps stands = keeps
-operand_keeps counter old new (an_object o) keeps stands = keeps
-operand_keeps counter old new (a_session handle s) keeps stands =
-    kept_loaded counter old new (number_of_session handle) (octet_of handle) s keeps stands.1.0 stands.0 stands.1.1
+operand_keeps : (most counter : ℕ) (old new : List SessionPlace) (operand : Operand) → KeepsPlaces most counter old new → Stands new operand
+    → KeepsPlaces most counter old (with_operand loaded_under new operand)
+operand_keeps most counter old new absent keeps stands = keeps
+operand_keeps most counter old new (plain handle) keeps stands = keeps
+operand_keeps most counter old new (an_object o) keeps stands = keeps
+operand_keeps most counter old new (a_session handle s) keeps stands =
+    kept_loaded most counter old new (number_of_session handle) (octet_of handle) s keeps stands.1.0 stands.0 stands.1.1
 
-authorization_keeps : (counter : ℕ) (old new : List SessionPlace) (ended : Bool) (session : Option (ℕ × Session)) → KeepsPlaces counter old new
-    → IsNamed new session → KeepsPlaces counter old (with_authorization loaded_under inactive new ended session)
-authorization_keeps counter old new ended None keeps named = keeps
-authorization_keeps counter old new true (Some session) keeps named = kept_inactive counter old new (number_of_session session.0) keeps
-authorization_keeps counter old new false (Some session) keeps named =
-    kept_loaded counter old new (number_of_session session.0) (octet_of session.0) session.1 keeps named.1.0 named.0 named.1.1
+authorization_keeps : (most counter : ℕ) (old new : List SessionPlace) (ended : Bool) (session : Option (ℕ × Session)) → KeepsPlaces most counter old new
+    → IsNamed new session → KeepsPlaces most counter old (with_authorization loaded_under inactive new ended session)
+authorization_keeps most counter old new ended None keeps named = keeps
+authorization_keeps most counter old new true (Some session) keeps named = kept_inactive most counter old new (number_of_session session.0) keeps
+authorization_keeps most counter old new false (Some session) keeps named =
+    kept_loaded most counter old new (number_of_session session.0) (octet_of session.0) session.1 keeps named.1.0 named.0 named.1.1
 
-pub sessions_kept : (counter : ℕ) (sessions : List SessionPlace) (operands : Operands) (ended : Bool) → ArePlaces counter sessions
-    → StandAll sessions operands → KeepsPlaces counter sessions (sessions_left sessions operands ended)
-sessions_kept counter sessions operands ended are stand =
+pub sessions_kept : (most counter : ℕ) (sessions : List SessionPlace) (operands : Operands) (ended : Bool) → ArePlaces most counter sessions
+    → StandAll sessions operands → KeepsPlaces most counter sessions (sessions_left sessions operands ended)
+sessions_kept most counter sessions operands ended are stand =
     let first = operand_at operands.handles 0 in
     let second = operand_at operands.handles 1 in
     let once = with_operand loaded_under sessions first in
-    authorization_keeps counter sessions (with_operand loaded_under once second) ended operands.session
-    (operand_keeps counter sessions once second
-    (operand_keeps counter sessions sessions first (same_places counter sessions are) stand.first) (stands_after sessions first second stand.second))
+    authorization_keeps most counter sessions (with_operand loaded_under once second) ended operands.session
+    (operand_keeps most counter sessions once second
+    (operand_keeps most counter sessions sessions first (same_places most counter sessions are) stand.first) (stands_after sessions first second stand.second))
     (named_after once second operands.session (named_after sessions first operands.session stand.named))

@@ -4,8 +4,8 @@ ghost use Rattle.std.specs.List.{list_any};
 ghost use Rattle.std.specs.Int.{w32, to_be_bytes};
 ghost use Rattle.tab_spec.specs.declared.TheConstants.{CC_CONTEXT_LOAD, CC_FLUSH_CONTEXT};
 ghost use Rattle.tab_spec.specs.declared.TheConstants.{CC_START_AUTH_SESSION, CC_STARTUP};
-ghost use Rattle.tab_spec.specs.declared.TheConstants.{CONTEXT_GAP, CONTEXT_LIMIT, HT_TRANSIENT};
-ghost use Rattle.tab_spec.specs.declared.TheConstants.{LOADED_SESSIONS, RC_SUCCESS, ST_NO_SESSIONS};
+ghost use Rattle.tab_spec.specs.declared.TheConstants.{CONTEXT_LIMIT, HT_TRANSIENT};
+ghost use Rattle.tab_spec.specs.declared.TheConstants.{RC_SUCCESS, ST_NO_SESSIONS};
 ghost use Rattle.tab_spec.specs.Frame.{code_of, is_frame};
 ghost use Rattle.effect_spec.specs.Contexts.{Context, context_bytes, object_context, opened_object};
 ghost use Rattle.effect_spec.specs.Contexts.{opened_session, session_context};
@@ -23,6 +23,8 @@ ghost use Rattle.tab_spec.specs.declared.Admitted.{Admitted};
 ghost use Rattle.device_spec.specs.Answers.{takes};
 ghost use Rattle.device_spec.specs.ContextCommands.{context_load_command, context_save_command};
 ghost use Rattle.device_spec.specs.ContextCommands.{flush_context_command};
+ghost use Rattle.tab_spec.specs.declared.numbers.Numbers.{Numbers};
+ghost use Rattle.tab_spec.specs.Numbers.{AreInRange};
 ghost use Rattle.device_spec.specs.Slots.{SlotState, loaded, saved, IsSlots, new_slots, in_slot};
 ghost use Rattle.device_spec.specs.Slots.{is_free, free_slot, effect_by, place_of, is_active_with};
 ghost use Rattle.device_spec.specs.Slots.{gap_of, loaded_count, loaded_session, object_at};
@@ -33,23 +35,27 @@ ghost use Rattle.tab_spec.specs.Commands.{row_of, startup_command};
 ghost use Rattle.device_laws.specs.Effects.{is_managed, is_of_effects};
 ghost use Rattle.tab_spec.specs.Values.{AreBytes};
 
-/// Whatever bytes a device of this profile is given, its reply is exactly one frame.
+/// Whatever bytes a device is given, its reply is exactly one frame.
 pub fn slot_replies_are_frames()
     ensures { (slots : SlotState) (bytes : List ℕ) → IsSlots slots
         → is_frame (slot_step slots bytes).1 ≡ true }
 {}
 
-/// A device of this profile is one after whatever bytes it is given, and a new one is one.
-pub fn devices_stay_of_the_profile()
-    ensures fresh { (seed : List ℕ) → length seed ≡ 32 → IsSlots (new_slots (fresh_persist seed)) }
+/// A new device with numbers in range is in a sound state, and stays in one, whatever bytes it is
+/// given.
+pub fn devices_stay_sound()
+    ensures fresh { (numbers : Numbers) (seed : List ℕ) → AreInRange numbers → length seed ≡ 32
+        → IsSlots (new_slots numbers (fresh_persist seed)) }
     ensures stepped { (slots : SlotState) (bytes : List ℕ) → IsSlots slots → AreBytes bytes
         → IsSlots (slot_step slots bytes).0 }
 {}
 
-/// No command changes the seed of a device.
+/// No command changes the seed of a device, or its numbers.
 pub fn devices_keep_their_seed()
-    ensures { (slots : SlotState) (bytes : List ℕ)
+    ensures seed { (slots : SlotState) (bytes : List ℕ)
         → (slot_step slots bytes).0.persist.seed ≡ slots.persist.seed }
+    ensures numbers { (slots : SlotState) (bytes : List ℕ)
+        → (slot_step slots bytes).0.numbers ≡ slots.numbers }
 {}
 
 /// An object that a command made is in the least free slot. A session that it made leaves the slots
@@ -215,7 +221,7 @@ pub fn moved_objects_are_taken()
 {}
 
 /// A started device saves a loaded session, flushes a session whether it is loaded or saved, and
-/// loads the last context of a saved one where fewer than three are loaded.
+/// loads the last context of a saved one where it has a place for it.
 pub fn sessions_are_moved()
     ensures save { (slots : SlotState) (handle : ℕ) (s : Session) → slots.started ≡ true
         → handle < 2 ^ 32 → is_session_handle handle ≡ true
@@ -229,7 +235,7 @@ pub fn sessions_are_moved()
     ensures load { (slots : SlotState) (context : List ℕ) (handle number : ℕ) (s : Session)
         → slots.started ≡ true → length context ≤ 4086 → is_session_handle handle ≡ true
         → place_of slots handle ≡ saved (octet_of handle) number
-        → loaded_count slots.sessions < LOADED_SESSIONS
+        → loaded_count slots.sessions < slots.numbers.loaded
         → session_at slots handle (Some context) ≡ Some s
         → slot_step slots (context_load_command context)
         ≡ (
@@ -245,7 +251,7 @@ pub fn moved_sessions_are_taken()
     ensures save { (slots : SlotState) (handle : ℕ) (s : Session) → IsSlots slots
         → slots.started ≡ true → handle < 2 ^ 32 → is_session_handle handle ≡ true
         → loaded_session slots handle ≡ Some s → slots.counter < CONTEXT_LIMIT
-        → gap_of slots < CONTEXT_GAP
+        → gap_of slots < slots.numbers.gap
         → takes true true (context_save_command handle)
         (slot_step slots (context_save_command handle)).1 ≡ true }
     ensures flush { (slots : SlotState) (handle : ℕ) → slots.started ≡ true → handle < 2 ^ 32
@@ -257,7 +263,7 @@ pub fn moved_sessions_are_taken()
         → IsSlots slots → slots.started ≡ true → length context ≤ 4086 → handle < 2 ^ 32
         → is_session_handle handle ≡ true
         → place_of slots handle ≡ saved (octet_of handle) number
-        → loaded_count slots.sessions < LOADED_SESSIONS
+        → loaded_count slots.sessions < slots.numbers.loaded
         → session_at slots handle (Some context) ≡ Some s
         → takes true true (context_load_command context)
         (slot_step slots (context_load_command context)).1 ≡ true }

@@ -5,7 +5,7 @@ ghost use Rattle.device_link.specs.Link.{Carries, ends_of, new_device, told_by};
 
 use crate::LinkFault;
 use crate::receive::exchange;
-use device_port::{Device, DeviceFailed, Numbers, Trace, profile_numbers};
+use device_port::{Device, DeviceFailed, Trace};
 use link_port::{Sink, Source};
 use std::marker::Model;
 use tab_bytes::Buffer;
@@ -98,10 +98,6 @@ impl<S: Source, K: Sink> Device for LinkDevice<S, K> {
 
     fn sent_count(&self) -> u64 {
         self.trace.sent()
-    }
-
-    fn numbers(&self) -> Numbers {
-        profile_numbers()
     }
 }
 

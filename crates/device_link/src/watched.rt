@@ -5,7 +5,7 @@ ghost use Rattle.device_link.specs.Link.{Carries, ends_of, has_failed, told_by};
 ghost use Rattle.device_link.specs.Watched.{answer_of, new_watched};
 
 use crate::{Answered, LinkDevice, LinkFault};
-use device_port::{Device, DeviceFailed, Numbers};
+use device_port::{Device, DeviceFailed};
 use link_port::{Sink, Source};
 use std::marker::Model;
 use tab_bytes::Buffer;
@@ -94,10 +94,6 @@ impl<'a, S: Source, K: Sink, W: Watcher> Device for WatchedLink<'a, S, K, W> {
 
     fn sent_count(&self) -> u64 {
         self.device.sent_count()
-    }
-
-    fn numbers(&self) -> Numbers {
-        self.device.numbers()
     }
 }
 

@@ -1,5 +1,6 @@
 -- What is seen of a device in memory.
 use Rattle.std.specs.Prelude.{ℕ, List, [], Some}
+use Rattle.tab_spec.specs.declared.numbers.Numbers.{Numbers}
 use Rattle.tab_spec.specs.Persist.{Persist, fresh_persist}
 use Rattle.device_spec.specs.Slots.{SlotState, new_slots}
 use Rattle.device_port.specs.Device.{Seen, Transmission}
@@ -12,10 +13,10 @@ pub record DeviceInMemory : Type 0 where
   pub faults : ℕ
   pub trace : List Transmission
 
--- a device with this seed that was never used
-abbrev pub fresh_device : List ℕ → List ℕ → DeviceInMemory
-fresh_device seed failing = record {
-  state = new_slots (fresh_persist seed);
+-- a device of these numbers with this seed that was never used
+abbrev pub fresh_device : Numbers → List ℕ → List ℕ → DeviceInMemory
+fresh_device numbers seed failing = record {
+  state = new_slots numbers (fresh_persist seed);
   base = fresh_persist seed;
   failing = failing;
   faults = 0;

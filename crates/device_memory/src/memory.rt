@@ -1,19 +1,22 @@
 ghost use Rattle.std.specs.Prelude.{refl, ◌≡◌, ◌↔◌, IsErr, IsTrue, IfOk, OnOk, OnErr, Contains};
 ghost use Rattle.tab_spec.specs.Count.{one_more};
 ghost use Rattle.tab_spec.specs.Frame.{is_frame};
+ghost use Rattle.tab_spec.specs.Numbers.{profile_numbers};
 ghost use Rattle.tab_spec.specs.Persist.{IsPersist};
 ghost use Rattle.device_spec.specs.Slots.{slot_step};
 ghost use Rattle.device_port.specs.Device.{Transmits, count_of};
 ghost use Rattle.device_memory.specs.Memory.{fresh_device, told_by};
 
-use device_port::{Device, DeviceFailed, Numbers, Trace, profile_numbers};
+use device_port::{Device, DeviceFailed, Trace};
 use device_slots::SlotMachine;
 use std::alloc::{AllocError, Global};
 use std::marker::Model;
 use tab_bytes::Buffer;
+use tab_spec::Numbers;
 use tab_values::Persist;
 
-/// A device in memory, which is the project's profile byte for byte. It tells its state.
+/// A device in memory, which is the project's profile byte for byte, with any numbers of slots,
+/// places and sessions. It tells its state.
 #[derive(Drop)]
 pub struct MemoryDevice {
     machine: SlotMachine,
@@ -38,15 +41,29 @@ impl Model for MemoryDevice {
 }
 
 impl MemoryDevice {
-    /// A device with this seed of 32 bytes that was never used, and which fails at the
-    /// transmissions with these numbers, from 0, and at no others. It fails only for want of
-    /// memory.
+    /// A device of this project's profile with this seed of 32 bytes, which was never used, and
+    /// fails at the transmissions with these numbers, from 0, and at no others. It fails only for
+    /// want of memory.
     pub fn new(alloc: Global, seed: [u8; 32], failing: Vec<u64>) -> Result<MemoryDevice, AllocError>
-        ensures fresh { IfOk result (λ d. d ≡ fresh_device seed failing.items) }
+        ensures fresh { IfOk result (λ d. d ≡ fresh_device profile_numbers seed failing.items) }
+        ensures sound { IfOk result (λ d. IsPersist d.base) }
+    {
+        MemoryDevice::with_numbers(alloc, seed, Numbers::of_the_profile(), failing)
+    }
+
+    /// The same with room for as much as these numbers say, also where no broker serves them. A gap
+    /// of 0 refuses each save of a session.
+    pub fn with_numbers(
+        alloc: Global,
+        seed: [u8; 32],
+        numbers: Numbers,
+        failing: Vec<u64>,
+    ) -> Result<MemoryDevice, AllocError>
+        ensures fresh { IfOk result (λ d. d ≡ fresh_device numbers seed failing.items) }
         ensures sound { IfOk result (λ d. IsPersist d.base) }
     {
         Ok(MemoryDevice {
-            machine: SlotMachine::new(alloc, Persist::new(alloc, seed)?, profile_numbers())?,
+            machine: SlotMachine::new(alloc, Persist::new(alloc, seed)?, numbers)?,
             base: Persist::new(alloc, seed)?,
             failing,
             faults: 0,
@@ -90,9 +107,5 @@ impl Device for MemoryDevice {
 
     fn sent_count(&self) -> u64 {
         self.trace.sent()
-    }
-
-    fn numbers(&self) -> Numbers {
-        profile_numbers()
     }
 }

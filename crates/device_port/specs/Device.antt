@@ -3,8 +3,6 @@ use Rattle.std.specs.Prelude.{◌≡◌, ◌≤◌, ℕ, List, [], ◌∷◌, Op
 use Rattle.tab_spec.specs.Count.{Rose, one_more}
 use Rattle.tab_spec.specs.Persist.{Persist}
 use Rattle.device_spec.specs.Slots.{SlotState, slot_step}
-use Rattle.device_port.specs.declared.numbers.Numbers.{Numbers}
-use Rattle.tab_spec.specs.declared.TheConstants.{ACTIVE_SESSIONS, CONTEXT_GAP, LOADED_SESSIONS, OBJECT_SLOTS}
 
 -- a command that was sent to a device, and the response to it; nothing where the transmission failed
 pub record Transmission : Type 0 where
@@ -66,7 +64,3 @@ pub record Transmits {E : Type 0} (old : Seen) (command : List ℕ) (result : Re
   pub count : old.faults ≤ new.faults
   pub base : new.base ≡ old.base
   pub trace : new.trace ≡ transmitted command result reply ∷ old.trace
-
--- a device of this profile
-abbrev pub profile_numbers : Numbers
-profile_numbers = record { slots = OBJECT_SLOTS; loaded = LOADED_SESSIONS; active = ACTIVE_SESSIONS; gap = CONTEXT_GAP }

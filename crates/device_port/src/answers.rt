@@ -14,11 +14,11 @@ ghost use Rattle.device_spec.specs.Answers as answers;
 use device_spec::{MOST_OBJECT_CONTEXT_BYTES, MOST_SESSION_CONTEXT_BYTES};
 use tab_bytes::Reader;
 use tab_spec::{
-    ACTIVE_SESSIONS, CC_CONTEXT_LOAD, CC_CONTEXT_SAVE, CC_FLUSH_CONTEXT, CC_GET_CAPABILITY,
-    CC_START_AUTH_SESSION, CC_STARTUP, HEADER_BYTES, HT_HMAC_SESSION, HT_POLICY_SESSION,
-    HT_TRANSIENT, RC_CANCELED, RC_CONTEXT_GAP, RC_DEVICE_ANSWER, RC_DEVICE_FAULT, RC_INITIALIZE,
-    RC_INSUFFICIENT, RC_JOURNAL_FULL, RC_MEMORY, RC_OBJECT_MEMORY, RC_REFERENCE_H0,
-    RC_REFERENCE_S0, RC_SESSION_MEMORY, RC_SUCCESS, ST_NO_SESSIONS, ST_SESSIONS, TRANSIENT_FIRST,
+    CC_CONTEXT_LOAD, CC_CONTEXT_SAVE, CC_FLUSH_CONTEXT, CC_GET_CAPABILITY, CC_START_AUTH_SESSION,
+    CC_STARTUP, HEADER_BYTES, HT_HMAC_SESSION, HT_POLICY_SESSION, HT_TRANSIENT, RC_CANCELED,
+    RC_CONTEXT_GAP, RC_DEVICE_ANSWER, RC_DEVICE_FAULT, RC_INITIALIZE, RC_INSUFFICIENT,
+    RC_JOURNAL_FULL, RC_MEMORY, RC_OBJECT_MEMORY, RC_REFERENCE_H0, RC_REFERENCE_S0,
+    RC_SESSION_MEMORY, RC_SUCCESS, SESSION_NUMBERS, ST_NO_SESSIONS, ST_SESSIONS, TRANSIENT_FIRST,
 };
 use tab_values::{read_context, read_sized};
 use tab_wire::{code_of, is_session_handle, octet_of, row_of, tag_of};
@@ -29,8 +29,8 @@ use tab_wire::{code_of, is_session_handle, octet_of, row_of, tag_of};
 /// none of the codes that the broker sees to. Every other response is a wrong answer.
 ///
 /// Two things the broker tells that no bytes show: whether a context that the command loads is one
-/// that it kept itself, and whether a client has a session with the number of the response's
-/// handle.
+/// that it kept itself, and whether no new session can have the number of the response's handle,
+/// since a client has one with it, or clients have as many as may be active.
 pub fn takes(asked: &[u8], last: &[u8], is_kept: bool, is_taken: bool) -> bool
     requires { IsTrue (is_frame asked.now) }
     ensures { result ≡ answers.takes is_kept is_taken asked.now last.now }
@@ -242,7 +242,7 @@ fn is_started_handle(asked: &[u8], handle: u32, is_taken: bool) -> bool
     let Some(octet) = octet_of_type(kind) else {
         return false;
     };
-    octet_of(handle) == octet && handle % 0x0100_0000 < ACTIVE_SESSIONS && !is_taken
+    octet_of(handle) == octet && handle % 0x0100_0000 < SESSION_NUMBERS && !is_taken
 }
 
 // Whether a response may have this handle.

@@ -1,8 +1,7 @@
 ghost use Rattle.std.specs.Prelude.{◌≡◌, is_some, IsTrue};
 ghost use Rattle.tab_spec.specs.Frame.{is_frame};
-ghost use Rattle.device_port.specs.Device.{Seen, Transmits, profile_numbers, sent_of};
+ghost use Rattle.device_port.specs.Device.{Seen, Transmits, sent_of};
 
-use crate::numbers::Numbers;
 use tab_bytes::Buffer;
 
 /// A transmission to the device failed: its fault count rose, and no response came. A device that
@@ -28,10 +27,6 @@ pub trait Device {
     /// The count of the commands that were sent.
     fn sent_count(&self) -> u64
         ensures { result ≡ sent_of (seen self.now) };
-
-    /// How much of each it has at once.
-    fn numbers(&self) -> Numbers
-        ensures { result ≡ profile_numbers };
 
     /// The state and the base are told together.
     ghost told_together: { (device : Self)

@@ -4,12 +4,10 @@
 
 mod answers;
 mod device;
-mod numbers;
 mod own;
 mod trace;
 
 pub use answers::{takes, word_at};
 pub use device::{Device, DeviceFailed};
-pub use numbers::{Numbers, profile_numbers};
 pub use own::{SwapError, ask, command_of, handle_of};
 pub use trace::Trace;

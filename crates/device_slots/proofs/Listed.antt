@@ -41,6 +41,14 @@ from_next least first i slots slot whole within is other so_far =
     ∙ sym (from_at least first i slots slot within is)
     ∙ so_far
 
+pub from_found : (least first i : ℕ) (slots : List (Option Object)) (slot : Option Object) (whole : Option ℕ) → i < length slots
+    → get_or slots i None ≡ slot → (is_some slot && leb least (first + i)) ≡ true
+    → number_from least (transient_from (first + i) (drop i slots)) ≡ whole → Some (first + i) ≡ whole
+from_found least first i slots slot whole within is found so_far =
+    sym (ap (λ (b : Bool). cond b (Some (first + i)) (number_from least (transient_from (first + i + 1) (drop (i + 1) slots)))) found)
+    ∙ sym (from_at least first i slots slot within is)
+    ∙ so_far
+
 counted : (handle : ℕ) (slots : List (Option Object)) → count_by is_some slots ≡ length (transient_from handle slots)
 counted handle [] = refl
 counted handle (None ∷ slots) =

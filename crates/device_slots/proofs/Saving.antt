@@ -4,7 +4,7 @@ use Rattle.std.specs.Prelude.{Option, Result, IsOk, OnErr, Some}
 use Rattle.std.proofs.lemmas.Bool.{lt-leb}
 use Rattle.std.specs.Int.{w32, to_be_bytes}
 use Rattle.tab_laws.proofs.Responses.{response_ended}
-use Rattle.tab_spec.specs.declared.TheConstants.{ST_NO_SESSIONS, CONTEXT_GAP, CONTEXT_LIMIT, RC_SUCCESS}
+use Rattle.tab_spec.specs.declared.TheConstants.{ST_NO_SESSIONS, CONTEXT_LIMIT, RC_SUCCESS}
 use Rattle.tab_spec.specs.Reply.{response}
 use Rattle.effect_spec.specs.Contexts.{object_context, session_context}
 use Rattle.tab_spec.specs.Object.{Object}
@@ -19,12 +19,12 @@ pub object_saves : (slots : SlotState) (found : Option Object) (reply : List ℕ
 object_saves slots found reply o held few whole = rw (held, lt-leb CONTEXT_LIMIT slots.object_counter few, whole) refl
 
 pub session_saves : (slots : SlotState) (handle : ℕ) (found : Option Session) (reply : List ℕ) (s : Session) → found ≡ Some s
-    → slots.counter < CONTEXT_LIMIT → gap_of slots < CONTEXT_GAP
+    → slots.counter < CONTEXT_LIMIT → gap_of slots < slots.numbers.gap
     → reply ≡ response ST_NO_SESSIONS RC_SUCCESS (session_context slots.persist.seed handle slots.counter s)
     → session_saved slots handle found
     ≡ Ok (record (with_place slots (number_of_session handle) (saved (octet_of handle) slots.counter)) { counter = slots.counter + 1 }, reply)
 session_saves slots handle found reply s held few near whole =
-    rw (held, lt-leb CONTEXT_LIMIT slots.counter few, lt-leb CONTEXT_GAP (gap_of slots) near, whole) refl
+    rw (held, lt-leb CONTEXT_LIMIT slots.counter few, lt-leb slots.numbers.gap (gap_of slots) near, whole) refl
 
 pub must_be_ok : {A E : Type 0} (r : Result A E) (P : Type 0) → OnErr r P → (P → ⊥) → IsOk r
 must_be_ok (Ok x) P p not = refl

@@ -3,18 +3,22 @@ use Rattle.std.proofs.Common.{◌≡◌, ◌≤◌, le_refl, le_trans, le-add_ri
 use Rattle.std.specs.Prelude.{ℕ, zero, suc, ◌+◌, ◌*◌, ◌%◌, ◌^◌, ◌&&◌, nat_lt, Bool, true, List, [], ◌∷◌, take, Option, Some, None}
 use Rattle.std.proofs.lemmas.Bool.{and_from, and_parts, le-leb, ltb-true}
 use Rattle.std.proofs.lemmas.Nat.{mod_low}
-use Rattle.tab_spec.specs.declared.TheConstants.{ACTIVE_SESSIONS, OBJECT_SLOTS, TRANSIENT_FIRST}
+use Rattle.tab_spec.specs.declared.TheConstants.{SESSION_NUMBERS, TRANSIENT_FIRST}
 use Rattle.tab_spec.specs.Object.{Object}
 use Rattle.fx_capability.specs.Lists.{rises_from, all_below, session_numbers}
 use Rattle.effect_spec.specs.Capabilities.{transient_from}
 use Rattle.device_spec.specs.Slots.{SlotState, SessionPlace, inactive, loaded, saved, listed_from}
 
--- the objects and the sessions of as many slots and numbers as a machine has
+-- no machine has more slots: their number is a byte
+abbrev pub MOST_SLOTS : ℕ
+MOST_SLOTS = 255
+
+-- the objects and the sessions of as many slots and numbers as a machine may have
 abbrev pub objects_of : SlotState → List ℕ
-objects_of slots = transient_from TRANSIENT_FIRST (take OBJECT_SLOTS slots.slots)
+objects_of slots = transient_from TRANSIENT_FIRST (take MOST_SLOTS slots.slots)
 
 abbrev pub sessions_of : SlotState → List SessionPlace
-sessions_of slots = take ACTIVE_SESSIONS slots.sessions
+sessions_of slots = take SESSION_NUMBERS slots.sessions
 
 -- whether so many numbers from this one on are below `most`
 abbrev pub are_below : ℕ → ℕ → ℕ → Bool
@@ -31,7 +35,7 @@ rise least handle (Some o ∷ slots) above =
     (rise (handle + 1) (handle + 1) slots (le_refl (handle + 1)))
 
 pub objects_rise : (slots : SlotState) → rises_from 0 (objects_of slots) ≡ true
-objects_rise slots = rise 0 TRANSIENT_FIRST (take OBJECT_SLOTS slots.slots) (le-add_right 0 TRANSIENT_FIRST)
+objects_rise slots = rise 0 TRANSIENT_FIRST (take MOST_SLOTS slots.slots) (le-add_right 0 TRANSIENT_FIRST)
 
 fit : (most left handle : ℕ) (slots : List (Option Object)) → are_below most handle left ≡ true
     → all_below most (transient_from handle (take left slots)) ≡ true
@@ -45,7 +49,7 @@ fit most (suc left) handle (Some o ∷ slots) below =
     and_from (ltb handle most) (all_below most (transient_from (handle + 1) (take left slots))) both.0 (fit most left (handle + 1) slots both.1)
 
 pub objects_fit : (slots : SlotState) → all_below (2 ^ 32) (objects_of slots) ≡ true
-objects_fit slots = fit (2 ^ 32) OBJECT_SLOTS TRANSIENT_FIRST slots.slots refl
+objects_fit slots = fit (2 ^ 32) MOST_SLOTS TRANSIENT_FIRST slots.slots refl
 
 -- ---- sessions
 
@@ -75,7 +79,7 @@ numbers_rise (suc left) least n (saved octet number ∷ places) above below =
     (numbers_rise left (n + 1) (n + 1) places (le_refl (n + 1)) both.1)
 
 pub sessions_rise : (slots : SlotState) → rises_from 0 (session_numbers (listed_from 0 (sessions_of slots))) ≡ true
-sessions_rise slots = numbers_rise ACTIVE_SESSIONS 0 0 slots.sessions (le_refl 0) refl
+sessions_rise slots = numbers_rise SESSION_NUMBERS 0 0 slots.sessions (le_refl 0) refl
 
 below_on : (most n k : ℕ) (more : List ℕ) → k ≡ n → nat_lt n most ≡ true → all_below most more ≡ true → all_below most (k ∷ more) ≡ true
 below_on most n k more is below rest =
@@ -100,5 +104,5 @@ numbers_fit most (suc left) n (saved octet number ∷ places) small below =
     below_on most n ((octet * 2 ^ 24 + n) % 2 ^ 24) (session_numbers (listed_from (n + 1) (take left places))) (numbered octet n both.0) here.0
     (numbers_fit most left (n + 1) places both.1 here.1)
 
-pub sessions_fit : (slots : SlotState) → all_below ACTIVE_SESSIONS (session_numbers (listed_from 0 (sessions_of slots))) ≡ true
-sessions_fit slots = numbers_fit ACTIVE_SESSIONS ACTIVE_SESSIONS 0 slots.sessions refl refl
+pub sessions_fit : (slots : SlotState) → all_below SESSION_NUMBERS (session_numbers (listed_from 0 (sessions_of slots))) ≡ true
+sessions_fit slots = numbers_fit SESSION_NUMBERS SESSION_NUMBERS 0 slots.sessions refl refl

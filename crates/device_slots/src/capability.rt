@@ -1,5 +1,5 @@
 ghost use Rattle.std.specs.Prelude.{◌≡◌, ◌<◌, ◌∷◌, [], Ok, Err, MatchOption, MatchResult};
-ghost use Rattle.tab_spec.specs.declared.TheConstants.{ACTIVE_SESSIONS};
+ghost use Rattle.tab_spec.specs.declared.TheConstants.{SESSION_NUMBERS};
 ghost use Rattle.fx_capability.specs.Views.{listed_of};
 ghost use Rattle.device_spec.specs.Slots as slots;
 ghost use Rattle.device_spec.specs.Slots.{listed_from, listed_place};
@@ -26,7 +26,7 @@ impl SlotMachine {
         start_response(ST_NO_SESSIONS, RC_SUCCESS, reply);
         let active = active_count(&self.sessions) as u32;
         capability(
-            &Limits::of_the_device(),
+            &Limits::of_the_device(self.numbers),
             &self.persist,
             self,
             active,
@@ -38,8 +38,8 @@ impl SlotMachine {
     }
 }
 
-// As many slots and session numbers as a machine has: the laws are stated of all values, also of
-// those that are no machine's.
+// As many slots and session numbers as a machine may have: the laws are stated of all values, also
+// of those that are no machine's.
 impl Holdings for SlotMachine {
     ghost objects = { λ m. objects_of m };
 
@@ -68,7 +68,7 @@ impl Holdings for SlotMachine {
 
 // The session of a number, as it is listed.
 fn held_session(place: &Place, number: u32) -> Option<HeldSession>
-    requires { number < ACTIVE_SESSIONS }
+    requires { number < SESSION_NUMBERS }
     ensures { MatchOption result (listed_place number (place_of place.now) ≡ [])
         (λ s. listed_place number (place_of place.now) ≡ listed_of s ∷ []) }
 {

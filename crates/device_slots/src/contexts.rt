@@ -13,9 +13,9 @@ use crate::slots::{free_slot, put_slot, slot_of};
 use context_blob::{open_object, open_session, seal_object, seal_session};
 use tab_bytes::{Buffer, Reader};
 use tab_spec::{
-    CONTEXT_GAP, CONTEXT_LIMIT, HT_TRANSIENT, LOADED_SESSIONS, MOST_BLOB_BYTES, RC_CONTEXT_GAP,
-    RC_FAILURE, RC_HANDLE, RC_INSUFFICIENT, RC_SESSION_MEMORY, RC_SIZE, RC_SUCCESS, RC_VALUE,
-    ST_NO_SESSIONS, TRANSIENT_FIRST,
+    CONTEXT_LIMIT, HT_TRANSIENT, MOST_BLOB_BYTES, RC_CONTEXT_GAP, RC_FAILURE, RC_HANDLE,
+    RC_INSUFFICIENT, RC_SESSION_MEMORY, RC_SIZE, RC_SUCCESS, RC_VALUE, ST_NO_SESSIONS,
+    TRANSIENT_FIRST,
 };
 use tab_values::{Context, Object, Session, end_parameters, in_parameter, read_context};
 use tab_wire::{end_response, is_session_handle, octet_of, set_response_handle, start_response};
@@ -78,7 +78,7 @@ impl SlotMachine {
         if number >= CONTEXT_LIMIT {
             return Err(RC_FAILURE);
         }
-        if gap(&self.sessions, number) >= CONTEXT_GAP {
+        if gap(&self.sessions, number) >= u64::from(self.numbers.gap) {
             return Err(RC_CONTEXT_GAP);
         }
         start_response(ST_NO_SESSIONS, RC_SUCCESS, reply);
@@ -148,7 +148,7 @@ impl SlotMachine {
         if !is_saved_under(&self.sessions, handle, context.sequence) {
             return Err(in_parameter(1, RC_HANDLE));
         }
-        if loaded_count(&self.sessions) >= LOADED_SESSIONS as usize {
+        if loaded_count(&self.sessions) >= usize::from(self.numbers.loaded) {
             return Err(RC_SESSION_MEMORY);
         }
         put_place(

@@ -3,7 +3,6 @@ ghost use Rattle.tab_spec.specs.Auths.{IsAuthWithin};
 ghost use Rattle.tab_spec.specs.Shape.{IsShape};
 ghost use Rattle.effect_spec.specs.Sessions.{start_check};
 ghost use Rattle.effect_spec.specs.Effect.{HasHandle};
-ghost use Rattle.device_port.specs.Device.{profile_numbers};
 ghost use Rattle.fx_table.specs.Views.{created_of};
 ghost use Rattle.device_spec.specs.Slots.{made_by, session_too_many, unless_full, new_slots};
 ghost use Rattle.device_spec.specs.Slots.{slot_tables, slot_operands, slot_step, slot_row};
@@ -16,18 +15,17 @@ ghost use Rattle.tab_spec.specs.Reply.{error_reply};
 
 use crate::operands::{is_shared, operands, put_sessions};
 use crate::sessions::{Place, active_count, inactive_places, loaded_count};
-use crate::slots::is_full;
+use crate::slots::{free_slots, is_full};
 use context_blob::ContextKeys;
-use device_port::Numbers;
 use fx_sessions::check_start;
 use fx_table::{Created, effect, shared_effect};
 use std::alloc::{AllocError, Global};
 use std::marker::Model;
 use tab_bytes::{Buffer, Reader};
 use tab_spec::{
-    ACTIVE_SESSIONS, Auths, CC_CONTEXT_LOAD, CC_CONTEXT_SAVE, CC_FLUSH_CONTEXT, CC_GET_CAPABILITY,
-    CC_START_AUTH_SESSION, CC_STARTUP, CommandRow, LOADED_SESSIONS, OBJECT_SLOTS, RC_INITIALIZE,
-    RC_INSUFFICIENT, RC_SESSION_HANDLES, RC_SESSION_MEMORY, RC_SUCCESS, RC_VALUE, ST_NO_SESSIONS,
+    Auths, CC_CONTEXT_LOAD, CC_CONTEXT_SAVE, CC_FLUSH_CONTEXT, CC_GET_CAPABILITY,
+    CC_START_AUTH_SESSION, CC_STARTUP, CommandRow, Numbers, RC_INITIALIZE, RC_INSUFFICIENT,
+    RC_SESSION_HANDLES, RC_SESSION_MEMORY, RC_SUCCESS, RC_VALUE, SESSION_NUMBERS, ST_NO_SESSIONS,
     Shape,
 };
 use tab_values::{Object, Persist, end_parameters, in_parameter};
@@ -37,13 +35,14 @@ use tab_wire::{Tables, admit, command_row, error_reply, start_response};
 const SU_CLEAR: u16 = 0;
 
 /// The device as a machine: what it keeps, whether it is started (Part 1, "TPM Operational
-/// States"), the object in each slot, what each session number is, and the numbers of the next
-/// contexts.
+/// States"), how much it has room for, the object in each slot, what each session number is, and
+/// the numbers of the next contexts.
 #[derive(Drop)]
 pub struct SlotMachine {
     pub(crate) started: bool,
     pub(crate) persist: Persist,
-    pub(crate) slots: [Option<Object>; OBJECT_SLOTS as usize],
+    pub(crate) numbers: Numbers,
+    pub(crate) slots: Vec<Option<Object>>,
     // As many as there are session numbers.
     pub(crate) sessions: Vec<Place>,
     pub(crate) object_counter: u64,
@@ -53,9 +52,10 @@ pub struct SlotMachine {
 }
 
 impl Model for SlotMachine {
-    ghost use Rattle.std.specs.Prelude.{◌≡◌, length};
-    ghost use Rattle.tab_spec.specs.declared.TheConstants.{ACTIVE_SESSIONS, OBJECT_SLOTS};
+    ghost use Rattle.std.specs.Prelude.{◌≡◌, ◌≤◌, length};
+    ghost use Rattle.tab_spec.specs.declared.TheConstants.{SESSION_NUMBERS};
     ghost use Rattle.device_spec.specs.Slots.{SlotState};
+    ghost use Rattle.device_slots.specs.Listed.{MOST_SLOTS};
     ghost use Rattle.device_slots.specs.Views.{places_of, slots_of};
 
     ghost Value = { SlotState };
@@ -63,30 +63,31 @@ impl Model for SlotMachine {
     ghost view = { λ m. record {
       started = m.started;
       persist = m.persist;
-      slots = slots_of m.slots;
+      numbers = m.numbers;
+      slots = slots_of m.slots.items;
       sessions = places_of m.sessions.items;
       object_counter = m.object_counter;
       counter = m.counter;
     } };
 
-    ghost invariant = { λ m. (length m.slots ≡ OBJECT_SLOTS)
-        × (length m.sessions.items ≡ ACTIVE_SESSIONS) × (m.context_keys ≡ m.persist.seed) };
+    ghost invariant = { λ m. (length m.slots.items ≡ m.numbers.slots)
+        × (length m.sessions.items ≡ SESSION_NUMBERS) × (m.context_keys ≡ m.persist.seed)
+        × (m.numbers.slots ≤ MOST_SLOTS) };
 }
 
 impl SlotMachine {
-    /// A machine that isn't started and holds nothing. It takes the memory of all session numbers
-    /// now, as many as `numbers.active` says; the other three numbers are fixed so far. It fails
-    /// only for want of memory.
+    /// A machine of these numbers, which isn't started and holds nothing. It takes the memory of
+    /// all its slots and of the 64 session numbers now, and fails only for want of it.
     pub fn new(alloc: Global, persist: Persist, numbers: Numbers) -> Result<SlotMachine, AllocError>
-        requires { numbers ≡ profile_numbers }
-        ensures fresh { IfOk result (λ m. m ≡ new_slots persist) }
+        ensures fresh { IfOk result (λ m. m ≡ new_slots numbers persist) }
     {
         let context_keys = ContextKeys::new(persist.seed());
         Ok(SlotMachine {
             started: false,
             persist,
-            slots: [None, None, None],
-            sessions: inactive_places(alloc, usize::from(numbers.active))?,
+            numbers,
+            slots: free_slots(alloc, usize::from(numbers.slots))?,
+            sessions: inactive_places(alloc, SESSION_NUMBERS as usize)?,
             object_counter: 0,
             counter: 0,
             context_keys,
@@ -156,18 +157,19 @@ impl SlotMachine {
         self.named_effect(shape, auths, command, reply);
     }
 
-    // The code that refuses a session which would start otherwise: there is no number, or no place,
-    // for it.
+    // The code that refuses a session which would start otherwise: as many are active as may be, or
+    // no place is free.
     fn session_too_many(&self, params: &[u8]) -> Option<u32>
         ensures { result ≡ session_too_many self.now (start_check params.now) }
     {
         if check_start(params).is_err() {
             return None;
         }
-        if active_count(&self.sessions) >= ACTIVE_SESSIONS as usize {
+        let active = active_count(&self.sessions);
+        if active >= usize::from(self.numbers.active) || active >= SESSION_NUMBERS as usize {
             return Some(RC_SESSION_HANDLES);
         }
-        if loaded_count(&self.sessions) >= LOADED_SESSIONS as usize {
+        if loaded_count(&self.sessions) >= usize::from(self.numbers.loaded) {
             return Some(RC_SESSION_MEMORY);
         }
         None

@@ -1,15 +1,28 @@
 ghost use Rattle.std.specs.Prelude.{◌≡◌, ◌≤◌, ◌&&◌, nat_le, None, Some, is_some, set, get_or};
-ghost use Rattle.std.specs.Prelude.{length, option_map, not, MatchOption};
+ghost use Rattle.std.specs.Prelude.{length, option_map, not, replicate, IfOk, MatchOption};
 ghost use Rattle.std.specs.List.{count_by, list_any};
-ghost use Rattle.tab_spec.specs.declared.TheConstants.{OBJECT_SLOTS, TRANSIENT_FIRST};
+ghost use Rattle.tab_spec.specs.declared.TheConstants.{TRANSIENT_FIRST};
 ghost use Rattle.fx_capability.specs.Lists.{number_from};
 ghost use Rattle.effect_spec.specs.Capabilities.{transient_from};
 ghost use Rattle.device_spec.specs.Slots.{free_slot, is_free, slot_of};
 ghost use Rattle.tab_values.specs.Views.{object_of};
+ghost use Rattle.device_slots.specs.Listed.{MOST_SLOTS};
 ghost use Rattle.device_slots.specs.Views.{slots_of};
 
+use std::alloc::{AllocError, Global};
 use tab_spec::TRANSIENT_FIRST;
 use tab_values::Object;
+
+// So many slots, all of them free. It fails only for want of memory.
+pub(crate) fn free_slots(alloc: Global, count: usize) -> Result<Vec<Option<Object>>, AllocError>
+    ensures { IfOk result (λ slots. slots_of slots.items ≡ replicate count None) }
+{
+    let mut slots = Vec::with_capacity(alloc, count)?;
+    for _ in 0..count {
+        slots.push(None)?;
+    }
+    Ok(slots)
+}
 
 // The slot of a transient handle. A handle below those has the first one.
 pub(crate) fn slot_of(handle: u32) -> usize
@@ -56,7 +69,7 @@ pub(crate) fn put_slot(slots: &mut [Option<Object>], slot: usize, held: Option<O
 
 // The least handle of an object that isn't below `least`.
 pub(crate) fn object_from(slots: &[Option<Object>], least: u32) -> Option<u32>
-    requires { length slots.now ≤ OBJECT_SLOTS }
+    requires { length slots.now ≤ MOST_SLOTS }
     ensures { result ≡ number_from least (transient_from TRANSIENT_FIRST (slots_of slots.now)) }
 {
     for slot in 0..slots.len() {

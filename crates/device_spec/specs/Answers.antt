@@ -4,7 +4,7 @@ use Rattle.std.specs.Prelude.{◌≡◌, ℕ, zero, suc, ◌+◌, ◌*◌, ◌==
 use Rattle.std.specs.List.{list_all, list_any}
 use Rattle.std.specs.Int.{w32, from_be_bytes}
 use Rattle.tab_spec.specs.declared.CommandRow.{CommandRow}
-use Rattle.tab_spec.specs.declared.TheConstants.{HEADER_BYTES, ST_NO_SESSIONS, ST_SESSIONS, CC_STARTUP, CC_CONTEXT_LOAD, CC_CONTEXT_SAVE, CC_FLUSH_CONTEXT, CC_GET_CAPABILITY, CC_START_AUTH_SESSION, HT_TRANSIENT, TRANSIENT_FIRST, ACTIVE_SESSIONS, RC_SUCCESS, RC_INITIALIZE, RC_INSUFFICIENT, RC_CANCELED, RC_CONTEXT_GAP, RC_OBJECT_MEMORY, RC_SESSION_MEMORY, RC_REFERENCE_H0, RC_REFERENCE_S0, RC_MEMORY, RC_DEVICE_FAULT, RC_JOURNAL_FULL, RC_DEVICE_ANSWER}
+use Rattle.tab_spec.specs.declared.TheConstants.{HEADER_BYTES, ST_NO_SESSIONS, ST_SESSIONS, CC_STARTUP, CC_CONTEXT_LOAD, CC_CONTEXT_SAVE, CC_FLUSH_CONTEXT, CC_GET_CAPABILITY, CC_START_AUTH_SESSION, HT_TRANSIENT, TRANSIENT_FIRST, SESSION_NUMBERS, RC_SUCCESS, RC_INITIALIZE, RC_INSUFFICIENT, RC_CANCELED, RC_CONTEXT_GAP, RC_OBJECT_MEMORY, RC_SESSION_MEMORY, RC_REFERENCE_H0, RC_REFERENCE_S0, RC_MEMORY, RC_DEVICE_FAULT, RC_JOURNAL_FULL, RC_DEVICE_ANSWER}
 use Rattle.device_spec.specs.declared.TheConstants.{MOST_OBJECT_CONTEXT_BYTES, MOST_SESSION_CONTEXT_BYTES}
 use Rattle.tab_spec.specs.Admission.{is_session_handle}
 use Rattle.tab_spec.specs.Commands.{row_of}
@@ -93,7 +93,7 @@ abbrev pub is_started_handle : Bool → Reading ℕ → ℕ → Bool
 is_started_handle is_taken (Err code) handle = false
 is_started_handle is_taken (Ok read) handle =
     is_kind_number read.0 && octet_of handle == kind_octet (kind_of read.0)
-    && nat_lt (number_of_session handle) ACTIVE_SESSIONS && not is_taken
+    && nat_lt (number_of_session handle) SESSION_NUMBERS && not is_taken
 
 -- the handle of a response: a session's, by the command, and else an object's
 abbrev pub fits_handle : Bool → List ℕ → ℕ → Bool
@@ -183,7 +183,7 @@ is_success_form is_taken asked last =
 -- ---- right and wrong
 
 -- Whether a response is taken as the answer to a command, by what the broker holds: whether the context that the command loads is
--- kept by it, and whether a client has a session with the number of the response's handle.
+-- kept by it, and whether no new session can have the number of the response's handle.
 abbrev pub takes : Bool → Bool → List ℕ → List ℕ → Bool
 takes is_kept is_taken asked last =
     is_frame last

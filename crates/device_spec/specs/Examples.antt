@@ -6,8 +6,10 @@ use Rattle.tab_spec.specs.declared.Auths.{Auths}
 use Rattle.tab_spec.specs.declared.Kind.{Kind}
 use Rattle.tab_spec.specs.declared.Kind.TheVariants.{Entity, Policy}
 use Rattle.tab_spec.specs.declared.Shape.{Shape}
+use Rattle.tab_spec.specs.declared.numbers.Numbers.{Numbers}
 use Rattle.tab_spec.specs.declared.TheConstants.{CC_CONTEXT_LOAD, CC_GET_CAPABILITY, CC_POLICY_SECRET, CC_START_AUTH_SESSION, RH_NULL, RH_OWNER}
 use Rattle.tab_spec.specs.Commands.{command_row}
+use Rattle.tab_spec.specs.Numbers.{profile_numbers}
 use Rattle.tab_spec.specs.Session.{Session}
 use Rattle.effect_spec.specs.Capabilities.{joined_items}
 use Rattle.effect_spec.specs.Contexts.{Context}
@@ -15,19 +17,20 @@ use Rattle.effect_spec.specs.Operands.{Operand, operand_by, plain, operand_at, o
 use Rattle.tab_spec.specs.NvIndex.{NvIndex}
 use Rattle.tab_spec.specs.Object.{Object}
 use Rattle.tab_spec.specs.Persist.{Persist, fresh_persist}
-use Rattle.device_spec.specs.Slots.{SessionPlace, inactive, loaded, saved, SlotState, Step, in_slot, loaded_session, new_slots, room_for, session_at, session_loaded, sessions_left}
+use Rattle.device_spec.specs.Slots.{SessionPlace, inactive, loaded, saved, SlotState, Step, empty_slots, in_slot, loaded_session, new_slots, room_for, session_at, session_loaded, sessions_left}
 use Rattle.device_spec.specs.Answers.{takes}
 use Rattle.tab_spec.specs.Examples.{bytes_of, extended_persist, frame, policy_session, save, sealed, u32, with_indexes}
 use Rattle.tab_spec.specs.SessionExamples.{hmac_session, next_32, session_auth}
+use Rattle.effect_spec.specs.Examples.{another_device}
 use Rattle.effect_spec.specs.SessionExamples.{read_by_session, start_parameter_bytes, unsealed_by_policy, usual_start_parameters}
 
 -- before its first Startup
 abbrev pub new_device : SlotState
-new_device = new_slots (fresh_persist (replicate 32 0))
+new_device = new_slots profile_numbers (fresh_persist (replicate 32 0))
 
 -- started, and keeping this
 abbrev pub started : Persist → SlotState
-started persist = record (new_slots persist) { started = true }
+started persist = record (new_slots profile_numbers persist) { started = true }
 
 -- started, and so many words into its random stream
 abbrev pub device_at : ℕ → SlotState
@@ -127,6 +130,26 @@ start_reply handle nonce = bytes_of 10 0x80010000003000000000 ++ u32 handle ++ 0
 abbrev pub no_room : ℕ → ℕ → Option ℕ
 no_room in_use away =
     room_for (crowded in_use away) CC_START_AUTH_SESSION (start_parameter_bytes usual_start_parameters)
+
+-- the same on a device of other numbers
+abbrev pub room_of : Numbers → ℕ → ℕ → Option ℕ
+room_of numbers in_use away =
+    room_for (record (crowded in_use away) { numbers = numbers }) CC_START_AUTH_SESSION (start_parameter_bytes usual_start_parameters)
+
+-- with room for more than one of this profile, and empty slots: 254 of them, 6 places, 16 sessions, a gap of 400
+abbrev pub of_another : SlotState → SlotState
+of_another slots = record slots { numbers = another_device; slots = empty_slots another_device }
+
+-- more sessions than there are numbers for
+abbrev pub many_sessions : Numbers
+many_sessions = record profile_numbers { active = 65 }
+
+-- a device of four slots, with this in the last one
+abbrev pub four_slots : Option Object → SlotState
+four_slots last = record (started (fresh_persist (replicate 32 0))) {
+  numbers = record profile_numbers { slots = 4 };
+  slots = Some sealed ∷ Some sealed ∷ Some sealed ∷ last ∷ [];
+}
 
 -- the first context of the first session, by what stands in place of its last byte, which is 0xca
 abbrev pub first_context : ℕ → List ℕ

@@ -30,4 +30,4 @@ remains slots = object_handles slots ++ session_handles true slots ++ session_ha
 
 -- with nothing in its slots, and no active session
 abbrev pub emptied : SlotState → SlotState
-emptied slots = record slots { slots = empty_slots; sessions = no_sessions }
+emptied slots = record slots { slots = empty_slots slots.numbers; sessions = no_sessions }

@@ -1,12 +1,14 @@
--- The device as a machine of few slots.
+-- The device as a machine of few slots. How many of each it has are its numbers, which no command changes.
 use Rattle.std.specs.Prelude.{◌≡◌, ◌<◌, ◌≤◌, ℕ, ◌+◌, ◌-◌, ◌*◌, ◌^◌, ◌==◌, ◌||◌, ◌&&◌, not, nat_le, min, Bool, true, false, List, [], ◌∷◌, ◌++◌, length, get_or, set, replicate, drop, Option, Some, None, is_some, IfSome, Result, Ok, Err, if◌then◌else◌}
 use Rattle.std.specs.List.{AllByRecursion, list_any, count_by}
 use Rattle.std.specs.Int.{w32, to_be_bytes}
-use Rattle.tab_spec.specs.declared.TheConstants.{ST_NO_SESSIONS, CC_STARTUP, CC_CONTEXT_LOAD, CC_CONTEXT_SAVE, CC_FLUSH_CONTEXT, CC_GET_CAPABILITY, CC_START_AUTH_SESSION, HT_TRANSIENT, TRANSIENT_FIRST, OBJECT_SLOTS, LOADED_SESSIONS, ACTIVE_SESSIONS, CONTEXT_GAP, CONTEXT_LIMIT, RC_SUCCESS, RC_P, RC_1, RC_VALUE, RC_HANDLE, RC_INTEGRITY, RC_INSUFFICIENT, RC_FAILURE, RC_INITIALIZE, RC_CONTEXT_GAP, RC_SESSION_HANDLES, RC_SESSION_MEMORY}
+use Rattle.tab_spec.specs.declared.TheConstants.{ST_NO_SESSIONS, CC_STARTUP, CC_CONTEXT_LOAD, CC_CONTEXT_SAVE, CC_FLUSH_CONTEXT, CC_GET_CAPABILITY, CC_START_AUTH_SESSION, HT_TRANSIENT, TRANSIENT_FIRST, SESSION_NUMBERS, CONTEXT_LIMIT, RC_SUCCESS, RC_P, RC_1, RC_VALUE, RC_HANDLE, RC_INTEGRITY, RC_INSUFFICIENT, RC_FAILURE, RC_INITIALIZE, RC_CONTEXT_GAP, RC_SESSION_HANDLES, RC_SESSION_MEMORY}
 use Rattle.tab_spec.specs.declared.Shape.{Shape}
 use Rattle.tab_spec.specs.declared.Auths.{Auths}
 use Rattle.tab_spec.specs.declared.CommandRow.{CommandRow}
+use Rattle.tab_spec.specs.declared.numbers.Numbers.{Numbers}
 use Rattle.tab_spec.specs.declared.Admitted.{Admitted}
+use Rattle.tab_spec.specs.Numbers.{AreInRange}
 use Rattle.tab_spec.specs.Object.{Object, IsObject}
 use Rattle.tab_spec.specs.Persist.{Persist, IsPersist}
 use Rattle.tab_spec.specs.Admission.{Tables, is_session_handle, admitted_by}
@@ -32,6 +34,8 @@ pub data SessionPlace : Type 0 where
 pub record SlotState : Type 0 where
   pub started : Bool
   pub persist : Persist
+  -- how much of each it has
+  pub numbers : Numbers
   -- what stands in each slot
   pub slots : List (Option Object)
   -- what each session number is
@@ -40,18 +44,19 @@ pub record SlotState : Type 0 where
   pub object_counter : ℕ
   pub counter : ℕ
 
-abbrev pub empty_slots : List (Option Object)
-empty_slots = replicate OBJECT_SLOTS None
+abbrev pub empty_slots : Numbers → List (Option Object)
+empty_slots numbers = replicate numbers.slots None
 
 abbrev pub no_sessions : List SessionPlace
-no_sessions = replicate ACTIVE_SESSIONS inactive
+no_sessions = replicate SESSION_NUMBERS inactive
 
--- a device that was never started, and keeps this
-abbrev pub new_slots : Persist → SlotState
-new_slots persist = record {
+-- a device of these numbers that was never started, and keeps this
+abbrev pub new_slots : Numbers → Persist → SlotState
+new_slots numbers persist = record {
   started = false;
   persist = persist;
-  slots = empty_slots;
+  numbers = numbers;
+  slots = empty_slots numbers;
   sessions = no_sessions;
   object_counter = 0;
   counter = 0;
@@ -99,15 +104,16 @@ IsPlace counter inactive = Unit {0}
 IsPlace counter (loaded octet s) = (is_session_octet octet ≡ true) × IsSession s
 IsPlace counter (saved octet number) = (is_session_octet octet ≡ true) × (number < counter)
 
--- a state that a device of this profile may be in
+-- a state that a device may be in whose numbers are those of one that a broker can serve
 pub record IsSlots (slots : SlotState) : Type 0 where
   pub persist : IsPersist slots.persist
-  pub count : length slots.slots ≡ OBJECT_SLOTS
+  pub range : AreInRange slots.numbers
+  pub count : length slots.slots ≡ slots.numbers.slots
   pub objects : AllByRecursion (λ slot. IfSome slot IsObject) slots.slots
   pub object_counter : slots.object_counter ≤ CONTEXT_LIMIT
-  pub numbers : length slots.sessions ≡ ACTIVE_SESSIONS
+  pub numbers : length slots.sessions ≡ SESSION_NUMBERS
   pub places : AllByRecursion (λ place. IsPlace slots.counter place) slots.sessions
-  pub loaded : loaded_count slots.sessions ≤ LOADED_SESSIONS
+  pub loaded : loaded_count slots.sessions ≤ slots.numbers.loaded
   -- no two sessions are saved under one number
   pub apart : (number : ℕ) → count_by (is_saved_as number) slots.sessions ≤ 1
   pub counter : slots.counter ≤ CONTEXT_LIMIT
@@ -276,7 +282,7 @@ abbrev pub session_saved : SlotState → ℕ → Option Session → Result Step 
 session_saved slots handle None = Err RC_FAILURE
 session_saved slots handle (Some s) =
     if nat_le CONTEXT_LIMIT slots.counter then Err RC_FAILURE
-    else if nat_le CONTEXT_GAP (gap_of slots) then Err RC_CONTEXT_GAP
+    else if nat_le slots.numbers.gap (gap_of slots) then Err RC_CONTEXT_GAP
     else Ok (
       record (with_place slots (number_of_session handle) (saved (octet_of handle) slots.counter))
           { counter = slots.counter + 1 },
@@ -303,7 +309,7 @@ abbrev pub session_loaded : SlotState → Context → Option Session → Result 
 session_loaded slots c None = Err (RC_INTEGRITY + RC_P + RC_1)
 session_loaded slots c (Some s) =
     if not (is_saved_under slots c.saved_handle c.sequence) then Err (RC_HANDLE + RC_P + RC_1)
-    else if nat_le LOADED_SESSIONS (loaded_count slots.sessions) then Err RC_SESSION_MEMORY
+    else if nat_le slots.numbers.loaded (loaded_count slots.sessions) then Err RC_SESSION_MEMORY
     else Ok (
       with_place slots (number_of_session c.saved_handle) (loaded (octet_of c.saved_handle) s),
       response ST_NO_SESSIONS RC_SUCCESS (to_be_bytes w32 c.saved_handle),
@@ -349,7 +355,7 @@ listed_from number (place ∷ places) = listed_place number place ++ listed_from
 
 abbrev pub capability_row : SlotState → List ℕ → Result (List ℕ) ℕ
 capability_row slots params =
-    capability_of device_limits all_commands slots.persist (transient_from TRANSIENT_FIRST slots.slots)
+    capability_of (device_limits slots.numbers) all_commands slots.persist (transient_from TRANSIENT_FIRST slots.slots)
     (listed_from 0 slots.sessions) (active_count slots.sessions) params
 
 abbrev pub capability_told : SlotState → Result (List ℕ) ℕ → Result Step ℕ
@@ -396,12 +402,13 @@ effect_by slots effect =
     made_by (record slots { persist = effect.persist; sessions = sessions_left slots.sessions effect.operands effect.outcome.auth_ended })
     effect.outcome.created effect.reply
 
--- where there is no room for a session that may start otherwise: no number, then no place
+-- where there is no room for a session that may start otherwise: as many are active as may be, then no place is free
 abbrev pub session_too_many : SlotState → Result StartParameters ℕ → Option ℕ
 session_too_many slots (Err code) = None
 session_too_many slots (Ok beginning) =
-    if nat_le ACTIVE_SESSIONS (active_count slots.sessions) then Some RC_SESSION_HANDLES
-    else if nat_le LOADED_SESSIONS (loaded_count slots.sessions) then Some RC_SESSION_MEMORY
+    if nat_le slots.numbers.active (active_count slots.sessions) || nat_le SESSION_NUMBERS (active_count slots.sessions)
+    then Some RC_SESSION_HANDLES
+    else if nat_le slots.numbers.loaded (loaded_count slots.sessions) then Some RC_SESSION_MEMORY
     else None
 
 abbrev pub room_for : SlotState → ℕ → List ℕ → Option ℕ

@@ -1,4 +1,4 @@
-//! The device as a machine of three slots for objects and 64 session numbers: its state, and what a
+//! The device as a machine of few slots for objects and 64 session numbers: its state, and what a
 //! command makes of it. Definitions alone, which contracts cite.
 #![tactic(auto)]
 

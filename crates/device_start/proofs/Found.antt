@@ -1,16 +1,15 @@
 -- What a device holds that was started, and what its lists have.
-use Rattle.std.proofs.Common.{◌≡◌, ◌≤◌, ◌+◌, ◌^◌, ◌<◌, ℕ, Bool, true, false, List, [], ◌∷◌, ◌++◌, refl, ap, sym, ◌∙◌, subst, arith}
-use Rattle.std.specs.Prelude.{◌==◌, Option, Some, None, IfSome, is_some}
+use Rattle.std.proofs.Common.{◌≡◌, ℕ, true, false, List, ◌++◌, refl, ap, sym, ◌∙◌, subst, arith}
+use Rattle.std.specs.Prelude.{Option, Some, None, IfSome, is_some}
 use Rattle.tab_spec.specs.Commands.{startup_command}
 use Rattle.tab_spec.specs.Values.{AreBytes}
 use Rattle.device_spec.specs.Answers.{listed_handles, takes}
-use Rattle.device_spec.specs.Remains.{handles_command, object_handles, remains, session_handles}
+use Rattle.device_spec.specs.Remains.{handles_command, object_handles, session_handles}
 use Rattle.device_spec.specs.Slots.{IsSlots, SlotState, slot_step}
 use Rattle.device_port.specs.Device.{Answered}
 use Rattle.device_laws.specs.Remains.{IsListed}
-use Rattle.device_laws.proofs.Listing.{loaded_are_listed, objects_are_listed, saved_are_listed}
 use Rattle.device_laws.proofs.Replies.{startup_starts, step_keeps}
-use Rattle.device_start.specs.Start.{FindsIf, Holds, HoldsIf, HoldsNoMoreIf, all_listed}
+use Rattle.device_start.specs.Start.{FindsIf, HoldsNoMoreIf}
 
 pub some_same : {X : Type 0} {x y : X} → Some x ≡ Some y → x ≡ y
 some_same is = cc
@@ -39,7 +38,7 @@ runs_now None new reply answered slots is = absurd cc
 runs_now (Some s) new reply answered slots is =
     answered.0 ∙ ap (λ (t : SlotState). Some t) ((startup_starts s).state ∙ ap running (some_same is))
 
--- a device of the profile stays one
+-- a sound device stays so
 sound_running : (slots : SlotState) → IsSlots slots → IsSlots (running slots)
 sound_running slots sound = subst IsSlots (startup_starts slots).state (step_keeps slots startup_command sound startup_bytes)
 

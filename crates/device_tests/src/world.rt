@@ -1,7 +1,8 @@
 //! What the clients of `World` are answered, by which picks.
 //!
 //! A line is `CLIENT open`, `CLIENT close`, `CLIENT all COMMAND`, which starts a session under each
-//! number, `CLIENT PICK COMMAND REPLY`, or `new`, behind which comes a new world of the zero seed.
+//! number, `CLIENT PICK COMMAND REPLY`, or `new` or `new MOST`, behind which comes a new world of
+//! the zero seed, in which at most 64, or MOST, sessions are active.
 //! A pick is `-`, `session:NUMBER` or `sequence:NUMBER`. The reply is in hexadecimal digits, behind
 //! which `..` leaves the rest open, or `refused`.
 use history_spec::Pick;
@@ -9,13 +10,13 @@ use plain_machine::{StepError, World};
 use std::alloc::{AllocError, Global};
 use std::test::Fail;
 use tab_bytes::Buffer;
-use tab_spec::ACTIVE_SESSIONS;
+use tab_spec::{ACTIVE_SESSIONS, SESSION_NUMBERS};
 use tab_values::Persist;
 
 const BAD_LINE: &str = "a line lacks a word";
 
-fn new_world(alloc: Global) -> Result<World, AllocError> {
-    World::new(alloc, Persist::new(alloc, [0; 32])?)
+fn new_world(alloc: Global, most: u8) -> Result<World, AllocError> {
+    World::new(alloc, Persist::new(alloc, [0; 32])?, most)
 }
 
 fn opens(world: &mut World, client: u32) -> bool {
@@ -32,7 +33,7 @@ fn closes(world: &mut World, client: u32) -> bool {
 
 // Starts a session under each number; whether each was started.
 fn starts_all(world: &mut World, client: u32, command: &[u8], reply: &mut Buffer) -> bool {
-    for number in 0..ACTIVE_SESSIONS {
+    for number in 0..SESSION_NUMBERS {
         let pick = Pick::Session(number);
         if !world.is_open(client) || world.step(client, command, pick, reply).is_err() {
             return false;
@@ -108,12 +109,20 @@ fn holds(alloc: Global, world: &mut World, line: &str) -> Result<bool, Fail> {
     }
 }
 
+// How many sessions a new world has: 64, where none is told.
+fn most_of(word: &str) -> Result<u8, Fail> {
+    match word.trim() {
+        "" => Ok(ACTIVE_SESSIONS as u8),
+        most => Ok(most.parse::<u8>()?),
+    }
+}
+
 // The first line of a text that doesn't hold, from 0.
 fn first_other(alloc: Global, text: &str) -> Result<Option<usize>, Fail> {
-    let mut world = new_world(alloc)?;
+    let mut world = new_world(alloc, ACTIVE_SESSIONS as u8)?;
     for (place, line) in text.lines().enumerate() {
-        if line == "new" {
-            world = new_world(alloc)?;
+        if let Some(most) = line.strip_prefix("new") {
+            world = new_world(alloc, most_of(most)?)?;
         } else if !line.starts_with('#') && !holds(alloc, &mut world, line)? {
             return Ok(Some(place));
         }
@@ -459,9 +468,31 @@ new
     000000000000000000000000010000b \
     80010000003000000000..";
 
+const NUMBERS: &str = "\
+new 3
+# at most three sessions are active, under any numbers
+0 open
+0 session:0 80010000003b000001764000000740000007002000000000000000000000000000000000000000000000000\
+    000000000000000000000000010000b 80010000003000000000..
+0 session:1 80010000003b000001764000000740000007002000000000000000000000000000000000000000000000000\
+    000000000000000000000000010000b 80010000003000000000..
+0 session:63 80010000003b00000176400000074000000700200000000000000000000000000000000000000000000000\
+    0000000000000000000000000010000b 80010000003000000000..
+0 - 80010000003b00000176400000074000000700200000000000000000000000000000000000000000000000000000000\
+    0000000000000000010000b 80010000000a00000905
+0 - 8001000000160000017a000000060000011000000001 \
+    80010000001b000000000100000006000000010000011000000003
+0 - 8001000000160000017a000000060000011100000001 \
+    80010000001b000000000100000006000000010000011100000003
+0 - 8001000000160000017a000000060000020600000001 \
+    80010000001b000000000100000006000000010000020600000000
+0 - 80010000000e000001650200003f 80010000000a00000000
+0 session:9 80010000003b000001764000000740000007002000000000000000000000000000000000000000000000000\
+    000000000000000000000000010000b 80010000003000000000..";
+
 #[test]
 fn clients_are_answered_as_listed(rt: HostRuntime) -> Result<(), Fail> {
-    for text in [OBJECTS, TOLD, SESSIONS, CONTEXTS] {
+    for text in [OBJECTS, TOLD, SESSIONS, CONTEXTS, NUMBERS] {
         assert_eq!(rt; first_other(rt.alloc(), text)?, None, "in {text}");
     }
     Ok(())

@@ -4,6 +4,7 @@ use Rattle.std.specs.Prelude.{ℕ, ◌+◌, ◌*◌, ◌-◌, ◌^◌, ◌==◌,
 use Rattle.std.specs.List.{filter, fold, count_by, range_with_len}
 use Rattle.std.specs.Int.{w16, w32, to_be_bytes}
 use Rattle.tab_spec.specs.declared.CommandRow.{CommandRow}
+use Rattle.tab_spec.specs.declared.numbers.Numbers.{Numbers}
 use Rattle.tab_spec.specs.declared.TheConstants.{PCRS, MOST_BYTES, ALG_SHA256, RH_OWNER, RH_NULL, RS_PW, HT_NV_INDEX, HT_HMAC_SESSION, HT_POLICY_SESSION, HT_TRANSIENT, HT_PERSISTENT, RC_P, RC_1, RC_VALUE, RC_HANDLE, RC_INSUFFICIENT}
 use Rattle.tab_spec.specs.Values.{Reading, number32, then_read}
 use Rattle.tab_spec.specs.Parameters.{in_parameter, when_read}
@@ -22,16 +23,24 @@ pub record Listed : Type 0 where
 pub record Limits : Type 0 where
   pub objects : ℕ
   pub loaded : ℕ
+  pub active : ℕ
   pub gap : ℕ
   -- whether a place for a session in use is taken by every active session, also of others
   pub counts_active : Bool
 
--- what a client sees, and what the device has
-abbrev pub client_limits : Limits
-client_limits = record { objects = 4096; loaded = 64; gap = 0xffffffff; counts_active = true }
+-- what a client sees, where so many sessions may be active over all clients
+abbrev pub client_limits : ℕ → Limits
+client_limits most = record { objects = 4096; loaded = most; active = most; gap = 0xffffffff; counts_active = true }
 
-abbrev pub device_limits : Limits
-device_limits = record { objects = 3; loaded = 3; gap = 255; counts_active = false }
+-- what a device of these numbers has
+abbrev pub device_limits : Numbers → Limits
+device_limits numbers = record {
+  objects = numbers.slots;
+  loaded = numbers.loaded;
+  active = numbers.active;
+  gap = numbers.gap;
+  counts_active = false;
+}
 
 pub record Asked : Type 0 where
   pub capability : ℕ
@@ -129,8 +138,8 @@ loaded_by limits active in_use = if limits.counts_active then active else in_use
 abbrev pub property_pairs : Limits → List ℕ → List Listed → ℕ → List (ℕ × ℕ)
 property_pairs limits objects sessions active =
     let in_use = count_by (λ (s : Listed). s.in_use) sessions in
-    (0x10e, limits.objects) ∷ (0x110, limits.loaded) ∷ (0x111, 64) ∷ (0x112, PCRS) ∷ (0x114, limits.gap) ∷ (0x11e, MOST_BYTES) ∷ (0x11f, MOST_BYTES)
-    ∷ (0x203, in_use) ∷ (0x204, limits.loaded - loaded_by limits active in_use) ∷ (0x205, length sessions) ∷ (0x206, 64 - active)
+    (0x10e, limits.objects) ∷ (0x110, limits.loaded) ∷ (0x111, limits.active) ∷ (0x112, PCRS) ∷ (0x114, limits.gap) ∷ (0x11e, MOST_BYTES) ∷ (0x11f, MOST_BYTES)
+    ∷ (0x203, in_use) ∷ (0x204, limits.loaded - loaded_by limits active in_use) ∷ (0x205, length sessions) ∷ (0x206, limits.active - active)
     ∷ (0x207, limits.objects - length objects) ∷ []
 
 unfoldable pub property_items : List (ℕ × ℕ) → ℕ → List (List ℕ)

@@ -24,6 +24,7 @@ ghost use Rattle.effect_spec.specs.Objects.{create_primary_row, create_row, load
 ghost use Rattle.effect_spec.specs.Objects.{hmac_row, read_public_row, object_name};
 ghost use Rattle.effect_spec.specs.Contexts.{object_context, opened_object};
 ghost use Rattle.sha2.specs.Sha256.{sha256};
+ghost use Rattle.tab_spec.specs.Numbers.{profile_numbers};
 ghost use Rattle.effect_spec.specs.Capabilities.{capability_of, client_limits, device_limits};
 ghost use Rattle.tab_spec.specs.Examples.{u32, random_shape, counter, counter_at, four_bytes};
 ghost use Rattle.tab_spec.specs.Examples.{with_indexes, counter_definition, hmac_key, sealed_bytes};
@@ -307,27 +308,27 @@ fn contexts_are_told()
 
 // By the property on, at most so many; what is left over is told.
 fn capabilities_are_told()
-    ensures handles { capability_of client_limits all_commands
+    ensures handles { capability_of (client_limits 64) all_commands
         (with_indexes []) (0x80000000 ∷ 0x80000002 ∷ []) [] 4 (u32 1 ++ u32 0x80000000 ++ u32 8)
         ≡ Ok (0 ∷ u32 1 ++ u32 2 ++ u32 0x80000000 ++ u32 0x80000002) }
-    ensures active { capability_of client_limits all_commands
+    ensures active { capability_of (client_limits 64) all_commands
         (with_indexes []) [] (record { handle = 0x02000000; in_use = true }
         ∷ record { handle = 0x03000001; in_use = false } ∷ []) 5 (u32 6 ++ u32 0x205 ++ u32 1)
         ≡ Ok (1 ∷ u32 6 ++ u32 1 ++ u32 0x205 ++ u32 2) }
-    ensures saved { capability_of client_limits all_commands
+    ensures saved { capability_of (client_limits 64) all_commands
         (with_indexes []) [] (record { handle = 0x02000000; in_use = true }
         ∷ record { handle = 0x02000001; in_use = false } ∷ []) 5 (u32 1 ++ u32 0x03000001 ++ u32 9)
         ≡ Ok (0 ∷ u32 1 ++ u32 1 ++ u32 0x02000001) }
-    ensures indexes { capability_of device_limits all_commands
+    ensures indexes { capability_of (device_limits profile_numbers) all_commands
         (with_indexes (four_bytes 0 [] ∷ counter ∷ [])) [] [] 0 (u32 1 ++ u32 0x01000001 ++ u32 1)
         ≡ Ok (1 ∷ u32 1 ++ u32 1 ++ u32 0x01000001) }
-    ensures pcrs { capability_of device_limits all_commands (with_indexes []) [] [] 0
-        (u32 1 ++ u32 23 ++ u32 9)
+    ensures pcrs { capability_of (device_limits profile_numbers) all_commands
+        (with_indexes []) [] [] 0 (u32 1 ++ u32 23 ++ u32 9)
         ≡ Ok (0 ∷ u32 1 ++ u32 1 ++ u32 23) }
-    ensures commands { capability_of device_limits all_commands (with_indexes []) [] [] 0
-        (u32 2 ++ u32 0x176 ++ u32 2)
+    ensures commands { capability_of (device_limits profile_numbers) all_commands
+        (with_indexes []) [] [] 0 (u32 2 ++ u32 0x176 ++ u32 2)
         ≡ Ok (1 ∷ u32 2 ++ u32 2 ++ u32 0x14000176 ++ u32 0x0000017a) }
-    ensures unknown { capability_of device_limits all_commands (with_indexes []) [] [] 0
-        (u32 3 ++ u32 0 ++ u32 1)
+    ensures unknown { capability_of (device_limits profile_numbers) all_commands
+        (with_indexes []) [] [] 0 (u32 3 ++ u32 0 ++ u32 1)
         ≡ Err 0x1c4 }
 {}

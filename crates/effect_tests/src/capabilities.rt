@@ -54,7 +54,7 @@ impl Holdings for Few {
 // What becomes of these parameters of a client, which append nothing.
 fn view_of(params: &[u8], reply: &mut Buffer) -> Option<Viewed> {
     reply.clear();
-    let viewed = client_capability(&Few, 5, params, reply);
+    let viewed = client_capability(&Few, 5, 64, params, reply);
     if !reply.as_slice().is_empty() {
         return None;
     }
@@ -84,7 +84,7 @@ fn a_client_is_told_of_its_own(rt: HostRuntime) -> Result<(), Fail> {
     ];
     for (asked, wanted) in cases {
         reply.clear();
-        let viewed = client_capability(&Few, 5, &asked, &mut reply);
+        let viewed = client_capability(&Few, 5, 64, &asked, &mut reply);
         assert!(rt; viewed == Viewed::Answered, "{}", asked[4]);
         assert_eq!(rt; reply.as_slice(), wanted, "{}", asked[4]);
     }

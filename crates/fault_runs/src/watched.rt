@@ -1,5 +1,5 @@
 ghost use Rattle.std.specs.Prelude.{◌≡◌, ◌∷◌, ◌++◌, [], OnOk, OnErr, is_some};
-ghost use Rattle.world_spec.specs.Legal.{Legal};
+ghost use Rattle.broker_core.specs.Broker.{ProfileLegal};
 ghost use Rattle.device_port.specs.Device.{sent_of};
 ghost use Rattle.client_machine.specs.Settled.{orphan_count};
 
@@ -51,7 +51,7 @@ impl<D: Device> Watched<D> {
 impl<D: Device> Recorded for Watched<D> {
     ghost history = { λ w. w.played.broker.journal };
 
-    ghost legal = { Legal };
+    ghost legal = { ProfileLegal };
 
     ghost fixed = { λ w. record {
       base = (D.seen w.played.broker.device).base;

@@ -5,7 +5,7 @@ use Rattle.fx_capability.specs.declared.holdings.HeldSession.{HeldSession}
 use Rattle.fx_capability.specs.declared.asked.Asked.{Asked}
 
 abbrev pub limits_of : Limits → capabilities.Limits
-limits_of l = record { objects = l.objects; loaded = l.loaded; gap = l.gap; counts_active = l.counts_active }
+limits_of l = record { objects = l.objects; loaded = l.loaded; active = l.active; gap = l.gap; counts_active = l.counts_active }
 
 abbrev pub listed_of : HeldSession → capabilities.Listed
 listed_of s = record { handle = s.handle; in_use = s.in_use }

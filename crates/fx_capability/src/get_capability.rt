@@ -1,6 +1,7 @@
 ghost use Rattle.std.specs.Prelude.{◌≡◌, ◌↔◌, ◌+◌, ◌≤◌, ◌++◌, [], true, false, length, OnOk};
 ghost use Rattle.tab_spec.specs.Commands.{all_commands};
 ghost use Rattle.effect_spec.specs.declared.TheConstants.{MOST_PARAMETER_BYTES};
+ghost use Rattle.tab_spec.specs.Numbers.{profile_numbers};
 ghost use Rattle.effect_spec.specs.Capabilities.{capability_of, client_limits, device_limits};
 ghost use Rattle.effect_spec.specs.Capabilities.{is_own_list, is_of_device, list_of, pcr_list};
 ghost use Rattle.effect_spec.specs.Rows.{HasRoom, Appends};
@@ -58,17 +59,18 @@ pub fn capability<H: Holdings>(
 }
 
 /// Answers GetCapability for a client from what it has: its objects, its sessions and its
-/// properties. `active` is how many sessions all clients have. Any other list is the same for all,
-/// and the device's.
+/// properties. `active` is how many sessions all clients have, and `most` how many they may have.
+/// Any other list is the same for all, and the device's.
 pub fn client_capability<H: Holdings>(
     held: &H,
     active: u32,
+    most: u8,
     params: &[u8],
     reply: &mut Buffer,
 ) -> Viewed
     requires room { HasRoom reply.old }
     ensures told { IsViewed result
-        (λ persist. capability_of client_limits all_commands persist
+        (λ persist. capability_of (client_limits most) all_commands persist
         (H.objects held.now) (H.sessions held.now) active params.now)
         reply.old reply.new }
     ensures device { (result ≡ Device) ↔ (is_of_device params.now ≡ true) }
@@ -78,7 +80,7 @@ pub fn client_capability<H: Holdings>(
         Ok(asked) => asked,
         Err(code) => return Viewed::Refused(code),
     };
-    if put_own(&Limits::of_a_client(), held, active, &asked, reply) {
+    if put_own(&Limits::of_a_client(most), held, active, &asked, reply) {
         return Viewed::Answered;
     }
     Viewed::Device
@@ -120,7 +122,7 @@ fn put_other(p: &Persist, asked: &Asked, reply: &mut Buffer) -> Result<(), u32>
     requires room { HasRoom reply.old }
     requires other { is_own_list (asked_of asked.now) ≡ false }
     ensures row { Appends result
-        (list_of device_limits all_commands p.now [] [] 0 (asked_of asked.now))
+        (list_of (device_limits profile_numbers) all_commands p.now [] [] 0 (asked_of asked.now))
         reply.old reply.new }
     ensures most { OnOk result (length reply.new ≤ length reply.old + MOST_LIST_BYTES) }
 {

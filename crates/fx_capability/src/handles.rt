@@ -4,7 +4,7 @@ ghost use Rattle.std.specs.Int.{w32, to_be_bytes};
 ghost use Rattle.std.specs.List.{range_with_len};
 ghost use Rattle.tab_spec.specs.NvIndex.{NvIndex};
 ghost use Rattle.tab_spec.specs.Shape.{is_session_octet, octet_of};
-ghost use Rattle.tab_spec.specs.declared.TheConstants.{ACTIVE_SESSIONS, HT_TRANSIENT, PCRS};
+ghost use Rattle.tab_spec.specs.declared.TheConstants.{SESSION_NUMBERS, HT_TRANSIENT, PCRS};
 ghost use Rattle.tab_spec.specs.declared.TheConstants.{RH_OWNER, RH_NULL, RS_PW};
 ghost use Rattle.effect_spec.specs.Capabilities.{from_number, upwards, listed_sessions};
 ghost use Rattle.effect_spec.specs.Capabilities.{handle_items, handles_listed};
@@ -18,8 +18,8 @@ use crate::holdings::{HeldSession, Holdings};
 use crate::listing::{Item, Listing, MOST_LIST_BYTES, put_list};
 use tab_bytes::Buffer;
 use tab_spec::{
-    ACTIVE_SESSIONS, HT_HMAC_SESSION, HT_NV_INDEX, HT_PERSISTENT, HT_POLICY_SESSION, HT_TRANSIENT,
-    PCRS, RC_HANDLE, RH_NULL, RH_OWNER, RS_PW,
+    HT_HMAC_SESSION, HT_NV_INDEX, HT_PERSISTENT, HT_POLICY_SESSION, HT_TRANSIENT, PCRS, RC_HANDLE,
+    RH_NULL, RH_OWNER, RS_PW, SESSION_NUMBERS,
 };
 use tab_values::{Persist, SmallBytes, in_parameter};
 
@@ -194,7 +194,7 @@ impl<'a, H: Holdings> Listing for Sessions<'a, H> {
     ghost items = { λ s least. listed_sessions s.in_use least (H.sessions s.held.now) };
 
     fn item_from(&self, least: u64) -> Option<Item> {
-        for number in least..u64::from(ACTIVE_SESSIONS) {
+        for number in least..u64::from(SESSION_NUMBERS) {
             if let Some(handle) = session_of_sort(self.held, self.in_use, number as u32) {
                 return Some(Item {
                     key: number as u32,
@@ -208,7 +208,7 @@ impl<'a, H: Holdings> Listing for Sessions<'a, H> {
 
 // The handle of the session with this number, where it is in use or saved as asked for.
 fn session_of_sort<H: Holdings>(held: &H, in_use: bool, number: u32) -> Option<u32>
-    requires { number < ACTIVE_SESSIONS }
+    requires { number < SESSION_NUMBERS }
     ensures { MatchOption result
         (listed_sessions in_use number (H.sessions held.now)
         ≡ listed_sessions in_use (number + 1) (H.sessions held.now))

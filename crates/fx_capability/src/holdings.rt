@@ -1,6 +1,6 @@
 ghost use Rattle.std.specs.Prelude.{◌≡◌, ◌<◌, ◌^◌, ℕ, List, length, Some, None, true, MatchOption};
 ghost use Rattle.effect_spec.specs.Capabilities.{Listed};
-ghost use Rattle.tab_spec.specs.declared.TheConstants.{ACTIVE_SESSIONS};
+ghost use Rattle.tab_spec.specs.declared.TheConstants.{SESSION_NUMBERS};
 ghost use Rattle.fx_capability.specs.Lists.{rises_from, all_below, number_from, session_numbers};
 ghost use Rattle.fx_capability.specs.Lists.{session_in};
 ghost use Rattle.fx_capability.specs.Views.{listed_of};
@@ -32,7 +32,7 @@ pub trait Holdings {
 
     /// The session with this number, 0 to 63, in use or saved.
     fn session(&self, number: u32) -> Option<HeldSession>
-        requires { number < ACTIVE_SESSIONS }
+        requires { number < SESSION_NUMBERS }
         ensures { MatchOption result (session_in number (sessions self.now) ≡ None)
             (λ s. session_in number (sessions self.now) ≡ Some (listed_of s)) };
 
@@ -48,5 +48,5 @@ pub trait Holdings {
 
     /// Each number is one that a session may have.
     ghost sessions_fit: { (held : Self)
-        → all_below ACTIVE_SESSIONS (session_numbers (sessions held)) ≡ true };
+        → all_below SESSION_NUMBERS (session_numbers (sessions held)) ≡ true };
 }

@@ -7,7 +7,7 @@ ghost use Rattle.fx_capability.specs.Views.{limits_of};
 use crate::holdings::Holdings;
 use crate::limits::Limits;
 use crate::listing::{Item, Listing, pair_from};
-use tab_spec::{ACTIVE_SESSIONS, MOST_BYTES, PCRS};
+use tab_spec::{MOST_BYTES, PCRS, SESSION_NUMBERS};
 use tab_values::SmallBytes;
 
 // The properties that there are (Part 2, "TPM_PT").
@@ -84,7 +84,7 @@ fn pairs_of<H: Holdings>(limits: &Limits, held: &H, active: u32) -> [(u32, u32);
     [
         (PT_HR_TRANSIENT_MIN, limits.objects),
         (PT_HR_LOADED_MIN, limits.loaded),
-        (PT_ACTIVE_SESSIONS_MAX, ACTIVE_SESSIONS),
+        (PT_ACTIVE_SESSIONS_MAX, limits.active),
         (PT_PCR_COUNT, PCRS),
         (PT_CONTEXT_GAP_MAX, limits.gap),
         (PT_MAX_COMMAND_SIZE, MOST_BYTES),
@@ -92,7 +92,7 @@ fn pairs_of<H: Holdings>(limits: &Limits, held: &H, active: u32) -> [(u32, u32);
         (PT_HR_LOADED, in_use),
         (PT_HR_LOADED_AVAIL, limits.loaded.saturating_sub(loaded)),
         (PT_HR_ACTIVE, all),
-        (PT_HR_ACTIVE_AVAIL, ACTIVE_SESSIONS.saturating_sub(active)),
+        (PT_HR_ACTIVE_AVAIL, limits.active.saturating_sub(active)),
         (PT_HR_TRANSIENT_AVAIL, objects),
     ]
 }
@@ -104,7 +104,7 @@ fn count_sessions<H: Holdings>(held: &H) -> (u32, u32)
 {
     let mut in_use = 0;
     let mut all = 0;
-    for number in 0..ACTIVE_SESSIONS {
+    for number in 0..SESSION_NUMBERS {
         match held.session(number) {
             Some(session) => {
                 all += 1;

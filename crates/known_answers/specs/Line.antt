@@ -1,8 +1,11 @@
 -- What a line of known answers says, and what playing it does to a device that never fails.
-use Rattle.std.specs.Prelude.{◌≡◌, ◌<◌, ℕ, ◌==◌, Bool, true, not, List, length, codes, bytes_eq, Ok, MatchBool}
+use Rattle.std.specs.Prelude.{◌≡◌, ◌<◌, ℕ, ◌==◌, ◌&&◌, Bool, true, not, List, length, codes, bytes_eq, Ok, MatchBool}
 use Rattle.std.specs.List.{position_or_len, before_first, after_first}
+use Rattle.std.specs.Str.Parse.{digits_value, without_leading_plus}
 use Rattle.hex.specs.Hex.{decode_of}
+use Rattle.tab_spec.specs.declared.numbers.Numbers.{Numbers}
 use Rattle.tab_spec.specs.Persist.{fresh_persist}
+use Rattle.tab_spec.specs.Numbers.{profile_numbers}
 use Rattle.device_spec.specs.Slots.{SlotState, new_slots, slot_step}
 use Rattle.tab_spec.specs.Commands.{startup_command}
 
@@ -19,19 +22,36 @@ first_word line = before_first is_space line
 abbrev pub second_word : List ℕ → List ℕ
 second_word line = after_first is_space line
 
+-- the line names a seed
+abbrev pub is_seed : List ℕ → Bool
+is_seed line = bytes_eq (first_word line) (codes "seed")
+
 -- the line is a command and a reply; the other lines begin a device
 abbrev pub is_pair : List ℕ → Bool
-is_pair line = not (bytes_eq (first_word line) (codes "seed"))
+is_pair line = not (is_seed line) && not (bytes_eq (first_word line) (codes "numbers"))
 
--- the state of a new device of this seed after Startup
-abbrev pub started_state : List ℕ → SlotState
-started_state seed = (slot_step (new_slots (fresh_persist seed)) startup_command).0
+-- the number of a word of decimal digits
+abbrev pub decimal : List ℕ → ℕ
+decimal word = digits_value 10 (without_leading_plus word)
 
--- the line names a seed, and after it the device is a new one of that seed, started
-pub record Begins (line : List ℕ) (after : SlotState) (agrees : Bool) : Type 0 where
-  pub seed : List ℕ
-  pub seed_is : decode_of (second_word line) ≡ Ok seed
-  pub state_is : after ≡ started_state seed
+-- the words name these numbers, in decimal digits: slots, places, sessions and the gap, with a space between each two
+pub record AreNamed (words : List ℕ) (numbers : Numbers) : Type 0 where
+  pub slots : numbers.slots ≡ decimal (first_word words)
+  pub loaded : numbers.loaded ≡ decimal (first_word (second_word words))
+  pub active : numbers.active ≡ decimal (first_word (second_word (second_word words)))
+  pub gap : numbers.gap ≡ decimal (second_word (second_word (second_word words)))
+
+-- the state of a new device of these numbers and this seed after Startup
+abbrev pub started_state : Numbers → List ℕ → SlotState
+started_state numbers seed = (slot_step (new_slots numbers (fresh_persist seed)) startup_command).0
+
+-- the line names a seed, and after it the device is a new one of the profile with that seed; or it names numbers, and the device
+-- is a new one of these with the seed that was named last. It is started
+pub record Begins (line seed new_seed : List ℕ) (after : SlotState) (agrees : Bool) : Type 0 where
+  pub numbers : Numbers
+  pub named : MatchBool (is_seed line) ((decode_of (second_word line) ≡ Ok new_seed) × (numbers ≡ profile_numbers))
+      (AreNamed (second_word line) numbers × (new_seed ≡ seed))
+  pub state_is : after ≡ started_state numbers new_seed
   pub agrees_is : agrees ≡ true
 
 -- the line's command was run, and this says whether its reply is the line's
@@ -43,7 +63,7 @@ pub record Compares (line : List ℕ) (before after : SlotState) (agrees : Bool)
   pub state_is : after ≡ (slot_step before command).0
   pub agrees_is : agrees ≡ bytes_eq (slot_step before command).1 known
 
--- a line was played on a device
-pub record IsPlayed (line : List ℕ) (before after : SlotState) (agrees : Bool) : Type 0 where
+-- a line was played on a device; these are the seeds that were named last, before and after it
+pub record IsPlayed (line seed new_seed : List ℕ) (before after : SlotState) (agrees : Bool) : Type 0 where
   pub words : HasTwoWords line
-  pub done : MatchBool (is_pair line) (Compares line before after agrees) (Begins line after agrees)
+  pub done : MatchBool (is_pair line) (Compares line before after agrees × (new_seed ≡ seed)) (Begins line seed new_seed after agrees)

@@ -3,14 +3,17 @@ ghost use Rattle.std.specs.Prelude.{OnErr, if◌then◌else◌};
 ghost use Rattle.hex.specs.Hex.{decode_of};
 ghost use Rattle.tab_spec.specs.Count.{one_more};
 ghost use Rattle.tab_spec.specs.Frame.{is_frame};
+ghost use Rattle.tab_spec.specs.Numbers.{profile_numbers};
 ghost use Rattle.device_spec.specs.Slots.{slot_step};
-ghost use Rattle.known_answers.specs.Line.{IsPlayed, is_pair, started_state};
+ghost use Rattle.known_answers.specs.Line.{AreNamed, IsPlayed, decimal, first_word, is_pair};
+ghost use Rattle.known_answers.specs.Line.{second_word, started_state};
 
 use anyhow::{Context, ensure};
 use device_memory::MemoryDevice;
 use device_port::Device;
 use std::alloc::Global;
 use tab_bytes::Buffer;
+use tab_spec::Numbers;
 use tab_wire::is_frame;
 
 const STARTUP: [u8; 12] = [0x80, 0x01, 0, 0, 0, 12, 0, 0, 0x01, 0x44, 0, 0];
@@ -20,6 +23,8 @@ const STARTUP: [u8; 12] = [0x80, 0x01, 0, 0, 0, 12, 0, 0, 0x01, 0x44, 0, 0];
 pub struct Player {
     alloc: Global,
     device: MemoryDevice,
+    // The seed that was named last.
+    seed: [u8; 32],
     reply: Buffer,
     lines: u64,
     agree: u64,
@@ -30,12 +35,15 @@ pub struct Player {
 impl Player {
     /// Before the first line, with a device whose seed is zeros. It fails only for want of memory.
     pub fn new(alloc: Global) -> anyhow::Result<Player>
-        ensures device { IfOk result (λ p. p.device.state ≡ started_state (replicate 32 0)) }
+        ensures device { IfOk result (λ p.
+            p.device.state ≡ started_state profile_numbers (replicate 32 0)) }
+        ensures seed { IfOk result (λ p. p.seed ≡ replicate 32 0) }
         ensures counts { IfOk result (λ p. (p.lines ≡ 0) × (p.agree ≡ 0) × (p.differ ≡ 0)) }
     {
         Ok(Player {
             alloc,
-            device: started(alloc, [0; 32])?,
+            device: started(alloc, [0; 32], Numbers::of_the_profile())?,
+            seed: [0; 32],
             reply: Buffer::new(alloc)?,
             lines: 0,
             agree: 0,
@@ -69,7 +77,8 @@ impl Player {
     pub fn play(&mut self, line: &str) -> anyhow::Result<bool>
         // Whether the reply is the known one, and the device's state after it.
         ensures played { IfOk result (λ agrees.
-            IsPlayed line.now self.old.device.state self.new.device.state agrees) }
+            IsPlayed line.now self.old.seed self.new.seed
+            self.old.device.state self.new.device.state agrees) }
 
         // The line is counted, and a pair among those that agree or among those that differ.
         ensures lines { self.new.lines ≡ one_more self.old.lines }
@@ -78,12 +87,25 @@ impl Player {
         ensures differ { IfOk result (λ agrees. self.new.differ ≡
             (if agrees then self.old.differ else one_more self.old.differ)) }
         ensures err { OnErr result ((self.new.device ≡ self.old.device)
+            × (self.new.seed ≡ self.old.seed)
             × (self.new.agree ≡ self.old.agree) × (self.new.differ ≡ self.old.differ)) }
     {
         self.lines = self.lines.saturating_add(1);
         let (first, second) = line.split_once(' ').context("a line has two words")?;
         if first == "seed" {
-            begin(&mut self.device, self.alloc, seed_of(second)?)?;
+            let seed = seed_of(second)?;
+            begin(
+                &mut self.device,
+                self.alloc,
+                seed,
+                Numbers::of_the_profile(),
+            )?;
+            self.seed = seed;
+            return Ok(true);
+        }
+        if first == "numbers" {
+            let numbers = numbers_of(second)?;
+            begin(&mut self.device, self.alloc, self.seed, numbers)?;
             return Ok(true);
         }
         let command = hex::decode(self.alloc, first)?;
@@ -114,28 +136,68 @@ fn agrees(device: &mut MemoryDevice, command: &[u8], known: &[u8], reply: &mut B
     device.transmit(command, reply).is_ok() && reply.as_slice() == known
 }
 
-// Puts a new device of this seed in the place of another one.
-fn begin(device: &mut MemoryDevice, alloc: Global, seed: [u8; 32]) -> anyhow::Result<()>
-    ensures state { OnOk result (device.new.state ≡ started_state seed) }
+// Puts a new device of this seed and these numbers in the place of another one.
+fn begin(
+    device: &mut MemoryDevice,
+    alloc: Global,
+    seed: [u8; 32],
+    numbers: Numbers,
+) -> anyhow::Result<()>
+    ensures state { OnOk result (device.new.state ≡ started_state numbers seed) }
     ensures never_fails { OnOk result (device.new.failing ≡ []) }
     ensures err { OnErr result (device.new ≡ device.old) }
 {
-    *device = started(alloc, seed)?;
+    *device = started(alloc, seed, numbers)?;
     Ok(())
 }
 
-// A device of this seed, after Startup, which fails nowhere.
-fn started(alloc: Global, seed: [u8; 32]) -> anyhow::Result<MemoryDevice>
-    ensures state { IfOk result (λ device. device.state ≡ started_state seed) }
+// A device of this seed and these numbers, after Startup, which fails nowhere.
+fn started(alloc: Global, seed: [u8; 32], numbers: Numbers) -> anyhow::Result<MemoryDevice>
+    ensures state { IfOk result (λ device. device.state ≡ started_state numbers seed) }
     ensures never_fails { IfOk result (λ device. device.failing ≡ []) }
 {
-    let mut device = MemoryDevice::new(alloc, seed, Vec::new(alloc))?;
+    let mut device = MemoryDevice::with_numbers(alloc, seed, numbers, Vec::new(alloc))?;
     let mut reply = Buffer::new(alloc)?;
     device
         .transmit(&STARTUP, &mut reply)
         .ok()
         .context("a new device starts")?;
     Ok(device)
+}
+
+// Four numbers with a space between each two: slots, places, sessions and the gap.
+fn numbers_of(words: &str) -> anyhow::Result<Numbers>
+    ensures { IfOk result (λ numbers. AreNamed words.now numbers) }
+{
+    let (slots, others) = first_of(words)?;
+    let (loaded, others) = first_of(others)?;
+    let (active, gap) = first_of(others)?;
+    Ok(Numbers {
+        slots: count_of(slots)?,
+        loaded: count_of(loaded)?,
+        active: count_of(active)?,
+        gap: gap_of(gap)?,
+    })
+}
+
+// The first of several words, and the others.
+fn first_of(words: &str) -> anyhow::Result<(&str, &str)>
+    ensures { IfOk result (λ parts. (parts.0.now ≡ first_word words.now)
+        × (parts.1.now ≡ second_word words.now)) }
+{
+    words.split_once(' ').context("a device has four numbers")
+}
+
+fn count_of(word: &str) -> anyhow::Result<u8>
+    ensures { IfOk result (λ n. n ≡ decimal word.now) }
+{
+    Ok(word.parse::<u8>()?)
+}
+
+fn gap_of(word: &str) -> anyhow::Result<u32>
+    ensures { IfOk result (λ n. n ≡ decimal word.now) }
+{
+    Ok(word.parse::<u32>()?)
 }
 
 // A seed of 32 bytes.

@@ -152,6 +152,7 @@ counted_object slots (Some n) blob = refl
 counted_sound : (slots : SlotState) → IsSlots slots → slots.object_counter < CONTEXT_LIMIT → IsSlots (counted_slots slots)
 counted_sound slots sound below = record {
   persist = sound.persist;
+  range = sound.range;
   count = sound.count;
   objects = sound.objects;
   object_counter = omega arith;

@@ -78,6 +78,7 @@ objects_set held slot o is all =
 pub slots_moved : (slots : SlotState) (slot : ℕ) (held : Option Object) → IfSome held IsObject → IsSlots slots → IsSlots (with_slot slots slot held)
 slots_moved slots slot held object sound = record {
   persist = sound.persist;
+  range = sound.range;
   count = length-set slots.slots slot held ∙ sound.count;
   objects = objects_set slots.slots slot held object sound.objects;
   object_counter = sound.object_counter;

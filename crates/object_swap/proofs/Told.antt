@@ -1,5 +1,5 @@
 -- What a device that tells its state answers to the commands that move objects, and what they make of the state.
-use Rattle.std.proofs.Common.{◌≡◌, ◌+◌, ◌<◌, ◌^◌, ℕ, Bool, true, false, List, [], ◌∷◌, length, take, drop, refl, ap, subst, sym, ◌∙◌, arith}
+use Rattle.std.proofs.Common.{◌≡◌, ◌+◌, ◌<◌, ◌≤◌, ◌^◌, ℕ, Bool, true, false, List, [], ◌∷◌, length, take, drop, refl, ap, subst, sym, ◌∙◌, arith}
 use Rattle.std.specs.Prelude.{◌==◌, nat_le, Option, Some, None, is_some, IfSome}
 use Rattle.std.specs.Int.{w32, from_be_bytes}
 use Rattle.std.proofs.lemmas.Bool.{lt-leb}
@@ -146,10 +146,10 @@ load_answered (Some slots) new_state context last is can answered =
     let there = some_of (object_at slots None (Some context)) can.there in
     let steps = load_of slots context there.0 is can there.1 in
     let free = free slots.slots can.room in
-    let count : length slots.slots ≡ 3 = can.sound.count in
+    let few : length slots.slots ≤ 254 = omega (arith, can.sound.count, can.sound.range.slots_most) in
     record {
       state_is = answered.0 ∙ ap (λ (slots : SlotState). Some slots) steps.state
           ∙ ap (λ (o : Option Object). Some (with_slot slots (free_slot slots.slots) o)) (sym there.1);
       least = ap (λ (last : List ℕ). from_be_bytes w32 (take 4 (drop 10 last))) (answered.1 ∙ steps.response)
-          ∙ from_be_bytes-to_be_bytes_4 (TRANSIENT_FIRST + free_slot slots.slots) (omega (arith, free.fits));
+          ∙ from_be_bytes-to_be_bytes_4 (TRANSIENT_FIRST + free_slot slots.slots) (omega (arith, free.fits, few));
     }

@@ -4,7 +4,7 @@ use Rattle.std.specs.Prelude.{◌≡◌, ◌<◌, ◌≤◌, ℕ, ◌+◌, ◌-�
 use Rattle.std.specs.List.{AllByRecursion, count_by, list_any}
 use Rattle.tab_spec.specs.declared.TheConstants.{CONTEXT_LIMIT, TRANSIENT_FIRST}
 use Rattle.tab_spec.specs.Object.{Object}
-use Rattle.device_spec.specs.Slots.{SlotState, IsSlots, empty_slots, is_free, object_at}
+use Rattle.device_spec.specs.Slots.{SlotState, IsSlots, is_free, object_at}
 use Rattle.device_port.specs.Device.{Seen, sent_of}
 use Rattle.device_port.specs.Use.{all_used, first_unneeded, is_among, without_first}
 use Rattle.device_port.specs.declared.own.SwapError.{SwapError}
@@ -122,7 +122,7 @@ objects_of (Some slots) items = Some (map (λ item. item_object slots item) item
 
 -- the device but for its slots and the number of the next object context
 abbrev pub without_objects : SlotState → SlotState
-without_objects slots = record slots { slots = empty_slots; object_counter = 0 }
+without_objects slots = record slots { slots = []; object_counter = 0 }
 
 abbrev pub rest_of : Option SlotState → Option SlotState
 rest_of None = None

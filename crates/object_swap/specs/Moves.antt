@@ -2,7 +2,7 @@
 -- "TPM2_FlushContext", "TPM2_ContextLoad").
 use Rattle.std.specs.Prelude.{◌≡◌, ◌<◌, ℕ, ◌+◌, ◌-◌, min, ◌==◌, Bool, true, false, List, [], drop, get_or, set, take, length, ◌≤◌, Option, Some, None, is_some, IfSome, IsSomeAnd, Result, Ok, OnErr, OnOk}
 use Rattle.std.specs.List.{list_any, remove}
-use Rattle.tab_spec.specs.declared.TheConstants.{CONTEXT_LIMIT, HEADER_BYTES, OBJECT_SLOTS, TRANSIENT_FIRST}
+use Rattle.tab_spec.specs.declared.TheConstants.{CONTEXT_LIMIT, HEADER_BYTES, TRANSIENT_FIRST}
 use Rattle.device_spec.specs.Answers.{word_at}
 use Rattle.device_spec.specs.Slots.{SlotState, IsSlots, free_slot, in_slot, is_free, object_at, slot_of, with_slot}
 use Rattle.device_port.specs.Device.{Seen, sent_of}
@@ -93,7 +93,7 @@ pub record Swaps {D : Type 0} (seen : D → Seen) (old new : D) (records new_rec
 -- so many objects fit into the slots
 abbrev pub HasRoom : Option SlotState → ℕ → Type 0
 HasRoom None count = Unit {0}
-HasRoom (Some slots) count = count ≤ OBJECT_SLOTS
+HasRoom (Some slots) count = count ≤ length slots.slots
 
 -- objects that are to come into slots: they are there, and they fit beside those that are in slots
 pub record CanFill (state : Option SlotState) (records : List Record) (needed : List ℕ) : Type 0 where

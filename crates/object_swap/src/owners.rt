@@ -1,6 +1,6 @@
 //! Whose each list of objects is.
 ghost use Rattle.std.specs.Prelude.{◌≡◌, ◌≤◌, ◌<◌, [], ◌∷◌, ◌++◌, length, set, Some, None};
-ghost use Rattle.std.specs.Prelude.{ℕ, false, MatchOption, OnOk};
+ghost use Rattle.std.specs.Prelude.{ℕ, false, MatchOption, OnErr, OnOk};
 ghost use Rattle.object_swap.specs.Items.{has_free_list, owner_at};
 
 use std::alloc::{AllocError, Global};
@@ -58,9 +58,11 @@ impl Owners {
         Some(list)
     }
 
-    /// Takes memory for one more list, where it isn't there yet. It fails only for want of memory.
+    /// Takes memory for one more list, where it isn't there yet. It fails only where it has to take
+    /// some.
     pub fn reserve(&mut self) -> Result<(), AllocError>
         ensures ok { OnOk result (1 ≤ self.new.spare) }
+        ensures err { OnErr result (self.old.spare ≡ 0) }
         ensures owners { self.new.owners ≡ self.old.owners }
     {
         self.owners.reserve(1)?;

@@ -110,6 +110,7 @@ number_at (c ∷ clients) client is =
 abbrev pub state_with : World → List (Option Object) → ClientState
 state_with world objects = record {
   persist = world.persist;
+  most = world.most;
   objects = objects;
   sessions = world.sessions;
   object_sequence = world.object_sequence;
@@ -119,6 +120,7 @@ state_with world objects = record {
 abbrev pub world_left : World → ClientState → List Client → World
 world_left world state clients = record world {
   persist = state.persist;
+  most = state.most;
   clients = clients;
   sessions = state.sessions;
   object_sequence = state.object_sequence;

@@ -1,7 +1,7 @@
 -- Which step a command that was admitted is, and which pick it may have.
 use Rattle.std.proofs.Common.{◌≡◌, ℕ, Bool, true, false, List, refl, ◌∙◌, ap, sym}
 use Rattle.std.specs.Prelude.{Option, Some, None, is_some, Result, Ok, Err, is_ok, not, nat_le, set, drop, ◌==◌, ◌&&◌, ◌+◌, ◌*◌, ◌^◌, if◌then◌else◌}
-use Rattle.tab_spec.specs.declared.TheConstants.{ACTIVE_SESSIONS, CC_CONTEXT_LOAD, CC_CONTEXT_SAVE, CC_FLUSH_CONTEXT, CC_GET_CAPABILITY, CC_START_AUTH_SESSION, RC_SESSION_HANDLES}
+use Rattle.tab_spec.specs.declared.TheConstants.{CC_CONTEXT_LOAD, CC_CONTEXT_SAVE, CC_FLUSH_CONTEXT, CC_GET_CAPABILITY, CC_START_AUTH_SESSION, RC_SESSION_HANDLES}
 use Rattle.tab_spec.specs.declared.Shape.{Shape}
 use Rattle.tab_spec.specs.declared.Auths.{Auths}
 use Rattle.tab_spec.specs.declared.Admitted.{Admitted}
@@ -100,23 +100,23 @@ still_may client state shape auths bytes is few bare pick =
 
 -- whether a command starts a session that has a number
 abbrev pub is_started : ClientState → ℕ → List ℕ → Bool
-is_started state code params = not (lacks_number state.sessions code params) && starts_session state.persist code params
+is_started state code params = not (lacks_number state.most state.sessions code params) && starts_session state.persist code params
 
 room_by : (start : Bool) (state : ClientState) (check : Result StartParameters ℕ) → (if start then session_too_many state check else None)
-    ≡ (if start && is_ok check && nat_le ACTIVE_SESSIONS (active state.sessions) then Some RC_SESSION_HANDLES else None)
+    ≡ (if start && is_ok check && nat_le state.most (active state.sessions) then Some RC_SESSION_HANDLES else None)
 room_by false state check = refl
 room_by true state (Err code) = refl
 room_by true state (Ok beginning) = refl
 
 room_is : (state : ClientState) (code : ℕ) (params : List ℕ)
-    → room_for state code params ≡ (if lacks_number state.sessions code params then Some RC_SESSION_HANDLES else None)
+    → room_for state code params ≡ (if lacks_number state.most state.sessions code params then Some RC_SESSION_HANDLES else None)
 room_is state code params = room_by (code == CC_START_AUTH_SESSION) state (start_check params)
 
 abbrev Step : Type 0
 Step = Option ClientStep
 
 full_runs : (client : ℕ) (state : ClientState) (shape : Shape) (auths : Auths) (command : List ℕ) (pick : Pick)
-    → lacks_number state.sessions shape.row.code (drop auths.params command) ≡ true
+    → lacks_number state.most state.sessions shape.row.code (drop auths.params command) ≡ true
     → effect_run client state shape auths command pick ≡ choosing_nothing (refused_step state RC_SESSION_HANDLES) pick
 full_runs client state shape auths command pick lacks =
     let code = shape.row.code in
@@ -127,7 +127,7 @@ full_runs client state shape auths command pick lacks =
     ∙ ap (λ (b : Bool). unless_full state (if b then Some RC_SESSION_HANDLES else None) next pick) lacks
 
 effect_runs : (client : ℕ) (state : ClientState) (shape : Shape) (auths : Auths) (command : List ℕ) (pick : Pick)
-    → lacks_number state.sessions shape.row.code (drop auths.params command) ≡ false
+    → lacks_number state.most state.sessions shape.row.code (drop auths.params command) ≡ false
     → effect_run client state shape auths command pick
     ≡ effect_step client state (effect_of state.persist (client_operands client state shape auths) shape auths command) pick
 effect_runs client state shape auths command pick lacks =
@@ -143,7 +143,7 @@ effect_runs client state shape auths command pick lacks =
 runs_by : (lacks : Bool) (client : ℕ) (state : ClientState) (shape : Shape) (auths : Auths) (command : List ℕ) (pick : Pick) → IsShape shape
     → object_too_many (tables_of client state) shape command ≡ None
     → ((shape.row.code == CC_START_AUTH_SESSION) ≡ true → is_session_handle (command_auth auths).session ≡ false)
-    → lacks_number state.sessions shape.row.code (drop auths.params command) ≡ lacks
+    → lacks_number state.most state.sessions shape.row.code (drop auths.params command) ≡ lacks
     → is_some (effect_run client state shape auths command pick)
     ≡ may_have (is_started state shape.row.code (drop auths.params command)) state.sessions pick
 runs_by true client state shape auths command pick is few bare full =
@@ -169,7 +169,7 @@ pub runs_where : (client : ℕ) (state : ClientState) (shape : Shape) (auths : A
     → is_some (effect_run client state shape auths command pick)
     ≡ may_have (is_started state shape.row.code (drop auths.params command)) state.sessions pick
 runs_where client state shape auths command pick is few bare =
-    runs_by (lacks_number state.sessions shape.row.code (drop auths.params command)) client state shape auths command pick is few bare refl
+    runs_by (lacks_number state.most state.sessions shape.row.code (drop auths.params command)) client state shape auths command pick is few bare refl
 
 -- a step is there or not
 pub none_there : {S : Type 0} (step : Option S) → is_some step ≡ false → step ≡ None
@@ -179,11 +179,11 @@ none_there (Some s) is = absurd cc
 -- ---- what the calls tell of a pick
 
 pub may_is : (state : ClientState) (code : ℕ) (params read : List ℕ) (pick : Pick) (sessions others : List (Option Owned)) (lacks starts may : Bool)
-    → read ≡ params → sessions ≡ state.sessions → others ≡ state.sessions → lacks ≡ lacks_number sessions code read
+    → read ≡ params → sessions ≡ state.sessions → others ≡ state.sessions → lacks ≡ lacks_number state.most sessions code read
     → starts ≡ not lacks && starts_session state.persist code read → may ≡ may_have starts others pick
     → may ≡ may_have (is_started state code params) state.sessions pick
 may_is state code params read pick sessions others lacks starts may same owned also lacks_is starts_is is =
-    let lacking : lacks ≡ lacks_number state.sessions code params = lacks_is ∙ (λ i. lacks_number (owned i) code (same i)) in
+    let lacking : lacks ≡ lacks_number state.most state.sessions code params = lacks_is ∙ (λ i. lacks_number state.most (owned i) code (same i)) in
     let starting : starts ≡ is_started state code params =
     starts_is ∙ (λ i. not (lacking i) && starts_session state.persist code (same i)) in
     is ∙ (λ i. may_have (starting i) (also i) pick)

@@ -4,7 +4,7 @@ use Rattle.std.specs.Prelude.{ℕ, ◌*◌, ◌+◌, ◌^◌, ◌==◌, not, tru
 use Rattle.std.proofs.lemmas.Bool.{cond_both}
 use Rattle.std.proofs.lemmas.List.{length-map}
 use Rattle.std.proofs.lemmas.Nat.{mod_low}
-use Rattle.tab_spec.specs.declared.TheConstants.{ACTIVE_SESSIONS, TRANSIENT_FIRST}
+use Rattle.tab_spec.specs.declared.TheConstants.{SESSION_NUMBERS, TRANSIENT_FIRST}
 use Rattle.effect_spec.specs.Capabilities.{Listed, transient_from}
 use Rattle.fx_capability.specs.Lists.{rises_from, all_below, session_numbers}
 use Rattle.fx_capability.proofs.Numbered.{AreAt, IsAt, by_number, numbers_fit, numbers_rise}
@@ -47,17 +47,17 @@ owned_at client n (Some place) below =
     cond_both (place.client == client) (record { handle = place.octet * 2 ^ 24 + n; in_use = not (is_some place.handed) } ∷ []) [] (IsAt n)
     (λ own. mod_low place.octet 24 n below) (λ other. tt)
 
-numbers_seen : (seen : Seen) → length (owners_of seen.sessions.now) ≤ ACTIVE_SESSIONS
-numbers_seen seen = subst (λ (n : ℕ). n ≤ ACTIVE_SESSIONS) (sym (length-map seen.sessions.now (option_map owned_of))) seen.numbers
+numbers_seen : (seen : Seen) → length (owners_of seen.sessions.now) ≤ SESSION_NUMBERS
+numbers_seen seen = subst (λ (n : ℕ). n ≤ SESSION_NUMBERS) (sym (length-map seen.sessions.now (option_map owned_of))) seen.numbers
 
 pub sessions_rise : (seen : Seen) → rises_from 0 (session_numbers (sessions_listed seen)) ≡ true
 sessions_rise seen =
     let owners = owners_of seen.sessions.now in
     subst (λ (sessions : List Listed). rises_from 0 (session_numbers sessions) ≡ true) (sym (by_place seen.client 0 owners))
-    (numbers_rise (listed_owned seen.client) (2 ^ 24) ACTIVE_SESSIONS owners (owned_at seen.client) (numbers_seen seen) (lit≤ tt))
+    (numbers_rise (listed_owned seen.client) (2 ^ 24) SESSION_NUMBERS owners (owned_at seen.client) (numbers_seen seen) (lit≤ tt))
 
-pub sessions_fit : (seen : Seen) → all_below ACTIVE_SESSIONS (session_numbers (sessions_listed seen)) ≡ true
+pub sessions_fit : (seen : Seen) → all_below SESSION_NUMBERS (session_numbers (sessions_listed seen)) ≡ true
 sessions_fit seen =
     let owners = owners_of seen.sessions.now in
-    subst (λ (sessions : List Listed). all_below ACTIVE_SESSIONS (session_numbers sessions) ≡ true) (sym (by_place seen.client 0 owners))
-    (numbers_fit (listed_owned seen.client) (2 ^ 24) ACTIVE_SESSIONS owners (owned_at seen.client) (numbers_seen seen) (lit≤ tt))
+    subst (λ (sessions : List Listed). all_below SESSION_NUMBERS (session_numbers sessions) ≡ true) (sym (by_place seen.client 0 owners))
+    (numbers_fit (listed_owned seen.client) (2 ^ 24) SESSION_NUMBERS owners (owned_at seen.client) (numbers_seen seen) (lit≤ tt))

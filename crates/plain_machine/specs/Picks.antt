@@ -1,6 +1,6 @@
 -- Which commands leave a choice, and which pick is one that they may have.
 use Rattle.std.specs.Prelude.{ℕ, ◌==◌, ◌&&◌, not, nat_le, Bool, true, false, List, drop, Option, is_ok}
-use Rattle.tab_spec.specs.declared.TheConstants.{ACTIVE_SESSIONS, CC_START_AUTH_SESSION}
+use Rattle.tab_spec.specs.declared.TheConstants.{CC_START_AUTH_SESSION}
 use Rattle.tab_spec.specs.declared.Auths.{Auths}
 use Rattle.tab_spec.specs.declared.Shape.{Shape}
 use Rattle.tab_spec.specs.Persist.{Persist}
@@ -17,10 +17,10 @@ is_nothing picks.Nothing = true
 is_nothing (picks.Session number) = false
 is_nothing (picks.Sequence sequence) = false
 
--- whether a command would start a session, and all numbers are some client's
-abbrev pub lacks_number : List (Option Owned) → ℕ → List ℕ → Bool
-lacks_number sessions code params =
-    code == CC_START_AUTH_SESSION && is_ok (start_check params) && nat_le ACTIVE_SESSIONS (active sessions)
+-- whether a command would start a session, and as many as there may be are active
+abbrev pub lacks_number : ℕ → List (Option Owned) → ℕ → List ℕ → Bool
+lacks_number most sessions code params =
+    code == CC_START_AUTH_SESSION && is_ok (start_check params) && nat_le most (active sessions)
 
 -- the step of a command that has an effect alone
 abbrev pub effect_run : ℕ → ClientState → Shape → Auths → List ℕ → Pick → Option ClientStep
@@ -28,7 +28,7 @@ effect_run client state shape auths command =
     unless_full state (room_for state shape.row.code (drop auths.params command))
     (effect_step client state (effect_of state.persist (client_operands client state shape auths) shape auths command))
 
--- whether a command starts a session, where there is a number for it
+-- whether a command starts a session, where one more may be active
 abbrev pub starts_session : Persist → ℕ → List ℕ → Bool
 starts_session persist code params = code == CC_START_AUTH_SESSION && is_ok (start_session_row persist params)
 

@@ -23,6 +23,7 @@ objects_of places = map (option_map object_of) places
 abbrev pub state_of : Shared → List (Option object.Object) → ClientState
 state_of shared objects = record {
   persist = shared.persist;
+  most = shared.most;
   objects = objects;
   sessions = owners_of shared.sessions.items;
   object_sequence = shared.object_sequence;

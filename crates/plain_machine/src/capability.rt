@@ -40,7 +40,7 @@ pub(crate) fn get_capability(
         sessions: &shared.sessions,
     };
     let active = active_count(&shared.sessions) as u32;
-    let limits = Limits::of_a_client();
+    let limits = Limits::of_a_client(shared.most);
     start_response(ST_NO_SESSIONS, RC_SUCCESS, reply);
     match capability(&limits, &shared.persist, &seen, active, params, reply) {
         Ok(()) => end_response(reply),

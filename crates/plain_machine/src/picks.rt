@@ -7,7 +7,7 @@ ghost use Rattle.plain_machine.specs.Picks.{is_nothing, lacks_number, may_have, 
 use crate::sessions::{Owned, active_count, is_unused};
 use fx_sessions::{can_start, check_start};
 use history_spec::Pick;
-use tab_spec::{ACTIVE_SESSIONS, CC_START_AUTH_SESSION, CONTEXT_LIMIT};
+use tab_spec::{CC_START_AUTH_SESSION, CONTEXT_LIMIT};
 use tab_values::Persist;
 
 // Whether there is no pick.
@@ -28,23 +28,23 @@ pub(crate) fn may_hand_out(least: u64, sequence: u64) -> bool
     least <= sequence && sequence < CONTEXT_LIMIT
 }
 
-// Whether a command would start a session, and all numbers are some client's.
-pub(crate) fn lacks_number(sessions: &[Option<Owned>], code: u32, params: &[u8]) -> bool
-    ensures { result ≡ lacks_number (owners_of sessions.now) code params.now }
+// Whether a command would start a session, and as many as there may be are active.
+pub(crate) fn lacks_number(most: u8, sessions: &[Option<Owned>], code: u32, params: &[u8]) -> bool
+    ensures { result ≡ lacks_number most (owners_of sessions.now) code params.now }
 {
     code == CC_START_AUTH_SESSION
         && check_start(params).is_ok()
-        && active_count(sessions) >= ACTIVE_SESSIONS as usize
+        && active_count(sessions) >= usize::from(most)
 }
 
-// Whether a command starts a session, where there is a number for it.
+// Whether a command starts a session, where one more may be active.
 fn starts_session(persist: &Persist, code: u32, params: &[u8]) -> bool
     ensures { result ≡ starts_session persist.now code params.now }
 {
     code == CC_START_AUTH_SESSION && can_start(persist, params)
 }
 
-// Whether a command starts a session, where numbers are lacking for it or not.
+// Whether a command starts a session, where one more may be active or not.
 pub(crate) fn is_started(lacks: bool, persist: &Persist, code: u32, params: &[u8]) -> bool
     ensures { result ≡ (not lacks && starts_session persist.now code params.now) }
 {

@@ -104,7 +104,7 @@ fn try_effect(
 {
     let code = admitted.shape.row.code;
     let params = &command[admitted.auths.params as usize..];
-    let lacks = lacks_number(&shared.sessions, code, params);
+    let lacks = lacks_number(shared.most, &shared.sessions, code, params);
     let starts = is_started(lacks, &shared.persist, code, params);
     if !may_have(starts, &shared.sessions, pick) {
         return Err(StepError::PickRefused);

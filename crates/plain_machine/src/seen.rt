@@ -1,5 +1,5 @@
 ghost use Rattle.std.specs.Prelude.{◌≡◌, ◌≤◌, None, Some, is_some, length, MatchOption};
-ghost use Rattle.tab_spec.specs.declared.TheConstants.{ACTIVE_SESSIONS};
+ghost use Rattle.tab_spec.specs.declared.TheConstants.{SESSION_NUMBERS};
 ghost use Rattle.history_spec.specs.declared.TheConstants.{CLIENT_OBJECTS};
 
 use crate::sessions::{Owned, listed_session, owned_under, session_of};
@@ -15,7 +15,7 @@ pub(crate) struct Seen<'a> {
     pub(crate) places: &'a [Option<Object>],
     pub(crate) sessions: &'a [Option<Owned>],
     ghost few: { length places.now ≤ CLIENT_OBJECTS },
-    ghost numbers: { length sessions.now ≤ ACTIVE_SESSIONS },
+    ghost numbers: { length sessions.now ≤ SESSION_NUMBERS },
 }
 
 impl Seen<'_> {

@@ -2,7 +2,7 @@ ghost use Rattle.std.specs.Prelude.{◌≡◌, ◌≤◌, ◌<◌, ◌+◌, ◌*
 ghost use Rattle.std.specs.Prelude.{option_map, set, None, Some, IfOk, MatchOption};
 ghost use Rattle.tab_spec.specs.Session.{kind_octet};
 ghost use Rattle.tab_spec.specs.Shape as shapes;
-ghost use Rattle.tab_spec.specs.declared.TheConstants.{ACTIVE_SESSIONS};
+ghost use Rattle.tab_spec.specs.declared.TheConstants.{SESSION_NUMBERS};
 ghost use Rattle.fx_capability.specs.Views.{listed_of};
 ghost use Rattle.tab_values.specs.Views.{session_of};
 ghost use Rattle.world_spec.specs.World as worlds;
@@ -12,7 +12,7 @@ ghost use Rattle.plain_machine.specs.Owners.{is_owned_by, owned_of, owners_of, s
 
 use fx_capability::HeldSession;
 use std::alloc::{AllocError, Global};
-use tab_spec::{ACTIVE_SESSIONS, HT_HMAC_SESSION, HT_POLICY_SESSION};
+use tab_spec::{HT_HMAC_SESSION, HT_POLICY_SESSION, SESSION_NUMBERS};
 use tab_values::{Session, SessionKind, SmallBytes};
 use tab_wire::octet_of;
 
@@ -128,7 +128,7 @@ pub(crate) fn listed_session(
     client: u32,
     number: u32,
 ) -> Option<HeldSession>
-    requires { number < ACTIVE_SESSIONS }
+    requires { number < SESSION_NUMBERS }
     ensures { let listed = listed_owned client number (get_or (owners_of places.now) number None) in
         MatchOption result (listed ≡ []) (λ s. listed ≡ listed_of s ∷ []) }
 {
@@ -173,7 +173,7 @@ pub(crate) fn active_count(places: &[Option<Owned>]) -> usize
 pub(crate) fn is_unused(places: &[Option<Owned>], number: u32) -> bool
     ensures { result ≡ is_unused (owners_of places.now) number }
 {
-    if number >= ACTIVE_SESSIONS {
+    if number >= SESSION_NUMBERS {
         return false;
     }
     match places.get(number as usize) {
@@ -198,7 +198,7 @@ pub(crate) fn put_session(
     session: Session,
     number: u32,
 ) -> u32
-    requires { number < ACTIVE_SESSIONS }
+    requires { number < SESSION_NUMBERS }
     ensures places { owners_of places.new
         ≡ set (owners_of places.old) number (worlds.own_place client result (session_of session)) }
     ensures handle { result ≡ kind_octet session.kind * 2 ^ 24 + number }
@@ -240,8 +240,8 @@ fn is_owned_by(place: &Option<Owned>, client: u32) -> bool
 pub(crate) fn unused_places(alloc: Global) -> Result<Vec<Option<Owned>>, AllocError>
     ensures { IfOk result (λ places. owners_of places.items ≡ no_sessions) }
 {
-    let mut places = Vec::with_capacity(alloc, ACTIVE_SESSIONS as usize)?;
-    for _ in 0..ACTIVE_SESSIONS {
+    let mut places = Vec::with_capacity(alloc, SESSION_NUMBERS as usize)?;
+    for _ in 0..SESSION_NUMBERS {
         places.push(None)?;
     }
     Ok(places)

@@ -34,6 +34,7 @@ impl Model for World {
 
     ghost view = { λ w. record {
       persist = w.shared.persist;
+      most = w.shared.most;
       opened = w.opened;
       clients = w.clients.items;
       sessions = owners_of w.shared.sessions.items;
@@ -43,15 +44,17 @@ impl Model for World {
 }
 
 impl World {
-    /// A world that keeps this, in which no client was opened. It takes the memory of all session
-    /// numbers now, and fails only for want of it.
-    pub fn new(alloc: Global, base: Persist) -> Result<World, AllocError>
-        ensures { IfOk result (λ w. w ≡ empty_world base) }
+    /// A world that keeps this, in which no client was opened, and at most so many sessions are
+    /// active at once. It takes the memory of all 64 session numbers now, and fails only for want
+    /// of it.
+    pub fn new(alloc: Global, base: Persist, most: u8) -> Result<World, AllocError>
+        ensures { IfOk result (λ w. w ≡ empty_world base most) }
     {
         Ok(World {
             alloc,
             shared: Shared {
                 persist: base,
+                most,
                 sessions: unused_places(alloc)?,
                 object_sequence: 0,
                 session_sequence: 0,

@@ -3,7 +3,7 @@ ghost use Rattle.std.specs.Prelude.{◌≡◌, ◌≤◌, None, length, refl};
 
 use crate::faults::SCRIPT;
 use crate::runs::{AUDITED, Outcome, RUN, ZERO_SEED, outcome_of, source};
-use device_port::{Device, DeviceFailed, Numbers, Trace, profile_numbers};
+use device_port::{Device, DeviceFailed, Trace};
 use link_port::{MemoryAcceptor, MemorySink, OpenGate};
 use std::alloc::Global;
 use std::sync::Wait;
@@ -98,10 +98,6 @@ impl Device for Mute {
 
     fn sent_count(&self) -> u64 {
         self.trace.sent()
-    }
-
-    fn numbers(&self) -> Numbers {
-        profile_numbers()
     }
 }
 

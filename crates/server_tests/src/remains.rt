@@ -3,7 +3,7 @@ ghost use Rattle.std.specs.Prelude.{◌≡◌, None, refl};
 
 use crate::runs::{Outcome, RUN, outcome_of, source};
 use device_memory::MemoryDevice;
-use device_port::{Device, DeviceFailed, Numbers, profile_numbers};
+use device_port::{Device, DeviceFailed};
 use link_port::{MemoryAcceptor, MemorySink, OpenGate};
 use std::alloc::Global;
 use std::sync::Wait;
@@ -63,10 +63,6 @@ impl Device for Hidden {
 
     fn sent_count(&self) -> u64 {
         self.device.sent_count()
-    }
-
-    fn numbers(&self) -> Numbers {
-        profile_numbers()
     }
 }
 

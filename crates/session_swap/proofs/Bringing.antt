@@ -4,7 +4,7 @@ use Rattle.std.specs.Prelude.{◌==◌, Option, Some, None, Result, Ok, Err, min
 use Rattle.std.specs.List.{count_by}
 use Rattle.std.proofs.lemmas.Bool.{eqb-false, false≢true}
 use Rattle.std.proofs.lemmas.Result.{on_ok_weaker}
-use Rattle.tab_spec.specs.declared.TheConstants.{LOADED_SESSIONS}
+use Rattle.tab_spec.specs.declared.numbers.Numbers.{Numbers}
 use Rattle.tab_spec.specs.Shape.{number_of_session}
 use Rattle.device_spec.specs.Slots.{SlotState}
 use Rattle.device_port.specs.Device.{Seen, sent_of}
@@ -12,13 +12,13 @@ use Rattle.device_port.specs.Use.{all_used, used_after}
 use Rattle.device_port.specs.declared.own.SwapError.{SwapError}
 use Rattle.session_swap.specs.declared.record.Record.{Record}
 use Rattle.session_swap.specs.Items.{AreFree, AreLoaded, AreNamed, Item, Lists, MakesRoom, Names, SessionsView, Stand, evictions, is_loaded_item, is_saved_item, item_at, loaded_items, missing, numbers_of, saved_by_client, without_all}
-use Rattle.session_swap.specs.Records.{OrderView, items_of, order_evicted, order_filled, order_in, order_used, view_with}
+use Rattle.session_swap.specs.Records.{OrderView, items_of, order_evicted, order_filled, order_in, order_used, view_of, view_with}
 use Rattle.session_swap.specs.Moves.{Brings, Evicts, Fills, loadedness}
 use Rattle.session_swap.proofs.Among.{named_is}
 use Rattle.session_swap.proofs.Listing.{none_if_failed, on_err_all, on_err_weaker}
 use Rattle.session_swap.proofs.Making.{kept_at}
 use Rattle.session_swap.proofs.Missing.{flags_same, flags_set, loaded_more, missing_same}
-use Rattle.session_swap.proofs.Told.{loaded_told}
+use Rattle.session_swap.proofs.Told.{loaded_told, places_told}
 use Rattle.session_swap.proofs.Uses.{without_absent}
 
 -- ---- one session
@@ -97,8 +97,8 @@ saved_apart items new_items number handle context here there is =
 -- ---- making room
 
 -- so many have to be saved
-out_by : (old lost new most : ℕ) → lost ≤ most → most + new ≡ LOADED_SESSIONS → old - (most - lost) ≡ old + lost + new - LOADED_SESSIONS
-out_by old lost new most few fits = omega (arith, few, fits)
+out_by : (places old lost new most : ℕ) → lost ≤ most → most + new ≡ places → old - (most - lost) ≡ old + lost + new - places
+out_by places old lost new most few fits = omega (arith, few, fits)
 
 full_by : (old lost most mid new : ℕ) → lost ≤ most → mid ≡ min old (most - lost) → new ≡ mid + lost → new + (old - (most - lost)) ≡ old + lost
 full_by old lost most mid new few left count = omega (arith, few, left, count)
@@ -110,17 +110,17 @@ abbrev failing : SwapError → Result (Unit {0}) SwapError
 failing e = Err e
 
 -- what is to be made room for: this many are loaded, this many that are needed aren't, and so many may stay beside them
-pub record Room (records : List Record) (needed : List ℕ) (new most count : ℕ) : Type 0 where
+pub record Room (numbers : Numbers) (records : List Record) (needed : List ℕ) (new most count : ℕ) : Type 0 where
   pub is : count ≡ missing needed (items_of records)
   pub few : count ≤ most
-  pub fits : most + new ≡ LOADED_SESSIONS
-  pub places : loaded_items (items_of records) ≤ LOADED_SESSIONS
+  pub fits : most + new ≡ numbers.loaded
+  pub places : loaded_items (items_of records) ≤ numbers.loaded
 
-out_of : (records : List Record) (needed : List ℕ) (new most count : ℕ) → Room records needed new most count
-    → loaded_items (items_of records) - (most - count) ≡ evictions needed new (items_of records)
-out_of records needed new most count room =
+out_of : (numbers : Numbers) (records : List Record) (needed : List ℕ) (new most count : ℕ) → Room numbers records needed new most count
+    → loaded_items (items_of records) - (most - count) ≡ evictions needed new (view_of numbers records 0)
+out_of numbers records needed new most count room =
     let old = loaded_items (items_of records) in
-    ap (λ (n : ℕ). old - (most - n)) room.is ∙ out_by old (missing needed (items_of records)) new most (omega (arith, room.is, room.few)) room.fits
+    ap (λ (n : ℕ). old - (most - n)) room.is ∙ out_by numbers.loaded old (missing needed (items_of records)) new most (omega (arith, room.is, room.few)) room.fits
 
 -- the order, once all that is needed is loaded
 filled_loaded : (numbers : List ℕ) (order : OrderView) → (order_filled numbers order).loaded ≡ all_used order.loaded numbers
@@ -132,15 +132,15 @@ filled_saved [] order = refl
 filled_saved (number ∷ numbers) order = filled_saved numbers (order_in number order)
 
 -- sessions are saved, and then those that are needed are loaded
-pub room_made : {D : Type 0} (seen : D → Seen) (a b c : D) (needed : List ℕ) (new most count : ℕ) (xs ys zs : List Record)
+pub room_made : {D : Type 0} (numbers : Numbers) (seen : D → Seen) (a b c : D) (needed : List ℕ) (new most count : ℕ) (xs ys zs : List Record)
     (next mid_next : ℕ) (first mid last : OrderView) (result : Result (Unit {0}) SwapError)
-    → Room xs needed new most count → AreNamed needed (items_of xs) → Evicts seen a b xs ys first mid needed (most - count) (Ok tt)
+    → Room numbers xs needed new most count → AreNamed needed (items_of xs) → Evicts seen a b xs ys first mid needed (most - count) (Ok tt)
     → (loaded_items (items_of xs) ≤ most - count → (b ≡ a) × (ys ≡ xs) × (mid_next ≡ next) × (done ≡ Ok tt))
     → Fills seen b c ys zs mid last needed result → Lists last.loaded (items_of zs)
-    → MakesRoom seen a c needed new (view_with xs next first) (view_with zs mid_next last) result
-room_made seen a b c needed new most count xs ys zs next mid_next first mid last result room named cleared still filled listed =
+    → MakesRoom seen a c needed new (view_with numbers xs next first) (view_with numbers zs mid_next last) result
+room_made numbers seen a b c needed new most count xs ys zs next mid_next first mid last result room named cleared still filled listed =
     let missing_is = missing_same needed (items_of xs) (items_of ys) named cleared.stay in
-    let out = out_of xs needed new most count room in
+    let out = out_of numbers xs needed new most count room in
     record {
       sent = omega (arith, cleared.sent, filled.sent, missing_is, out);
       few = omega (arith, out, room.is, room.few, room.fits, room.places);
@@ -164,37 +164,37 @@ room_made seen a b c needed new most count xs ys zs next mid_next first mid last
           (λ used.
           let cleared_is = cleared.order ∙ ap (λ (n : ℕ). order_evicted n (numbers_of needed) first) out in
           ap (λ (o : OrderView). o.loaded) (used ∙ ap (order_filled (numbers_of needed)) cleared_is)
-          ∙ filled_loaded (numbers_of needed) (order_evicted (evictions needed new (items_of xs)) (numbers_of needed) first)) filled.order;
+          ∙ filled_loaded (numbers_of needed) (order_evicted (evictions needed new (view_of numbers xs 0)) (numbers_of needed) first)) filled.order;
       saved = on_ok_weaker result
           (λ used.
           let cleared_is = cleared.order ∙ ap (λ (n : ℕ). order_evicted n (numbers_of needed) first) out in
           ap (λ (o : OrderView). o.saved) (used ∙ ap (order_filled (numbers_of needed)) cleared_is)
-          ∙ filled_saved (numbers_of needed) (order_evicted (evictions needed new (items_of xs)) (numbers_of needed) first)) filled.order;
+          ∙ filled_saved (numbers_of needed) (order_evicted (evictions needed new (view_of numbers xs 0)) (numbers_of needed) first)) filled.order;
       failed = on_err_weaker result
           (λ some.
           let cleared_is = cleared.order ∙ ap (λ (n : ℕ). order_evicted n (numbers_of needed) first) out in
           let used = take some.0 (numbers_of needed) in
-          let is : last ≡ order_filled used (order_evicted (evictions needed new (items_of xs)) (numbers_of needed) first) =
+          let is : last ≡ order_filled used (order_evicted (evictions needed new (view_of numbers xs 0)) (numbers_of needed) first) =
           some.1 ∙ ap (order_filled used) cleared_is in (
-            evictions needed new (items_of xs),
+            evictions needed new (view_of numbers xs 0),
             some.0,
             omega arith,
             ap (λ (o : OrderView). o.loaded) is
-                ∙ filled_loaded used (order_evicted (evictions needed new (items_of xs)) (numbers_of needed) first),
+                ∙ filled_loaded used (order_evicted (evictions needed new (view_of numbers xs 0)) (numbers_of needed) first),
             ap (λ (o : OrderView). o.saved) is
-                ∙ filled_saved used (order_evicted (evictions needed new (items_of xs)) (numbers_of needed) first),
+                ∙ filled_saved used (order_evicted (evictions needed new (view_of numbers xs 0)) (numbers_of needed) first),
           )) filled.failed;
       listed = listed;
     }
 
 -- where not all of them were saved that had to be
-pub room_failed : {D : Type 0} (seen : D → Seen) (a b : D) (needed : List ℕ) (new most count : ℕ) (xs ys : List Record)
+pub room_failed : {D : Type 0} (numbers : Numbers) (seen : D → Seen) (a b : D) (needed : List ℕ) (new most count : ℕ) (xs ys : List Record)
     (next new_next : ℕ) (first last : OrderView) (result : Result (Unit {0}) SwapError) (e : SwapError)
-    → Room xs needed new most count → Evicts seen a b xs ys first last needed (most - count) (Err e)
+    → Room numbers xs needed new most count → Evicts seen a b xs ys first last needed (most - count) (Err e)
     → (loaded_items (items_of xs) ≤ most - count → (b ≡ a) × (ys ≡ xs) × (new_next ≡ next) × (failing e ≡ Ok tt))
-    → result ≡ Err e → Lists last.loaded (items_of ys) → MakesRoom seen a b needed new (view_with xs next first) (view_with ys new_next last) result
-room_failed seen a b needed new most count xs ys next new_next first last result e room cleared still failed listed =
-    let out = out_of xs needed new most count room in
+    → result ≡ Err e → Lists last.loaded (items_of ys) → MakesRoom seen a b needed new (view_with numbers xs next first) (view_with numbers ys new_next last) result
+room_failed numbers seen a b needed new most count xs ys next new_next first last result e room cleared still failed listed =
+    let out = out_of numbers xs needed new most count room in
     record {
       sent = omega (arith, cleared.sent, out);
       few = omega (arith, out, room.is, room.few, room.fits, room.places);
@@ -214,7 +214,7 @@ room_failed seen a b needed new most count xs ys next new_next first last result
     }
 
 -- so many places are free, where that is so by what is kept
-pub free_places : (state : Option SlotState) (view : SessionsView) (new : ℕ) → Stand state view [] → loaded_items view.items + new ≤ LOADED_SESSIONS
+pub free_places : (state : Option SlotState) (view : SessionsView) (new : ℕ) → Stand state view [] → loaded_items view.items + new ≤ view.numbers.loaded
     → AreFree state new
 free_places None view new stand few = tt
-free_places (Some slots) view new stand few = omega (arith, few, loaded_told slots view stand)
+free_places (Some slots) view new stand few = omega (arith, few, loaded_told slots view stand, places_told slots view [] stand)

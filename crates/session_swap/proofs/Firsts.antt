@@ -6,6 +6,7 @@ use Rattle.std.proofs.lemmas.Option.{get_or_from_slice_get, none-some, slice_get
 use Rattle.tab_spec.specs.Shape.{number_of_session}
 use Rattle.device_spec.specs.Slots.{SlotState, gap_from}
 use Rattle.device_port.specs.Use.{used_after}
+use Rattle.tab_spec.specs.declared.numbers.Numbers.{Numbers}
 use Rattle.session_swap.specs.declared.record.Record.{Record}
 use Rattle.session_swap.specs.Items.{IsFirst, IsOldest, IsSavedAgain, Item, ListsThose, Rise, SessionsView, Stand, first_number, full_kept, gap_first, gap_kept, is_saved_item, item_at, number_at, number_of_item, numbers_along, oldest_number}
 use Rattle.session_swap.specs.Moves.{IsOldestAt}
@@ -81,26 +82,26 @@ first_gap view handle is = ap (gap_from view.next) (first_by view.items view.sav
 
 -- ---- its record
 
-first_is_saved : (records : List Record) (order : OrderView) (number : ℕ) → ListsIn records order → slice_get order.saved 0 ≡ Some number
+first_is_saved : {numbers : Numbers} (records : List Record) (order : OrderView) (number : ℕ) → ListsIn numbers records order → slice_get order.saved 0 ≡ Some number
     → is_saved_item (item_at (items_of records) number) ≡ true
 first_is_saved records order number listed is =
     ap (λ (n : ℕ). is_saved_item (item_at (items_of records) n)) (sym (get_or_from_slice_get order.saved 0 number 0 is))
     ∙ listed_is is_saved_item refl (items_of records) order.saved 0 0 listed.saved (slice_get_within order.saved 0 number is)
 
-pub first_below : (records : List Record) (order : OrderView) (number : ℕ) → ListsIn records order → slice_get order.saved 0 ≡ Some number
+pub first_below : {numbers : Numbers} (records : List Record) (order : OrderView) (number : ℕ) → ListsIn numbers records order → slice_get order.saved 0 ≡ Some number
     → number < length records
 first_below records order number listed is =
     omega (arith, saved_inside (items_of records) number (first_is_saved records order number listed is), length-map records item_of_record)
 
-pub first_inside : (records lent : List Record) (order : OrderView) (first : Option ℕ) → ListsIn records order → first ≡ slice_get order.saved 0
+pub first_inside : {numbers : Numbers} (records lent : List Record) (order : OrderView) (first : Option ℕ) → ListsIn numbers records order → first ≡ slice_get order.saved 0
     → lent ≡ records → IfSome first (λ n. n < length lent)
 first_inside records lent order None listed is same = tt {0}
 first_inside records lent order (Some number) listed is same =
     omega (arith, first_below records order number listed (sym is), ap (λ (l : List Record). length l) same)
 
-pub first_named : (records : List Record) (next owned : ℕ) (order : OrderView) (number : ℕ) (r : Record) → AreListed records order owned
-    → slice_get order.saved 0 ≡ Some number → r ≡ get_or records number r → IsFirst (view_with records next order) r.handle
-first_named records next owned order number r kept is there =
+pub first_named : (numbers : Numbers) (records : List Record) (next owned : ℕ) (order : OrderView) (number : ℕ) (r : Record) → AreListed numbers records order owned
+    → slice_get order.saved 0 ≡ Some number → r ≡ get_or records number r → IsFirst (view_with numbers records next order) r.handle
+first_named numbers records next owned order number r kept is there =
     let items = items_of records in
     let saved = first_is_saved records order number kept.listed is in
     let inside = first_below records order number kept.listed is in
@@ -117,17 +118,17 @@ first_named records next owned order number r kept is there =
 
 -- ---- saved again
 
-pub saved_again : (order new_order : OrderView) (old items new_items : List (Option Item)) (view : SessionsView) (new_next next n handle : ℕ)
-    → items ≡ view.items → record { items = old; next = next; order = order.loaded; saved = order.saved } ≡ view
-    → n ≡ number_of_session handle → new_order ≡ order_renewed (full_kept items) n order
-    → IsSavedAgain view (record { items = new_items; next = new_next; order = new_order.loaded; saved = new_order.saved }) handle
-saved_again order new_order old items new_items view new_next next n handle same is here renewed =
-    let count = ap full_kept same in
+pub saved_again : (numbers : Numbers) (order new_order : OrderView) (old new_items : List (Option Item)) (view : SessionsView)
+    (count new_next next n handle : ℕ) → count ≡ full_kept view
+    → record { numbers = numbers; items = old; next = next; order = order.loaded; saved = order.saved } ≡ view
+    → n ≡ number_of_session handle → new_order ≡ order_renewed count n order
+    → IsSavedAgain view (record { numbers = numbers; items = new_items; next = new_next; order = new_order.loaded; saved = new_order.saved }) handle
+saved_again numbers order new_order old new_items view kept new_next next n handle count is here renewed =
     record {
       order = ap (λ (o : OrderView). o.loaded) renewed ∙ ap (λ (k : ℕ). drop k order.loaded) count
-          ∙ ap (λ (v : SessionsView). drop (full_kept view.items) v.order) is;
+          ∙ ap (λ (v : SessionsView). drop (full_kept view) v.order) is;
       saved = ap (λ (o : OrderView). o.saved) renewed
           ∙ ap (λ (k : ℕ). used_after (order.saved ++ take k order.loaded) n) count
-          ∙ ap (λ (v : SessionsView). used_after (v.saved ++ take (full_kept view.items) v.order) n) is
-          ∙ ap (used_after (view.saved ++ take (full_kept view.items) view.order)) here;
+          ∙ ap (λ (v : SessionsView). used_after (v.saved ++ take (full_kept view) v.order) n) is
+          ∙ ap (used_after (view.saved ++ take (full_kept view) view.order)) here;
     }

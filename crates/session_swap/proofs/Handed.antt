@@ -1,9 +1,10 @@
 -- A client saves a session of its own, and gives back the context that was handed out for it.
-use Rattle.std.proofs.Common.{◌≡◌, ◌+◌, ◌<◌, ◌≤◌, ℕ, true, false, List, [], length, get_or, set, map, refl, ap, subst, sym, ◌∙◌, arith}
+use Rattle.std.proofs.Common.{◌≡◌, ◌<◌, ◌≤◌, ℕ, true, false, List, [], length, get_or, set, map, refl, ap, subst, sym, ◌∙◌, arith}
 use Rattle.std.specs.Prelude.{drop, vec_capacity, Option, Some, None, is_some, IfSome, IsSomeAnd, Result}
 use Rattle.std.proofs.lemmas.List.{get_or-set_same, length-map, set-set}
 use Rattle.std.proofs.lemmas.Option.{same_Some}
-use Rattle.tab_spec.specs.declared.TheConstants.{HEADER_BYTES, LOADED_SESSIONS}
+use Rattle.tab_spec.specs.declared.numbers.Numbers.{Numbers}
+use Rattle.tab_spec.specs.declared.TheConstants.{HEADER_BYTES}
 use Rattle.tab_spec.specs.Session.{Session}
 use Rattle.tab_spec.specs.Shape.{number_of_session}
 use Rattle.device_spec.specs.ContextCommands.{context_save_command}
@@ -11,17 +12,15 @@ use Rattle.device_spec.specs.Slots.{SlotState}
 use Rattle.device_port.specs.Device.{Seen}
 use Rattle.device_port.specs.Own.{Asks, Succeeds}
 use Rattle.device_port.specs.declared.own.SwapError.{SwapError}
-use Rattle.session_swap.specs.declared.TheConstants.{RENEWAL_GAP}
 use Rattle.session_swap.specs.declared.record.Place.{Place}
 use Rattle.session_swap.specs.declared.record.Place.TheVariants as places
 use Rattle.session_swap.specs.declared.record.Record.{Record}
-use Rattle.session_swap.specs.Items.{HandsOut, Item, Saved, SessionsStand, SessionsView, Stand, context_number, gap_in, is_handed_to, is_loaded_item, is_saved_item, item_at, item_of, item_session, number_of_item, saved_by_client, sessions_of, taken_back}
+use Rattle.session_swap.specs.Items.{HandsOut, Item, Saved, SessionsStand, SessionsView, Stand, context_number, is_handed_to, is_loaded_item, is_saved_item, item_at, item_of, item_session, number_of_item, saved_by_client, sessions_of, taken_back}
 use Rattle.session_swap.specs.Moves.{KeepsReply, Ready, RepliesOf, with_context, with_handed}
 use Rattle.session_swap.specs.Records.{AreRecords, IsHandleOf, IsRecord, OrderView, handed_by, handed_of, item_in, item_of_record, items_of, view_of, view_with}
 use Rattle.session_swap.proofs.Among.{loaded_inside, loaded_whole, named_is}
 use Rattle.session_swap.proofs.Commands.{is_saved}
 use Rattle.session_swap.proofs.Moved.{IsSavedAt, has_item, items_set, named_inside, record_item, records_set, saved_at, saved_item}
-use Rattle.session_swap.proofs.Renewed.{FitsOne}
 use Rattle.session_swap.proofs.Standing.{handed_held, sessions_held, stands_held, taken_held}
 
 -- ---- one record
@@ -134,15 +133,16 @@ stand_handed None view others n bytes stand inside = tt
 stand_handed (Some slots) view others n bytes stand inside =
     stands_held slots view others n (with_handed bytes (item_at view.items n)) stand inside (handed_held bytes (item_at view.items n))
 
-pub ready_handed : (state : Option SlotState) (items : List (Option Item)) (mid : List Record) (next n : ℕ) (bytes : List ℕ) (r new : Record)
-    (others : List ℕ) → Hands items mid n bytes r new → Stand state (view_of mid next) others → Ready state (set mid n new) next others
-ready_handed state items mid next n bytes r new others hands stand =
+pub ready_handed : (numbers : Numbers) (state : Option SlotState) (items : List (Option Item)) (mid : List Record) (next n : ℕ) (bytes : List ℕ) (r new : Record)
+    (others : List ℕ) → Hands items mid n bytes r new → Stand state (view_of numbers mid next) others
+    → Ready state numbers (set mid n new) next others
+ready_handed numbers state items mid next n bytes r new others hands stand =
     let at = at_mid items mid n bytes r new hands in
     record {
       sound = handed_records items mid n bytes r new hands;
-      stand = subst (λ (l : List (Option Item)). Stand state (record { items = l; next = next; order = []; saved = [] }) others)
+      stand = subst (λ (l : List (Option Item)). Stand state (record { numbers = numbers; items = l; next = next; order = []; saved = [] }) others)
           (sym (item_handed items mid n bytes r new hands))
-          (stand_handed state (view_of mid next) others n bytes stand (omega (arith, at.inside, length-map mid item_of_record)));
+          (stand_handed state (view_of numbers mid next) others n bytes stand (omega (arith, at.inside, length-map mid item_of_record)));
     }
 
 some_sessions : (state : Option SlotState) (items : List (Option Item)) (n : ℕ) (bytes : List ℕ)
@@ -256,10 +256,6 @@ number_told (Some slots) items mid n bytes is items_are told =
     same_Some (context_number bytes) slots.counter
     (sym (context_numbered bytes (item_at items n) is) ∙ sym (ap number_of_item here) ∙ told)
 
-pub fits_gap : (state : Option SlotState) → gap_in state < RENEWAL_GAP + LOADED_SESSIONS → FitsOne state
-fits_gap None below = tt
-fits_gap (Some slots) below = below
-
 -- ---- a context is given back
 
 -- a record whose session is in use again
@@ -324,16 +320,16 @@ handed_some client bytes None is = absurd cc
 handed_some client bytes (Some item) is = refl
 
 -- the handle of a session for which these bytes were handed out, and its record
-record Gives (records : List Record) (next : ℕ) (order : OrderView) (view : SessionsView) (client handle : ℕ) (bytes : List ℕ) (n : ℕ) (r : Record) : Type 0 where
+record Gives (numbers : Numbers) (records : List Record) (next : ℕ) (order : OrderView) (view : SessionsView) (client handle : ℕ) (bytes : List ℕ) (n : ℕ) (r : Record) : Type 0 where
   sound : AreRecords records
-  view_is : view_with records next order ≡ view
+  view_is : view_with numbers records next order ≡ view
   number_is : n ≡ number_of_session handle
   handed : is_handed_to client bytes (item_of (items_of records) handle) ≡ true
   there : r ≡ get_or records n r
 
-gives_takes : (records : List Record) (next : ℕ) (order : OrderView) (view : SessionsView) (client handle : ℕ) (bytes : List ℕ) (n : ℕ) (r : Record)
-    → Gives records next order view client handle bytes n r → Takes records n r
-gives_takes records next order view client handle bytes n r gives =
+gives_takes : (numbers : Numbers) (records : List Record) (next : ℕ) (order : OrderView) (view : SessionsView) (client handle : ℕ) (bytes : List ℕ) (n : ℕ) (r : Record)
+    → Gives numbers records next order view client handle bytes n r → Takes records n r
+gives_takes numbers records next order view client handle bytes n r gives =
     let named = handed_some client bytes (item_of (items_of records) handle) gives.handed in
     record {
       sound = gives.sound;
@@ -344,32 +340,32 @@ gives_takes records next order view client handle bytes n r gives =
 abbrev view_after : SessionsView → ℕ → SessionsView
 view_after view number = record view { items = set view.items number (taken_back (item_at view.items number)) }
 
-taken_view : (records : List Record) (next : ℕ) (order : OrderView) (view : SessionsView) (client handle : ℕ) (bytes : List ℕ) (n : ℕ) (r : Record)
-    → Gives records next order view client handle bytes n r
-    → view_with (set records n (used_again r)) next order ≡ view_after view (number_of_session handle)
-taken_view records next order view client handle bytes n r gives =
-    let takes = gives_takes records next order view client handle bytes n r gives in
-    ap (λ (l : List (Option Item)). record { items = l; next = next; order = order.loaded; saved = order.saved }) (taken_items records n r takes)
+taken_view : (numbers : Numbers) (records : List Record) (next : ℕ) (order : OrderView) (view : SessionsView) (client handle : ℕ) (bytes : List ℕ) (n : ℕ) (r : Record)
+    → Gives numbers records next order view client handle bytes n r
+    → view_with numbers (set records n (used_again r)) next order ≡ view_after view (number_of_session handle)
+taken_view numbers records next order view client handle bytes n r gives =
+    let takes = gives_takes numbers records next order view client handle bytes n r gives in
+    ap (λ (l : List (Option Item)). record { numbers = numbers; items = l; next = next; order = order.loaded; saved = order.saved }) (taken_items records n r takes)
     ∙ ap (λ (v : SessionsView). view_after v n) gives.view_is
     ∙ ap (view_after view) gives.number_is
 
 -- what a context that is given back leaves
-pub record GivenBack (records : List Record) (next : ℕ) (order : OrderView) (view : SessionsView) (handle n : ℕ) (r : Record) : Type 0 where
+pub record GivenBack (numbers : Numbers) (records : List Record) (next : ℕ) (order : OrderView) (view : SessionsView) (handle n : ℕ) (r : Record) : Type 0 where
   pub sound : AreRecords (set records n (used_again r))
-  pub view_is : view_with (set records n (used_again r)) next order ≡ record view {
+  pub view_is : view_with numbers (set records n (used_again r)) next order ≡ record view {
     items = set view.items (number_of_session handle) (taken_back (item_at view.items (number_of_session handle)));
   }
   pub stand : (slots : SlotState) → SessionsStand slots view []
-      → SessionsStand slots (view_with (set records n (used_again r)) next order) []
+      → SessionsStand slots (view_with numbers (set records n (used_again r)) next order) []
   pub sessions : (slots : SlotState) → map (item_session slots) (items_of (set records n (used_again r))) ≡ map (item_session slots) view.items
   pub item_is : item_of_record (used_again r) ≡ taken_back (item_at (items_of records) n)
 
-pub given_back : (records found : List Record) (next : ℕ) (order : OrderView) (view : SessionsView) (client handle : ℕ) (bytes : List ℕ) (n : ℕ) (r : Record)
-    → AreRecords records → view_with records next order ≡ view → found ≡ records
+pub given_back : (numbers : Numbers) (records found : List Record) (next : ℕ) (order : OrderView) (view : SessionsView) (client handle : ℕ) (bytes : List ℕ) (n : ℕ) (r : Record)
+    → AreRecords records → view_with numbers records next order ≡ view → found ≡ records
     → is_handed_to client bytes (item_of (items_of found) handle) ≡ true → n ≡ number_of_session handle → r ≡ get_or records n r
-    → GivenBack records next order view handle n r
-given_back records found next order view client handle bytes n r sound view_is found_is handed number_is there =
-    let gives : Gives records next order view client handle bytes n r =
+    → GivenBack numbers records next order view handle n r
+given_back numbers records found next order view client handle bytes n r sound view_is found_is handed number_is there =
+    let gives : Gives numbers records next order view client handle bytes n r =
     record {
       sound = sound;
       view_is = view_is;
@@ -377,8 +373,8 @@ given_back records found next order view client handle bytes n r sound view_is f
       handed = subst (λ (l : List Record). is_handed_to client bytes (item_of (items_of l) handle) ≡ true) found_is handed;
       there = there;
     } in
-    let takes = gives_takes records next order view client handle bytes n r gives in
-    let after = taken_view records next order view client handle bytes n r gives in
+    let takes = gives_takes numbers records next order view client handle bytes n r gives in
+    let after = taken_view numbers records next order view client handle bytes n r gives in
     let inside : number_of_session handle < length view.items = omega (
       arith,
       takes.inside,
@@ -386,7 +382,7 @@ given_back records found next order view client handle bytes n r sound view_is f
       length-map records item_of_record,
       ap (λ (v : SessionsView). length v.items) view_is,
     ) in
-    let back = takes_back view (view_with (set records n (used_again r)) next order) (number_of_session handle) inside after in
+    let back = takes_back view (view_with numbers (set records n (used_again r)) next order) (number_of_session handle) inside after in
     record {
       sound = taken_records records n r takes;
       view_is = after;

@@ -7,7 +7,9 @@ use Rattle.std.proofs.lemmas.List.{get_or-set_other, get_or-set_same, get_or_pas
 use Rattle.std.proofs.lemmas.Option.{get_or_from_slice_get, slice_get_within}
 use Rattle.std.proofs.lemmas.List.Edits.{length-remove}
 use Rattle.std.proofs.lemmas.List.Sums.{sum_by-remove, sum_by_push}
-use Rattle.tab_spec.specs.declared.TheConstants.{ACTIVE_SESSIONS, LOADED_SESSIONS}
+use Rattle.tab_spec.specs.declared.numbers.Numbers.{Numbers}
+use Rattle.tab_spec.specs.Numbers.{AreInRange}
+use Rattle.tab_spec.specs.declared.TheConstants.{SESSION_NUMBERS}
 use Rattle.device_port.specs.Use.{used_after, without_one}
 use Rattle.session_swap.specs.declared.record.Record.{Record}
 use Rattle.session_swap.specs.Items.{Item, Lists, ListsThose, flag, is_loaded_item, is_saved_item, item_at, no_items}
@@ -188,8 +190,8 @@ module _ (is : Option Item → Bool) (nothing : is None ≡ false) where
   -- none is listed at first
   pub none_listed : ListsThose is [] no_items
   none_listed = record {
-    each = λ number. sym (flag_false (is (item_at no_items number)) (none_there ACTIVE_SESSIONS number));
-    count = sym (none_counted ACTIVE_SESSIONS);
+    each = λ number. sym (flag_false (is (item_at no_items number)) (none_there SESSION_NUMBERS number));
+    count = sym (none_counted SESSION_NUMBERS);
   }
 
 -- ---- the loaded ones
@@ -238,9 +240,10 @@ none_if_failed P (Err x) e failed = tt
 -- ---- over the items of records
 
 -- nothing changed
-pub listed_still : (records new_records : List Record) (order new_order : OrderView) → items_of new_records ≡ items_of records → new_order ≡ order
-    → ListsIn records order → ListsIn new_records new_order
+pub listed_still : {numbers : Numbers} (records new_records : List Record) (order new_order : OrderView) → items_of new_records ≡ items_of records → new_order ≡ order
+    → ListsIn numbers records order → ListsIn numbers new_records new_order
 listed_still records new_records order new_order same still listed = record {
+  range = listed.range;
   lists = subst (λ (l : List (Option Item)). Lists new_order.loaded l) (sym same)
       (subst (λ (o : OrderView). Lists o.loaded (items_of records)) (sym still) listed.lists);
   most = omega (arith, ap (λ (o : OrderView). length o.loaded) still, listed.most);
@@ -249,12 +252,13 @@ listed_still records new_records order new_order same still listed = record {
 }
 
 -- the item of one record changes, and is loaded or saved as before
-pub listed_set : (records : List Record) (order : OrderView) (number : ℕ) (r : Record) → ListsIn records order
+pub listed_set : {numbers : Numbers} (records : List Record) (order : OrderView) (number : ℕ) (r : Record) → ListsIn numbers records order
     → is_loaded_item (item_of_record r) ≡ is_loaded_item (item_at (items_of records) number)
-    → is_saved_item (item_of_record r) ≡ is_saved_item (item_at (items_of records) number) → ListsIn (set records number r) order
+    → is_saved_item (item_of_record r) ≡ is_saved_item (item_at (items_of records) number) → ListsIn numbers (set records number r) order
 listed_set records order number r listed loaded saved =
     let same = sym (map-set item_of_record records number r) in
     record {
+      range = listed.range;
       lists = subst (λ (l : List (Option Item)). Lists order.loaded l) same
           (lists_same is_loaded_item refl (items_of records) order.loaded number (item_of_record r) listed.lists loaded);
       most = listed.most;
@@ -263,74 +267,76 @@ listed_set records order number r listed loaded saved =
     }
 
 -- what is listed of these items, in this order
-pub lists_then : (records new_records : List Record) (order new_order : OrderView) (items : List (Option Item)) → items_of new_records ≡ items
-    → new_order ≡ order → Lists order.loaded items → ListsThose is_saved_item order.saved items → length order.loaded ≤ LOADED_SESSIONS
-    → ListsIn new_records new_order
-lists_then records new_records order new_order items items_are is lists saved most =
-    subst (λ (o : OrderView). ListsIn new_records o) (sym is) (record {
+pub lists_then : (numbers : Numbers) (records new_records : List Record) (order new_order : OrderView) (items : List (Option Item)) → items_of new_records ≡ items
+    → new_order ≡ order → Lists order.loaded items → ListsThose is_saved_item order.saved items → length order.loaded ≤ numbers.loaded
+    → AreInRange numbers → ListsIn numbers new_records new_order
+lists_then numbers records new_records order new_order items items_are is lists saved most range =
+    subst (λ (o : OrderView). ListsIn numbers new_records o) (sym is) (record {
       lists = subst (λ (l : List (Option Item)). Lists order.loaded l) (sym items_are) lists;
+      range = range;
       most = most;
       saved = subst (λ (l : List (Option Item)). ListsThose is_saved_item order.saved l) (sym items_are) saved;
     })
 
 -- a session is gone
-pub listed_gone : (records new_records : List Record) (order new_order : OrderView) (number : ℕ) → ListsIn records order
-    → items_of new_records ≡ set (items_of records) number None → new_order ≡ order_without number order → ListsIn new_records new_order
+pub listed_gone : {numbers : Numbers} (records new_records : List Record) (order new_order : OrderView) (number : ℕ) → ListsIn numbers records order
+    → items_of new_records ≡ set (items_of records) number None → new_order ≡ order_without number order → ListsIn numbers new_records new_order
 listed_gone records new_records order new_order number listed items_are is =
     let items = items_of records in
-    lists_then records new_records (order_without number order) new_order (set items number None) items_are is
+    lists_then _ records new_records (order_without number order) new_order (set items number None) items_are is
     (lists_without is_loaded_item refl items order.loaded number None listed.lists refl)
     (lists_without is_saved_item refl items order.saved number None listed.saved refl)
-    (omega (arith, without_less number order.loaded, listed.most))
+    (omega (arith, without_less number order.loaded, listed.most)) listed.range
 
 -- a loaded session is saved
-pub listed_out : (records new_records : List Record) (order new_order : OrderView) (number : ℕ) (item : Option Item) → ListsIn records order
+pub listed_out : {numbers : Numbers} (records new_records : List Record) (order new_order : OrderView) (number : ℕ) (item : Option Item) → ListsIn numbers records order
     → is_loaded_item (item_at (items_of records) number) ≡ true → items_of new_records ≡ set (items_of records) number item
-    → is_saved_item item ≡ true → new_order ≡ order_out number order → ListsIn new_records new_order
+    → is_saved_item item ≡ true → new_order ≡ order_out number order → ListsIn numbers new_records new_order
 listed_out records new_records order new_order number item listed was items_are saved is =
     let items = items_of records in
-    lists_then records new_records (order_out number order) new_order (set items number item) items_are is
+    lists_then _ records new_records (order_out number order) new_order (set items number item) items_are is
     (lists_without is_loaded_item refl items order.loaded number item listed.lists (not_loaded item saved))
     (lists_pushed is_saved_item refl items order.saved number item listed.saved (unsaved_by (item_at items number) was)
     (loaded_inside items number was) saved)
-    (omega (arith, without_less number order.loaded, listed.most))
+    (omega (arith, without_less number order.loaded, listed.most)) listed.range
 
 -- one more is loaded, and used
-pub listed_in : (records new_records : List Record) (order new_order : OrderView) (number : ℕ) (item : Option Item) → ListsIn records order
-    → length order.loaded < LOADED_SESSIONS → number < length records → items_of new_records ≡ set (items_of records) number item
-    → is_loaded_item item ≡ true → new_order ≡ order_in number order → ListsIn new_records new_order
+pub listed_in : {numbers : Numbers} (records new_records : List Record) (order new_order : OrderView) (number : ℕ) (item : Option Item) → ListsIn numbers records order
+    → length order.loaded < numbers.loaded → number < length records → items_of new_records ≡ set (items_of records) number item
+    → is_loaded_item item ≡ true → new_order ≡ order_in number order → ListsIn numbers new_records new_order
 listed_in records new_records order new_order number item listed few fits items_are there is =
     let items = items_of records in
-    lists_then records new_records (order_in number order) new_order (set items number item) items_are is
+    lists_then _ records new_records (order_in number order) new_order (set items number item) items_are is
     (lists_used is_loaded_item refl items order.loaded number item listed.lists (omega (arith, fits, length-map records item_of_record)) there)
     (lists_without is_saved_item refl items order.saved number item listed.saved (unsaved_by item there))
-    (omega (arith, length-append (without_one number order.loaded) (number ∷ []), without_less number order.loaded, few))
+    (omega (arith, length-append (without_one number order.loaded) (number ∷ []), without_less number order.loaded, few)) listed.range
 
 -- one that is loaded is used again: the list gets no longer
-pub listed_again : (records : List Record) (order new_order : OrderView) (number : ℕ) → ListsIn records order
-    → is_loaded_item (item_at (items_of records) number) ≡ true → new_order ≡ order_used number order → ListsIn records new_order
+pub listed_again : {numbers : Numbers} (records : List Record) (order new_order : OrderView) (number : ℕ) → ListsIn numbers records order
+    → is_loaded_item (item_at (items_of records) number) ≡ true → new_order ≡ order_used number order → ListsIn numbers records new_order
 listed_again records order new_order number listed there is =
     let items = items_of records in
     let lists = subst (λ (l : List (Option Item)). Lists (used_after order.loaded number) l) (set-get_or items number None)
     (lists_used is_loaded_item refl items order.loaded number (item_at items number) listed.lists (loaded_inside items number there) there) in
-    lists_then records records (order_used number order) new_order items refl is lists listed.saved
-    (omega (arith, lists.count, listed.lists.count, listed.most))
+    lists_then _ records records (order_used number order) new_order items refl is lists listed.saved
+    (omega (arith, lists.count, listed.lists.count, listed.most)) listed.range
 
 -- where a session was saved or not
-pub listed_saved : {A E : Type 0} (r : Result A E) (records new_records : List Record) (order new_order : OrderView) (number : ℕ) → ListsIn records order
+pub listed_saved : {A E : Type 0} {numbers : Numbers} (r : Result A E) (records new_records : List Record) (order new_order : OrderView) (number : ℕ) → ListsIn numbers records order
     → is_loaded_item (item_at (items_of records) number) ≡ true
     → OnOk r ((item : Option Item) × (items_of new_records ≡ set (items_of records) number item) × (is_saved_item item ≡ true))
     → OnErr r (items_of new_records ≡ items_of records) → OnOk r (new_order ≡ order_out number order) → OnErr r (new_order ≡ order)
-    → ListsIn new_records new_order
+    → ListsIn numbers new_records new_order
 listed_saved (Ok a) records new_records order new_order number listed was ok err out still =
     listed_out records new_records order new_order number ok.0 listed was ok.1 ok.2 out
 listed_saved (Err e) records new_records order new_order number listed was ok err out still =
     listed_still records new_records order new_order err still listed
 
 -- what is seen of all that is kept
-pub sound_view : (records : List Record) (next owned : ℕ) (order : OrderView) → AreListed records order owned
-    → IsSoundView (view_with records next order)
-sound_view records next owned order kept = record {
+pub sound_view : (numbers : Numbers) (records : List Record) (next owned : ℕ) (order : OrderView) → AreListed numbers records order owned
+    → IsSoundView (view_with numbers records next order)
+sound_view numbers records next owned order kept = record {
+  range = kept.listed.range;
   count = omega (arith, length-map records item_of_record, kept.sound.count);
   lists = kept.listed.lists;
   most = omega (arith, kept.listed.most, kept.listed.lists.count);

@@ -6,23 +6,23 @@ use Rattle.std.proofs.lemmas.Bool.{false≢true, cases_eq, eq-eqb, ne_eqb}
 use Rattle.std.proofs.lemmas.List.{get_or-map, get_or-set_other, length-map, length-set, map-set}
 use Rattle.std.proofs.lemmas.List.Elements.{All-set}
 use Rattle.tab_spec.specs.Shape.{number_of_session}
-use Rattle.tab_spec.specs.declared.TheConstants.{LOADED_SESSIONS}
+use Rattle.tab_spec.specs.declared.numbers.Numbers.{Numbers}
 use Rattle.device_spec.specs.Slots.{SlotState}
 use Rattle.device_port.specs.Device.{Seen}
-use Rattle.session_swap.specs.declared.TheConstants.{RENEWAL_GAP}
+use Rattle.session_swap.specs.declared.TheConstants.{NEEDED_MOST}
 use Rattle.session_swap.specs.declared.record.Place.{Place}
 use Rattle.session_swap.specs.declared.record.Place.TheVariants as places
 use Rattle.session_swap.specs.declared.record.Record.{Record}
-use Rattle.session_swap.specs.Items.{Holder, IsNarrow, Item, KeepsSessions, Moved, Names, SessionsView, Stand, counter_of, gap_in, has_owner, holder_of, holders, is_loaded_item, is_saved_item, item_at, item_of, loaded_items, owner_by, rest_of, with_handle}
+use Rattle.session_swap.specs.Items.{Holder, IsNarrow, Item, KeepsSessions, Moved, Names, SessionsView, Stand, counter_of, gap_in, has_owner, holder_of, holders, is_loaded_item, is_saved_item, item_at, item_of, loaded_items, owner_by, renewal_gap, rest_of, with_handle}
 use Rattle.device_port.specs.Use.{is_among}
 use Rattle.session_swap.specs.Records.{AreListed, AreRecords, IsHandleOf, IsRecord, ListsIn, OrderView, handed_of, item_in, item_of_record, items_of, view_of, view_with}
 use Rattle.session_swap.specs.Moves.{HasContexts, HasNumber, HasPlace, Ready, ReadyIn, RiseIn, Saves, Swaps, handle_at, handle_of}
-use Rattle.session_swap.proofs.Counts.{count_one, count_same, count_set, flag_false, flag_true}
+use Rattle.session_swap.proofs.Counts.{count_same, count_set, flag_false, flag_true}
 use Rattle.session_swap.proofs.Among.{holder_again, loaded_inside, loaded_whole, named_inside, named_is, named_some, not_loaded, saved_or, set_each}
 use Rattle.session_swap.proofs.Missing.{handle_by}
 use Rattle.session_swap.proofs.Moved.{stand_alike, stand_rise}
 use Rattle.session_swap.proofs.Rising.{rise_none}
-use Rattle.session_swap.proofs.Told.{loaded_told}
+use Rattle.session_swap.proofs.Told.{loaded_told, numbers_kept, places_told, renewal_told}
 
 -- ---- one move after another
 
@@ -139,17 +139,18 @@ records_set records number n sound inside is handle =
 
 -- ---- saving
 
-pub can_save : (start state : Option SlotState) (items : List (Option Item)) (number : ℕ) → HasContexts start
+-- before the last of those that have to leave
+pub can_save : (start state : Option SlotState) (items : List (Option Item)) (first : ℕ) → HasContexts start
     → rest_of state ≡ rest_of start
     → gap_in state + counter_of start ≤ gap_in start + counter_of state
-    → counter_of state + loaded_items items ≤ counter_of start + LOADED_SESSIONS
-    → is_loaded_item (item_at items number) ≡ true → HasNumber state
-can_save start None items number may rest gap left is = tt
-can_save None (Some slots) items number may rest gap left is = absurd cc
-can_save (Some first) (Some slots) items number may rest gap left is =
-    let one = count_one is_loaded_item items number None (loaded_inside items number is) in
-    let this = flag_true (is_loaded_item (item_at items number)) is in
-    record { below = omega (arith, may.below, left, one, this); narrow = omega (arith, may.narrow, gap, left, one, this) }
+    → counter_of state + loaded_items items ≤ counter_of start + first → first < loaded_items items + NEEDED_MOST
+    → HasNumber state
+can_save start None items first may rest gap left few = tt
+can_save None (Some slots) items first may rest gap left few = absurd cc
+can_save (Some begun) (Some slots) items first may rest gap left few = record {
+  below = omega (arith, may.below, left, few);
+  narrow = omega (arith, may.narrow, gap, left, few, ap renewal_gap (numbers_kept begun slots rest));
+}
 
 -- every other item stays
 pub kept_at : (items new_items : List (Option Item)) (number other : ℕ) → new_items ≡ set items number (item_at new_items number)
@@ -185,10 +186,12 @@ saved_left (Some slots) (Some new) items new_items number saves is rest =
 -- ---- loading
 
 -- a place is free, where fewer are loaded than there are places
-pub place_kept : (state : Option SlotState) (records : List Record) (next : ℕ) → Ready state records next []
-    → loaded_items (items_of records) < LOADED_SESSIONS → HasPlace state
-place_kept None records next ready few = tt
-place_kept (Some slots) records next ready few = omega (arith, few, loaded_told slots (view_of records next) ready.stand)
+pub place_kept : (numbers : Numbers) (state : Option SlotState) (records : List Record) (next : ℕ) → Ready state numbers records next []
+    → loaded_items (items_of records) < numbers.loaded → HasPlace state
+place_kept numbers None records next ready few = tt
+place_kept numbers (Some slots) records next ready few =
+    let view = view_of numbers records next in
+    omega (arith, few, loaded_told slots view ready.stand, places_told slots view [] ready.stand)
 
 -- a needed session that isn't loaded is saved
 pub needed_saved : (records : List Record) (handle number : ℕ) (d : Record) → number ≡ number_of_session handle
@@ -247,44 +250,48 @@ same_then items mid new handle first second is = second (ap is_loaded_item first
 -- ---- making
 
 -- records that were lent out of a swapper
-pub ready_lent : (state : Option SlotState) (records lent : List Record) (next : ℕ) (order : OrderView) (view : SessionsView) (others : List ℕ)
-    → lent ≡ records → AreRecords records → view_with records next order ≡ view → Stand state view others → Ready state lent next others
-ready_lent state records lent next order view others same sound view_is stand =
+pub ready_lent : (numbers : Numbers) (state : Option SlotState) (records lent : List Record) (next : ℕ) (order : OrderView) (view : SessionsView) (others : List ℕ)
+    → lent ≡ records → AreRecords records → view_with numbers records next order ≡ view → Stand state view others
+    → Ready state numbers lent next others
+ready_lent numbers state records lent next order view others same sound view_is stand =
     let items = ap (λ (l : List Record). items_of l) same ∙ ap (λ (v : SessionsView). v.items) view_is in
     let next_is = ap (λ (v : SessionsView). v.next) view_is in
+    let numbers_are = ap (λ (v : SessionsView). v.numbers) view_is in
     record {
       sound = subst (λ (l : List Record). AreRecords l) (sym same) sound;
-      stand = stand_alike state view (view_of lent next) others (sym items) (sym next_is) (rise_none state (items_of lent)) stand;
+      stand = stand_alike state view (view_of numbers lent next) others (sym numbers_are) (sym items) (sym next_is) (rise_none state (items_of lent)) stand;
     }
 
-pub rise_lent : (state : Option SlotState) (records lent : List Record) (next : ℕ) (order : OrderView) (view : SessionsView) (others : List ℕ)
-    → lent ≡ records → view_with records next order ≡ view → Stand state view others → RiseIn state (items_of lent) order.saved
-rise_lent state records lent next order view others same view_is stand =
+pub rise_lent : (numbers : Numbers) (state : Option SlotState) (records lent : List Record) (next : ℕ) (order : OrderView) (view : SessionsView) (others : List ℕ)
+    → lent ≡ records → view_with numbers records next order ≡ view → Stand state view others → RiseIn state (items_of lent) order.saved
+rise_lent numbers state records lent next order view others same view_is stand =
     subst (λ (l : List Record). RiseIn state (items_of l) order.saved) (sym same)
     (subst (λ (v : SessionsView). RiseIn state v.items v.saved) (sym view_is) (stand_rise state view others stand))
 
-pub lent_in : (state : Option SlotState) (records lent : List Record) (next owned : ℕ) (order : OrderView) (view : SessionsView)
-    → lent ≡ records → AreListed records order owned → view_with records next order ≡ view → Stand state view [] → ReadyIn state lent next order
-lent_in state records lent next owned order view same kept view_is stand = record {
-  ready = ready_lent state records lent next order view [] same kept.sound view_is stand;
-  listed = subst (λ (l : List Record). ListsIn l order) (sym same) kept.listed;
-  rise = rise_lent state records lent next order view [] same view_is stand;
+pub lent_in : (numbers : Numbers) (state : Option SlotState) (records lent : List Record) (next owned : ℕ) (order : OrderView) (view : SessionsView)
+    → lent ≡ records → AreListed numbers records order owned → view_with numbers records next order ≡ view → Stand state view []
+    → ReadyIn state numbers lent next order
+lent_in numbers state records lent next owned order view same kept view_is stand = record {
+  ready = ready_lent numbers state records lent next order view [] same kept.sound view_is stand;
+  listed = subst (λ (l : List Record). ListsIn numbers l order) (sym same) kept.listed;
+  rise = rise_lent numbers state records lent next order view [] same view_is stand;
 }
 
 -- what moves of the lent records leave of the swapper
-pub moved_lent : {D : Type 0} (seen : D → Seen) (old new : D) (records lent new_records whole : List Record) (next new_next : ℕ)
-    (order new_order : OrderView) (view : SessionsView) → lent ≡ records → view_with records next order ≡ view → whole ≡ new_records
-    → Swaps seen old new lent new_records → ReadyIn (seen new).state new_records new_next new_order
-    → Moved seen old new view (view_with whole new_next new_order)
-moved_lent seen old new records lent new_records whole next new_next order new_order view same view_is back swaps held =
+pub moved_lent : {D : Type 0} (numbers : Numbers) (seen : D → Seen) (old new : D) (records lent new_records whole : List Record) (next new_next : ℕ)
+    (order new_order : OrderView) (view : SessionsView) → lent ≡ records → view_with numbers records next order ≡ view → whole ≡ new_records
+    → Swaps seen old new lent new_records → ReadyIn (seen new).state numbers new_records new_next new_order
+    → Moved seen old new view (view_with numbers whole new_next new_order)
+moved_lent numbers seen old new records lent new_records whole next new_next order new_order view same view_is back swaps held =
     let start = (seen old).state in
     let state = (seen new).state in
     let before = ap (λ (l : List Record). items_of l) same ∙ ap (λ (v : SessionsView). v.items) view_is in
     let after = ap (λ (l : List Record). items_of l) (sym back) in
     record {
+      numbers = ap (λ (v : SessionsView). v.numbers) view_is;
       sessions = subst (λ (l : List (Option Item)). KeepsSessions start state view.items l) after
           (subst (λ (l : List (Option Item)). KeepsSessions start state l (items_of new_records)) before swaps.sessions);
-      stand = stand_alike state (view_of new_records new_next) (view_with whole new_next new_order) [] after refl
+      stand = stand_alike state (view_of numbers new_records new_next) (view_with numbers whole new_next new_order) [] refl after refl
           (subst (λ (l : List (Option Item)). RiseIn state l new_order.saved) after held.rise) held.ready.stand;
       rest = record { base_is = swaps.base_is; rest = swaps.rest; rises = swaps.rises; count = swaps.count };
     }
@@ -307,21 +314,23 @@ owned_moved items new_items same =
     (λ i inside. owned_of (item_at new_items i) ∙ ap holder_owned (holder_again items new_items i same) ∙ sym (owned_of (item_at items i)))
 
 -- what holds of all that is kept, after moves of lent records
-pub kept_lent : (records lent new_records whole : List Record) (order new_order : OrderView) (owned : ℕ) → AreListed records order owned → lent ≡ records
-    → whole ≡ new_records → AreRecords new_records → ListsIn new_records new_order
-    → holders (items_of new_records) ≡ holders (items_of lent) → AreListed whole new_order owned
-kept_lent records lent new_records whole order new_order owned kept same back sound listed held =
-    subst (λ (l : List Record). AreListed l new_order owned) (sym back) (record {
+pub kept_lent : (numbers : Numbers) (records lent new_records whole : List Record) (order new_order : OrderView) (owned : ℕ) → AreListed numbers records order owned → lent ≡ records
+    → whole ≡ new_records → AreRecords new_records → ListsIn numbers new_records new_order
+    → holders (items_of new_records) ≡ holders (items_of lent) → AreListed numbers whole new_order owned
+kept_lent numbers records lent new_records whole order new_order owned kept same back sound listed held =
+    subst (λ (l : List Record). AreListed numbers l new_order owned) (sym back) (record {
       sound = sound;
       listed = listed;
       owned_is = kept.owned_is ∙ sym (owned_moved (items_of records) (items_of new_records)
           (held ∙ ap (λ (l : List Record). holders (items_of l)) same));
     })
 
-pub gap_below : (state new_state : Option SlotState) → IsNarrow state → rest_of new_state ≡ rest_of state
+pub gap_below : (state new_state : Option SlotState) (view : SessionsView) → Stand state view [] → IsNarrow state
+    → rest_of new_state ≡ rest_of state
     → gap_in new_state + counter_of state ≤ gap_in state + counter_of new_state
-    → counter_of new_state ≤ counter_of state + LOADED_SESSIONS
-    → gap_in new_state < RENEWAL_GAP + LOADED_SESSIONS
-gap_below state None narrow rest gap counter = omega arith
-gap_below None (Some new) narrow rest gap counter = absurd cc
-gap_below (Some slots) (Some new) narrow rest gap counter = omega arith
+    → counter_of new_state ≤ counter_of state + NEEDED_MOST
+    → gap_in new_state < renewal_gap view.numbers + NEEDED_MOST
+gap_below state None view stand narrow rest gap counter = omega arith
+gap_below None (Some new) view stand narrow rest gap counter = absurd cc
+gap_below (Some slots) (Some new) view stand narrow rest gap counter =
+    omega (arith, narrow, gap, counter, renewal_told slots view [] stand)

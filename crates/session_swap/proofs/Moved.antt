@@ -5,7 +5,8 @@ use Rattle.std.specs.List.{count_by, list_any}
 use Rattle.std.proofs.lemmas.Bool.{and_parts, cases_eq, cases_lt, eq-eqb, eqb-true}
 use Rattle.std.proofs.lemmas.List.{map-set, get_or-set_same, get_or-set_other, get_or-map, set-get_or, get_or_past, length-map}
 use Rattle.std.proofs.lemmas.List.Elements.{All-set}
-use Rattle.tab_spec.specs.declared.TheConstants.{ACTIVE_SESSIONS, CONTEXT_LIMIT, HEADER_BYTES, LOADED_SESSIONS, RC_SUCCESS}
+use Rattle.tab_spec.specs.declared.numbers.Numbers.{Numbers}
+use Rattle.tab_spec.specs.declared.TheConstants.{CONTEXT_LIMIT, HEADER_BYTES, RC_SUCCESS, SESSION_NUMBERS}
 use Rattle.tab_spec.specs.Frame.{code_of, is_frame}
 use Rattle.tab_spec.specs.Values.{AreBytes}
 use Rattle.tab_spec.specs.Session.{Session, IsSession}
@@ -37,21 +38,22 @@ moved slots n place counter = record slots { sessions = set slots.sessions n pla
 -- what changes: the place of one number, and its item
 pub record Moves (slots : SlotState) (items : List (Option Item)) (n : ℕ) (place : SessionPlace) (counter : ℕ)
     (item : Option Item) : Type 0 where
-  pub fits : n < ACTIVE_SESSIONS
-  pub places : ArePlaces counter (set slots.sessions n place)
+  pub fits : n < SESSION_NUMBERS
+  pub places : ArePlaces slots.numbers.loaded counter (set slots.sessions n place)
   pub limit : counter ≤ CONTEXT_LIMIT
   pub stands : IfSome item (λ item. ItemStands (moved slots n place counter) n item)
   pub owned : flag (is_some item) + flag (is_active (place_at slots n))
       ≡ flag (is_some (item_at items n)) + flag (is_active place)
 
-pub are_places : (slots : SlotState) → IsSlots slots → ArePlaces slots.counter slots.sessions
+pub are_places : (slots : SlotState) → IsSlots slots → ArePlaces slots.numbers.loaded slots.counter slots.sessions
 are_places slots sound = record { numbers = sound.numbers; places = sound.places; few = sound.loaded; apart = sound.apart }
 
 moved_sound : (slots : SlotState) (n counter : ℕ) (place : SessionPlace) → IsSlots slots
-    → ArePlaces counter (set slots.sessions n place) → counter ≤ CONTEXT_LIMIT
+    → ArePlaces slots.numbers.loaded counter (set slots.sessions n place) → counter ≤ CONTEXT_LIMIT
     → IsSlots (moved slots n place counter)
 moved_sound slots n counter place sound are limit = record {
   persist = sound.persist;
+  range = sound.range;
   count = sound.count;
   objects = sound.objects;
   object_counter = sound.object_counter;
@@ -137,10 +139,11 @@ pub stands_moved : (slots : SlotState) (view : SessionsView) (others : List ℕ)
     (item : Option Item) (next : ℕ) (order listed : List ℕ)
     → SessionsStand slots view others → Moves slots view.items n place counter item
     → (list_any is_saved_item (set view.items n item) ≡ true → next ≡ counter) → Rise (numbers_along (set view.items n item) listed)
-    → SessionsStand (moved slots n place counter) (record { items = set view.items n item; next = next; order = order; saved = listed }) others
+    → SessionsStand (moved slots n place counter) (record { numbers = view.numbers; items = set view.items n item; next = next; order = order; saved = listed }) others
 stands_moved slots view others n place counter item next order listed stand moves next_is rise = record {
   started = stand.started;
   sound = moved_sound slots n counter place stand.sound moves.places moves.limit;
+  numbers = stand.numbers;
   count = length-set view.items n item ∙ stand.count;
   each = each_moved slots view others n place counter item stand moves;
   owned = owned_moved slots view others n place counter item stand moves;
@@ -236,11 +239,11 @@ item_inside items n item was = some_inside items n (ap (λ (i : Option Item). is
 
 -- ---- what saving and loading keep
 
-pub record Keeps (old_state new_state : Option SlotState) (items new_items : List (Option Item)) (next : ℕ)
+pub record Keeps (numbers : Numbers) (old_state new_state : Option SlotState) (items new_items : List (Option Item)) (next : ℕ)
     (others : List ℕ) : Type 0 where
   pub rest : rest_of new_state ≡ rest_of old_state
   pub sessions : KeepsSessions old_state new_state items new_items
-  pub stand : Stand new_state (record { items = new_items; next = next; order = []; saved = [] }) others
+  pub stand : Stand new_state (record { numbers = numbers; items = new_items; next = next; order = []; saved = [] }) others
   pub gap : gap_in new_state + counter_of old_state ≤ gap_in old_state + counter_of new_state
   pub rises : counter_of old_state ≤ counter_of new_state
 
@@ -258,7 +261,7 @@ saving slots view others client handed handle context stand was may same =
     let place = saved (octet_of handle) slots.counter in
     let seed = slots.persist.seed in
     let old = item_stands slots view others n (unsaved_item client handed handle) stand was in
-    let fits : n < ACTIVE_SESSIONS = omega (arith, item_inside view.items n (unsaved_item client handed handle) was, stand.count) in
+    let fits : n < SESSION_NUMBERS = omega (arith, item_inside view.items n (unsaved_item client handed handle) was, stand.count) in
     let inside : n < length slots.sessions = omega (arith, fits, stand.sound.numbers) in
     let found : session_at (moved slots n place (slots.counter + 1)) handle (Some context) ≡ session_at slots handle None =
     session_here slots n handle place (Some context) inside refl
@@ -268,7 +271,7 @@ saving slots view others client handed handle context stand was may same =
       found,
       record {
         fits = fits;
-        places = saved_next slots.counter slots.sessions n (octet_of handle) (are_places slots stand.sound) old.handle;
+        places = saved_next slots.numbers.loaded slots.counter slots.sessions n (octet_of handle) (are_places slots stand.sound) old.handle;
         limit = omega (arith, may.below);
         stands = record {
           number_is = refl;
@@ -288,7 +291,7 @@ saving slots view others client handed handle context stand was may same =
 loading : (slots : SlotState) (view : SessionsView) (others : List ℕ) (client : Option ℕ) (handed : Option (List ℕ)) (handle number : ℕ) (context : List ℕ) (s : Session)
     → SessionsStand slots view others
     → item_at view.items (number_of_session handle) ≡ Some (saved_item client handed handle number context)
-    → loaded_count slots.sessions < LOADED_SESSIONS → IsSession s
+    → loaded_count slots.sessions < slots.numbers.loaded → IsSession s
     → let place = loaded (octet_of handle) s in
     let n = number_of_session handle in
     (session_at (moved slots n place slots.counter) handle None ≡ Some s)
@@ -298,7 +301,7 @@ loading slots view others client handed handle number context s stand was room i
     let place = loaded (octet_of handle) s in
     let old = item_stands slots view others n (saved_item client handed handle number context) stand was in
     let item = saved_item client handed handle number context in
-    let fits : n < ACTIVE_SESSIONS = omega (arith, item_inside view.items n item was, stand.count) in
+    let fits : n < SESSION_NUMBERS = omega (arith, item_inside view.items n item was, stand.count) in
     let inside : n < length slots.sessions = omega (arith, fits, stand.sound.numbers) in
     let found : session_at (moved slots n place slots.counter) handle None ≡ Some s =
     session_here slots n handle place None inside refl
@@ -306,7 +309,7 @@ loading slots view others client handed handle number context s stand was room i
       found,
       record {
         fits = fits;
-        places = loaded_new slots.counter slots.sessions n (octet_of handle) s (are_places slots stand.sound) room old.handle is;
+        places = loaded_new slots.numbers.loaded slots.counter slots.sessions n (octet_of handle) s (are_places slots stand.sound) room old.handle is;
         limit = stand.sound.counter;
         stands = record {
           number_is = refl;
@@ -330,7 +333,7 @@ ending slots view others n item stand was =
     let old = item_stands slots view others n item stand was in
     record {
       fits = omega (arith, item_inside view.items n item was, stand.count);
-      places = made_inactive slots.counter slots.sessions n (are_places slots stand.sound);
+      places = made_inactive slots.numbers.loaded slots.counter slots.sessions n (are_places slots stand.sound);
       limit = stand.sound.counter;
       stands = tt;
       owned = omega (
@@ -347,7 +350,7 @@ saved_told : (slots : SlotState) (view : SessionsView) (others : List ℕ) (clie
     → item_at view.items (number_of_session handle) ≡ Some (unsaved_item client handed handle) → MaySave slots
     → session_of_context slots.persist.seed handle slots.counter (Some context) ≡ loaded_session slots handle
     → next ≡ slots.counter + 1
-    → Keeps (Some slots) (put_out handle (Some slots)) view.items
+    → Keeps view.numbers (Some slots) (put_out handle (Some slots)) view.items
     (set view.items (number_of_session handle) (Some (saved_item client handed handle slots.counter context))) next others
 saved_told slots view others client handed handle next context stand was may same next_is =
     let n = number_of_session handle in
@@ -379,8 +382,8 @@ loaded_told : (slots : SlotState) (view : SessionsView) (others : List ℕ) (cli
     (s : Session)
     → SessionsStand slots view others
     → item_at view.items (number_of_session handle) ≡ Some (saved_item client handed handle number context)
-    → loaded_count slots.sessions < LOADED_SESSIONS → AreBytes context → session_at slots handle (Some context) ≡ Some s
-    → Keeps (Some slots) (Some (with_place slots (number_of_session handle) (loaded (octet_of handle) s))) view.items
+    → loaded_count slots.sessions < slots.numbers.loaded → AreBytes context → session_at slots handle (Some context) ≡ Some s
+    → Keeps view.numbers (Some slots) (Some (with_place slots (number_of_session handle) (loaded (octet_of handle) s))) view.items
     (set view.items (number_of_session handle) (Some (unsaved_item client handed handle))) view.next others
 loaded_told slots view others client handed handle number context s stand was room bytes found =
     let n = number_of_session handle in
@@ -409,10 +412,10 @@ loaded_told slots view others client handed handle number context s stand was ro
 
 -- ---- in every state
 
-untold_keeps : (items : List (Option Item)) (others : List ℕ) (n next : ℕ) (item : Option Item) → n < length items
+untold_keeps : (numbers : Numbers) (items : List (Option Item)) (others : List ℕ) (n next : ℕ) (item : Option Item) → n < length items
     → holder_of item ≡ holder_of (item_at items n)
-    → Keeps None None items (set items n item) next others
-untold_keeps items others n next item inside same = record {
+    → Keeps numbers None None items (set items n item) next others
+untold_keeps numbers items others n next item inside same = record {
   rest = refl;
   sessions = record { sessions = refl; holders = map_kept holder_of items n item inside same };
   stand = tt;
@@ -426,23 +429,23 @@ pub saved_keeps : (state : Option SlotState) (view : SessionsView) (others : Lis
     → IfSome state (λ slots. number ≡ slots.counter)
     → IfSome state (λ slots. session_of_context slots.persist.seed handle number (Some context) ≡ loaded_session slots handle)
     → IfSome state (λ slots. next ≡ slots.counter + 1)
-    → Keeps state (put_out handle state) view.items
+    → Keeps view.numbers state (put_out handle state) view.items
     (set view.items n (Some (saved_item client handed handle number context))) next others
 saved_keeps None view others n client handed handle number next context stand was n_is may number_is same next_is =
-    untold_keeps view.items others n next (Some (saved_item client handed handle number context))
+    untold_keeps view.numbers view.items others n next (Some (saved_item client handed handle number context))
     (item_inside view.items n (unsaved_item client handed handle) was)
     (sym (ap holder_of was))
 saved_keeps (Some slots) view others n client handed handle number next context stand was n_is may number_is same next_is =
     let its : session_of_context slots.persist.seed handle slots.counter (Some context) ≡ loaded_session slots handle =
     ap (λ (k : ℕ). session_of_context slots.persist.seed handle k (Some context)) (sym number_is) ∙ same in
     subst
-    (λ (k : ℕ). Keeps (Some slots) (put_out handle (Some slots)) view.items
+    (λ (k : ℕ). Keeps view.numbers (Some slots) (put_out handle (Some slots)) view.items
     (set view.items n (Some (saved_item client handed handle k context))) next others)
     (sym number_is)
     (
     subst
     (λ (m : ℕ).
-    Keeps (Some slots) (put_out handle (Some slots)) view.items
+    Keeps view.numbers (Some slots) (put_out handle (Some slots)) view.items
     (set view.items m (Some (saved_item client handed handle slots.counter context))) next others)
     n_is
     (saved_told slots view others client handed handle next context stand (ap (item_at view.items) n_is ∙ was) may its next_is)
@@ -452,9 +455,9 @@ pub loaded_keeps : (state : Option SlotState) (view : SessionsView) (others : Li
     (context : List ℕ) → Stand state view others
     → item_at view.items n ≡ Some (saved_item client handed handle number context) → number_of_session handle ≡ n → HasPlace state
     → AreBytes context
-    → Keeps state (brought_in handle context state) view.items (set view.items n (Some (unsaved_item client handed handle))) view.next others
+    → Keeps view.numbers state (brought_in handle context state) view.items (set view.items n (Some (unsaved_item client handed handle))) view.next others
 loaded_keeps None view others n client handed handle number context stand was n_is room bytes =
-    untold_keeps view.items others n view.next (Some (unsaved_item client handed handle))
+    untold_keeps view.numbers view.items others n view.next (Some (unsaved_item client handed handle))
     (item_inside view.items n (saved_item client handed handle number context) was)
     (sym (ap holder_of was))
 loaded_keeps (Some slots) view others n client handed handle number context stand was n_is room bytes =
@@ -462,13 +465,13 @@ loaded_keeps (Some slots) view others n client handed handle number context stan
     (item_stands slots view others n (saved_item client handed handle number context) stand was).there in
     subst
     (λ (place : SessionPlace).
-    Keeps (Some slots) (Some (with_place slots (number_of_session handle) place)) view.items
+    Keeps view.numbers (Some slots) (Some (with_place slots (number_of_session handle) place)) view.items
     (set view.items n (Some (unsaved_item client handed handle))) view.next others)
     (sym (ap (loaded_place (octet_of handle)) found.1))
     (
     subst
     (λ (m : ℕ).
-    Keeps (Some slots) (Some (with_place slots (number_of_session handle) (loaded (octet_of handle) found.0))) view.items
+    Keeps view.numbers (Some slots) (Some (with_place slots (number_of_session handle) (loaded (octet_of handle) found.0))) view.items
     (set view.items m (Some (unsaved_item client handed handle))) view.next others)
     n_is
     (loaded_told slots view others client handed handle number context found.0 stand
@@ -478,18 +481,18 @@ loaded_keeps (Some slots) view others n client handed handle number context stan
 -- ---- a session ends
 
 -- what a flush leaves
-pub record Drops (old_state new_state : Option SlotState) (items new_items : List (Option Item)) (n next : ℕ)
+pub record Drops (numbers : Numbers) (old_state new_state : Option SlotState) (items new_items : List (Option Item)) (n next : ℕ)
     (others : List ℕ) : Type 0 where
   pub rest : rest_of new_state ≡ rest_of old_state
   pub sessions : sessions_of new_state new_items ≡ without_session n (sessions_of old_state items)
-  pub stand : Stand new_state (record { items = new_items; next = next; order = []; saved = [] }) others
+  pub stand : Stand new_state (record { numbers = numbers; items = new_items; next = next; order = []; saved = [] }) others
   pub counter : counter_of new_state ≡ counter_of old_state
   pub gap : gap_in new_state ≤ gap_in old_state
 
 pub ended_drops : (state : Option SlotState) (view : SessionsView) (others : List ℕ) (handle : ℕ) (item : Item)
     → Stand state view others
     → item_at view.items (number_of_session handle) ≡ Some item
-    → Drops state (ended handle state) view.items (set view.items (number_of_session handle) None)
+    → Drops view.numbers state (ended handle state) view.items (set view.items (number_of_session handle) None)
     (number_of_session handle) view.next others
 ended_drops None view others handle item stand was =
     record { rest = refl; sessions = refl; stand = tt; counter = refl; gap = omega arith }
@@ -507,16 +510,15 @@ ended_drops (Some slots) view others handle item stand was =
     }
 
 -- a flush frees no less of the gap and of the places
-flag_by : (after before : ℕ) → after ≤ before → before ≤ LOADED_SESSIONS → (is : Bool) → (after == LOADED_SESSIONS) ≡ is
-    → flag is ≤ flag (before == LOADED_SESSIONS)
-flag_by after before less most false is = omega arith
-flag_by after before less most true is =
-    let last : after ≡ LOADED_SESSIONS = eqb-true after LOADED_SESSIONS is in
-    omega (arith, flag_true (before == LOADED_SESSIONS) (eq-eqb before LOADED_SESSIONS (omega (arith, less, most, last))))
+flag_by : (places after before : ℕ) → after ≤ before → before ≤ places → (is : Bool) → (after == places) ≡ is
+    → flag is ≤ flag (before == places)
+flag_by places after before less most false is = omega arith
+flag_by places after before less most true is =
+    let last : after ≡ places = eqb-true after places is in
+    omega (arith, flag_true (before == places) (eq-eqb before places (omega (arith, less, most, last))))
 
-flag_below : (after before : ℕ) → after ≤ before → before ≤ LOADED_SESSIONS
-    → flag (after == LOADED_SESSIONS) ≤ flag (before == LOADED_SESSIONS)
-flag_below after before less most = flag_by after before less most (after == LOADED_SESSIONS) refl
+flag_below : (places after before : ℕ) → after ≤ before → before ≤ places → flag (after == places) ≤ flag (before == places)
+flag_below places after before less most = flag_by places after before less most (after == places) refl
 
 pub ended_room : (state : Option SlotState) (view : SessionsView) (others : List ℕ) (handle : ℕ) (item : Item)
     → Stand state view others → item_at view.items (number_of_session handle) ≡ Some item
@@ -532,7 +534,7 @@ ended_room (Some slots) view others handle item stand was room =
       arith,
       room,
       (ended_drops (Some slots) view others handle item stand was).gap,
-      flag_below (loaded_count (set slots.sessions n inactive)) (loaded_count slots.sessions) fewer stand.sound.loaded,
+      flag_below slots.numbers.loaded (loaded_count (set slots.sessions n inactive)) (loaded_count slots.sessions) fewer stand.sound.loaded,
     )
 
 -- ---- what the commands ask of the device
@@ -715,9 +717,9 @@ records_loaded records n changed r sound at like room handed_room =
 
 -- ---- what a move leaves
 
-pub swaps_from : {D : Type 0} (seen : D → Seen) (old new : D)
+pub swaps_from : {D : Type 0} {numbers : Numbers} (seen : D → Seen) (old new : D)
     (records new_records : List Record) (new_next : ℕ) (others : List ℕ)
-    → Keeps (seen old).state (seen new).state (items_of records) (items_of new_records) new_next others
+    → Keeps numbers (seen old).state (seen new).state (items_of records) (items_of new_records) new_next others
     → (seen new).base ≡ (seen old).base → (seen old).faults ≤ (seen new).faults → Swaps seen old new records new_records
 swaps_from seen old new records new_records new_next others keeps base_is count = record {
   rest = keeps.rest;
@@ -729,32 +731,40 @@ swaps_from seen old new records new_records new_next others keeps base_is count 
 }
 
 -- nothing is left changed where a command fails
-pub keeps_same : (state new_state : Option SlotState) (items new_items : List (Option Item)) (next : ℕ) (others : List ℕ)
-    → Stand state (record { items = items; next = next; order = []; saved = [] }) others → new_state ≡ state → new_items ≡ items
-    → Keeps state new_state items new_items next others
-keeps_same state new_state items new_items next others stand state_is items_are =
-    let at_rest : Keeps state state items items next others =
+pub keeps_same : (numbers : Numbers) (state new_state : Option SlotState) (items new_items : List (Option Item)) (next : ℕ) (others : List ℕ)
+    → Stand state (record { numbers = numbers; items = items; next = next; order = []; saved = [] }) others → new_state ≡ state → new_items ≡ items
+    → Keeps numbers state new_state items new_items next others
+keeps_same numbers state new_state items new_items next others stand state_is items_are =
+    let at_rest : Keeps numbers state state items items next others =
     record { rest = refl; sessions = record { sessions = refl; holders = refl }; stand = stand; gap = omega arith; rises = omega arith } in
-    subst (λ (st : Option SlotState). Keeps state st items new_items next others) (sym state_is)
-    (subst (λ (list : List (Option Item)). Keeps state state items list next others) (sym items_are) at_rest)
+    subst (λ (st : Option SlotState). Keeps numbers state st items new_items next others) (sym state_is)
+    (subst (λ (list : List (Option Item)). Keeps numbers state state items list next others) (sym items_are) at_rest)
 
-pub keeps_by : (state moved new_state : Option SlotState) (items moved_items new_items : List (Option Item)) (next : ℕ)
+pub keeps_by : (numbers : Numbers) (state moved new_state : Option SlotState) (items moved_items new_items : List (Option Item)) (next : ℕ)
     (others : List ℕ)
-    → new_state ≡ moved → new_items ≡ moved_items → Keeps state moved items moved_items next others
-    → Keeps state new_state items new_items next others
-keeps_by state moved new_state items moved_items new_items next others state_is items_are keeps =
-    subst (λ (st : Option SlotState). Keeps state st items new_items next others) (sym state_is)
-    (subst (λ (list : List (Option Item)). Keeps state moved items list next others) (sym items_are) keeps)
+    → new_state ≡ moved → new_items ≡ moved_items → Keeps numbers state moved items moved_items next others
+    → Keeps numbers state new_state items new_items next others
+keeps_by numbers state moved new_state items moved_items new_items next others state_is items_are keeps =
+    subst (λ (st : Option SlotState). Keeps numbers state st items new_items next others) (sym state_is)
+    (subst (λ (list : List (Option Item)). Keeps numbers state moved items list next others) (sym items_are) keeps)
 
 -- what stands doesn't depend on the order of the loaded sessions, and on that of the saved ones by their numbers alone
-pub stands_alike : (slots : SlotState) (view new_view : SessionsView) (others : List ℕ) → view.items ≡ new_view.items → view.next ≡ new_view.next
+pub stands_alike : (slots : SlotState) (view new_view : SessionsView) (others : List ℕ) → view.numbers ≡ new_view.numbers
+    → view.items ≡ new_view.items → view.next ≡ new_view.next
     → Rise (numbers_along new_view.items new_view.saved) → SessionsStand slots view others → SessionsStand slots new_view others
-stands_alike slots view new_view others items next rise stand =
-    let same : record { items = view.items; next = view.next; order = new_view.order; saved = new_view.saved } ≡ new_view =
-    λ i. record { items = items i; next = next i; order = new_view.order; saved = new_view.saved } in
+stands_alike slots view new_view others numbers items next rise stand =
+    let same : record {
+      numbers = view.numbers;
+      items = view.items;
+      next = view.next;
+      order = new_view.order;
+      saved = new_view.saved;
+    } ≡ new_view =
+    λ i. record { numbers = numbers i; items = items i; next = next i; order = new_view.order; saved = new_view.saved } in
     subst (λ (v : SessionsView). SessionsStand slots v others) same (record {
       started = stand.started;
       sound = stand.sound;
+      numbers = stand.numbers;
       count = stand.count;
       each = stand.each;
       owned = stand.owned;
@@ -762,10 +772,12 @@ stands_alike slots view new_view others items next rise stand =
       rise = subst (λ (l : List (Option Item)). Rise (numbers_along l new_view.saved)) (sym items) rise;
     })
 
-pub stand_alike : (state : Option SlotState) (view new_view : SessionsView) (others : List ℕ) → view.items ≡ new_view.items → view.next ≡ new_view.next
+pub stand_alike : (state : Option SlotState) (view new_view : SessionsView) (others : List ℕ) → view.numbers ≡ new_view.numbers
+    → view.items ≡ new_view.items → view.next ≡ new_view.next
     → RiseIn state new_view.items new_view.saved → Stand state view others → Stand state new_view others
-stand_alike None view new_view others items next rise stand = tt
-stand_alike (Some slots) view new_view others items next rise stand = stands_alike slots view new_view others items next rise stand
+stand_alike None view new_view others numbers items next rise stand = tt
+stand_alike (Some slots) view new_view others numbers items next rise stand =
+    stands_alike slots view new_view others numbers items next rise stand
 
 -- they rise where sessions stand
 pub stand_rise : (state : Option SlotState) (view : SessionsView) (others : List ℕ) → Stand state view others

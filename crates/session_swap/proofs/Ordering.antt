@@ -2,7 +2,7 @@
 use Rattle.std.proofs.Common.{◌≡◌, ◌+◌, ◌-◌, ◌≤◌, ℕ, false, ltb, List, [], ◌∷◌, ◌++◌, length, ap, refl, ◌∙◌, arith}
 use Rattle.std.specs.Prelude.{◌==◌}
 use Rattle.std.specs.List.{count_by}
-use Rattle.tab_spec.specs.declared.TheConstants.{ACTIVE_SESSIONS}
+use Rattle.tab_spec.specs.declared.TheConstants.{SESSION_NUMBERS}
 use Rattle.device_port.specs.Use.{used_after, without_one}
 use Rattle.session_swap.specs.Records.{AreOrdered, HasFirst, names_in, order_in, order_of, order_out, order_used}
 use Rattle.session_swap.proofs.Counts.{flag_most}
@@ -11,13 +11,13 @@ use Rattle.session_swap.proofs.Uses.{without_absent}
 
 -- a number went to the back of a list
 pub record Carried (lists new : List (List Entry)) (number list : ℕ) : Type 0 where
-  pub all : HasFirst ACTIVE_SESSIONS new
+  pub all : HasFirst SESSION_NUMBERS new
   pub back : names_in new list ≡ used_after (names_in lists list) number
   pub others : (other : ℕ) → (other == list) ≡ false → names_in new other ≡ without_one number (names_in lists other)
 
 module _ (lists new : List (List Entry)) (number loaded saved : ℕ) (held : AreOrdered lists loaded saved) where
   loaded_most : count_by (λ one. one == number) (order_of lists).loaded + count_by (λ one. one == number) (order_of lists).saved ≤ 1
-  loaded_most = omega (arith, in_each lists number held.all, flag_most (ltb number ACTIVE_SESSIONS))
+  loaded_most = omega (arith, in_each lists number held.all, flag_most (ltb number SESSION_NUMBERS))
 
   -- it is saved
   pub out_ordered : Carried lists new number 2 → count_by (λ one. one == number) (order_of lists).loaded ≡ 1

@@ -5,6 +5,7 @@ use Rattle.std.specs.List.{count_by}
 use Rattle.std.proofs.lemmas.Bool.{cases_lt}
 use Rattle.std.proofs.lemmas.List.{map-set, set_past}
 use Rattle.device_spec.specs.Slots.{SlotState}
+use Rattle.tab_spec.specs.declared.numbers.Numbers.{Numbers}
 use Rattle.session_swap.specs.declared.record.Record.{Record}
 use Rattle.session_swap.specs.Items.{Item, ListsThose, SessionsView, Stand, context_number, disowned, flag, has_owner, is_loaded_item, is_orphan, is_saved_item, item_at, loaded_items, number_of_item, owner_by, rest_of, saved_by_client, saved_items, taken_back}
 use Rattle.session_swap.specs.Moves.{RiseIn}
@@ -108,10 +109,10 @@ owned_most items n had inside was = omega (arith, count_one has_owner items n No
 -- ---- all that is kept
 
 -- one record changes, and counts as before
-pub kept_set : (records : List Record) (order : OrderView) (owned n : ℕ) (r : Record) → AreListed records order owned → AreRecords (set records n r)
+pub kept_set : {numbers : Numbers} (records : List Record) (order : OrderView) (owned n : ℕ) (r : Record) → AreListed numbers records order owned → AreRecords (set records n r)
     → is_loaded_item (item_of_record r) ≡ is_loaded_item (item_at (items_of records) n)
     → is_saved_item (item_of_record r) ≡ is_saved_item (item_at (items_of records) n)
-    → has_owner (item_of_record r) ≡ has_owner (item_at (items_of records) n) → AreListed (set records n r) order owned
+    → has_owner (item_of_record r) ≡ has_owner (item_at (items_of records) n) → AreListed numbers (set records n r) order owned
 kept_set records order owned n r kept sound loaded saved owner = record {
   sound = sound;
   listed = listed_set records order n r kept.listed loaded saved;

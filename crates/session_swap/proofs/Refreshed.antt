@@ -8,11 +8,10 @@ use Rattle.std.proofs.lemmas.List.{length-map}
 use Rattle.std.proofs.lemmas.List.Sums.{count_by-le-length, sum_by-le-sum_by}
 use Rattle.std.proofs.Math.Nat.{suc-mul}
 use Rattle.tab_spec.specs.Shape.{number_of_session}
-use Rattle.tab_spec.specs.declared.TheConstants.{ACTIVE_SESSIONS, LOADED_SESSIONS}
+use Rattle.tab_spec.specs.declared.TheConstants.{SESSION_NUMBERS}
 use Rattle.device_spec.specs.Slots.{SlotState, gap_from, gap_of, loaded_count}
 use Rattle.device_port.specs.declared.own.SwapError.{SwapError}
-use Rattle.session_swap.specs.declared.TheConstants.{RENEWAL_GAP}
-use Rattle.session_swap.specs.Items.{AreFree, AreKept, IsFirst, IsFresh, IsNarrow, IsRenewed, Item, KeepsRecent, Saved, SessionsView, Stand, Visited, counter_of, flag, full_flag, full_kept, gap_first, gap_kept, holder_of, holders, is_saved_item, item_at, loaded_items, number_of_item, oldest_number, rest_of, saved_items, saved_number}
+use Rattle.session_swap.specs.Items.{AreFree, AreKept, IsFirst, IsFresh, IsNarrow, IsRenewed, Item, KeepsRecent, Saved, SessionsView, Stand, Visited, counter_of, flag, full_flag, full_kept, gap_first, gap_kept, holder_of, holders, is_saved_item, item_at, loaded_items, number_of_item, oldest_number, renewal_gap, rest_of, saved_items, saved_number}
 use Rattle.session_swap.specs.Records.{IsSoundView}
 use Rattle.session_swap.proofs.Counts.{count_cons, count_one, flag_false, flag_most, flag_true}
 use Rattle.session_swap.proofs.Among.{named_is}
@@ -20,6 +19,7 @@ use Rattle.session_swap.proofs.Firsts.{first_risen, oldest_of}
 use Rattle.session_swap.proofs.Gaps.{items_least}
 use Rattle.session_swap.proofs.Oldest.{gap_told, has_last, is_saved_with, number_inside, oldest_told}
 use Rattle.session_swap.proofs.Renewed.{kept_free}
+use Rattle.session_swap.proofs.Told.{numbers_kept, renewal_told}
 
 -- ---- counts
 
@@ -105,7 +105,7 @@ few_old c items = sum_by-le-sum_by (λ (item : Option Item). flag (is_old c item
 pub record Progress (slots : SlotState) (items : List (Option Item)) (start most done : ℕ) : Type 0 where
   pub rises : start + done ≤ slots.counter
   pub few : old_items start items + done ≤ most
-  pub most_is : most ≤ ACTIVE_SESSIONS
+  pub most_is : most ≤ SESSION_NUMBERS
 
 pub begins : (state : Option SlotState) (view : SessionsView) (most : ℕ) → Stand state view [] → most ≡ saved_items view.items
     → IfSome state (λ slots. Progress slots view.items (counter_of state) most 0)
@@ -118,7 +118,7 @@ begins (Some slots) view most stand is = record {
 
 pub goes_on : (state new_state : Option SlotState) (view new_view : SessionsView) (handle start most done : ℕ) → Stand state view []
     → Stand new_state new_view [] → rest_of new_state ≡ rest_of state → IfSome state (λ slots. Progress slots view.items start most done)
-    → done < most → RENEWAL_GAP ≤ gap_kept view → counter_of state ≤ start + done + 1 → IsSoundView view → IsFirst view handle
+    → done < most → renewal_gap view.numbers ≤ gap_kept view → counter_of state ≤ start + done + 1 → IsSoundView view → IsFirst view handle
     → IfSome new_state (λ slots. IsRenewed slots new_view.items (number_of_session handle))
     → IsFresh (counter_of state) view.items new_view.items (number_of_session handle)
     → IfSome new_state (λ slots. Progress slots new_view.items start most (done + 1))
@@ -135,8 +135,8 @@ goes_on (Some slots) (Some new) view new_view handle start most done stand new_s
     let n = had.0 in
     let least : oldest_number items ≡ Some n = sym oldest.oldest ∙ ap number_of_item this ∙ had.1 in
     let gap : gap_of slots ≡ slots.counter - n = ap (gap_from slots.counter) (oldest_told slots view stand ∙ least) in
-    let wide_told : RENEWAL_GAP ≤ gap_of slots = omega (arith, wide, gap_told slots view stand) in
-    let old : n < start = omega (arith, progress.most_is, wide_told, gap, few, more) in
+    let wide_told : renewal_gap slots.numbers ≤ gap_of slots = omega (arith, wide, gap_told slots view stand, renewal_told slots view [] stand) in
+    let old : n < start = omega (arith, progress.most_is, wide_told, gap, few, more, stand.sound.range.gap_least) in
     let young : slots.counter ≤ renewed.last = fresh.later renewed.last renewed.number_is in
     let rises = progress.rises in
     let falls = count_falls (λ item. is_old start item) (λ item. is_old start item) items new_items number None (new_stand.count ∙ sym stand.count)
@@ -157,7 +157,7 @@ goes_on (Some slots) (Some new) view new_view handle start most done stand new_s
 
 -- only a session with a context far below the next one is renewed
 pub stays_recent : (state new_state : Option SlotState) (first : List (Option Item)) (view new_view : SessionsView) (handle : ℕ)
-    → Stand state view [] → rest_of new_state ≡ rest_of state → IfSome state (λ slots. KeepsRecent slots first view.items) → RENEWAL_GAP ≤ gap_kept view
+    → Stand state view [] → rest_of new_state ≡ rest_of state → IfSome state (λ slots. KeepsRecent slots first view.items) → renewal_gap view.numbers ≤ gap_kept view
     → IsSoundView view → IsFirst view handle → AreKept (number_of_session handle) view.items new_view.items → counter_of state ≤ counter_of new_state
     → IfSome new_state (λ slots. KeepsRecent slots first new_view.items)
 stays_recent state None first view new_view handle stand rest held wide safe due others rises = tt
@@ -166,14 +166,24 @@ stays_recent (Some slots) (Some new) first view new_view handle stand rest held 
     let items = view.items in
     let oldest = oldest_of slots view handle safe stand due in
     let at = number_of_session handle in
-    let here : item_at items number ≡ item_at first number = held number last was (omega (arith, rises, near)) in
+    let here : item_at items number ≡ item_at first number =
+    held number last was (omega (arith, rises, near, ap renewal_gap (numbers_kept slots new rest))) in
     let is : number_of_item (item_at items number) ≡ Some last = ap number_of_item here ∙ was in
     let this : number_of_item (item_at items at) ≡ oldest_number items =
     ap number_of_item (sym (named_is items handle oldest.named)) ∙ oldest.oldest in
     let apart : number ≢ at = λ same.
     let least : oldest_number items ≡ Some last = sym this ∙ ap (λ (n : ℕ). number_of_item (item_at items n)) (sym same) ∙ is in
     let gap : gap_of slots ≡ slots.counter - last = ap (gap_from slots.counter) (oldest_told slots view stand ∙ least) in
-    absurd (omega (arith, near, rises, wide, gap, gap_told slots view stand)) in
+    absurd (omega (
+      arith,
+      near,
+      rises,
+      wide,
+      gap,
+      gap_told slots view stand,
+      renewal_told slots view [] stand,
+      ap renewal_gap (numbers_kept slots new rest),
+    )) in
     others number (ne_eqb number at apart) (is_saved_with (item_at items number) last is) ∙ here
 
 -- ---- the numbers of contexts
@@ -186,7 +196,7 @@ counter_next start now new (suc done) few first free most = omega (arith, free (
 
 full_most : (state : Option SlotState) → full_flag state ≤ 1
 full_most None = omega arith
-full_most (Some slots) = flag_most (loaded_count slots.sessions == LOADED_SESSIONS)
+full_most (Some slots) = flag_most (loaded_count slots.sessions == slots.numbers.loaded)
 
 -- how far it has risen after so many renewals
 abbrev pub IsCounted : Option SlotState → Option SlotState → ℕ → Type 0
@@ -199,8 +209,8 @@ counted_first (Some slots) = omega arith
 free_flag : (state : Option SlotState) → AreFree state 1 → full_flag state ≡ 0
 free_flag None free = refl
 free_flag (Some slots) free =
-    flag_false (loaded_count slots.sessions == LOADED_SESSIONS)
-    (ne_eqb (loaded_count slots.sessions) LOADED_SESSIONS (λ same. absurd (omega (arith, free, same))))
+    flag_false (loaded_count slots.sessions == slots.numbers.loaded)
+    (ne_eqb (loaded_count slots.sessions) slots.numbers.loaded (λ same. absurd (omega (arith, free, same))))
 
 pub counted_next : (first state new_state : Option SlotState) (done : ℕ) → IsCounted first state done → (done ≡ 0 → state ≡ first)
     → (1 ≤ done → AreFree state 1) → rest_of new_state ≡ rest_of state
@@ -221,31 +231,31 @@ sent_next start now new zero kept few more one none = omega (arith, few, more, o
 sent_next start now new (suc done) kept few more one none = omega (arith, few, more, none (omega arith))
 
 -- another session is saved first where no place is free, by what is kept
-pub kept_most : (items : List (Option Item)) → full_kept items ≤ 1
-kept_most items = flag_most (loaded_items items == LOADED_SESSIONS)
+pub kept_most : (view : SessionsView) → full_kept view ≤ 1
+kept_most view = flag_most (loaded_items view.items == view.numbers.loaded)
 
-pub kept_none : (view : SessionsView) → IsSoundView view → length view.order < LOADED_SESSIONS → full_kept view.items ≡ 0
-kept_none view sound few = kept_free view.items (omega (arith, few, sound.lists.count))
+pub kept_none : (view : SessionsView) → IsSoundView view → length view.order < view.numbers.loaded → full_kept view ≡ 0
+kept_none view sound few = kept_free view (omega (arith, few, sound.lists.count))
 
 -- where no place was free, the first renewal saved the session that was used least recently
-pub order_start : (view : SessionsView) → view.order ≡ drop (min 0 (full_kept view.items)) view.order
+pub order_start : (view : SessionsView) → view.order ≡ drop (min 0 (full_kept view)) view.order
 order_start view =
-    let none : 0 ≡ min 0 (full_kept view.items) = omega arith in
+    let none : 0 ≡ min 0 (full_kept view) = omega arith in
     ap (λ (n : ℕ). drop n view.order) none
 
-pub order_next : (first view new_view : SessionsView) (done : ℕ) → view.order ≡ drop (min done (full_kept first.items)) first.order
-    → (done ≡ 0 → view ≡ first) → (1 ≤ done → full_kept view.items ≡ 0) → new_view.order ≡ drop (full_kept view.items) view.order
-    → new_view.order ≡ drop (min (done + 1) (full_kept first.items)) first.order
+pub order_next : (first view new_view : SessionsView) (done : ℕ) → view.order ≡ drop (min done (full_kept first)) first.order
+    → (done ≡ 0 → view ≡ first) → (1 ≤ done → full_kept view ≡ 0) → new_view.order ≡ drop (full_kept view) view.order
+    → new_view.order ≡ drop (min (done + 1) (full_kept first)) first.order
 order_next first view new_view zero held same none is =
-    let count : full_kept first.items ≡ min (zero + 1) (full_kept first.items) = omega (arith, kept_most first.items) in
-    is ∙ ap (λ (v : SessionsView). drop (full_kept v.items) v.order) (same refl) ∙ ap (λ (n : ℕ). drop n first.order) count
+    let count : full_kept first ≡ min (zero + 1) (full_kept first) = omega (arith, kept_most first) in
+    is ∙ ap (λ (v : SessionsView). drop (full_kept v) v.order) (same refl) ∙ ap (λ (n : ℕ). drop n first.order) count
 order_next first view new_view (suc done) held same none is =
-    let count : min (suc done) (full_kept first.items) ≡ min (suc done + 1) (full_kept first.items) = omega (arith, kept_most first.items) in
+    let count : min (suc done) (full_kept first) ≡ min (suc done + 1) (full_kept first) = omega (arith, kept_most first) in
     is ∙ ap (λ (n : ℕ). drop n view.order) (none (omega arith)) ∙ held ∙ ap (λ (n : ℕ). drop n first.order) count
 
 -- how many were saved at the start
 pub few_saved : (items : List (Option Item)) (view : SessionsView) → IsSoundView view → holders view.items ≡ holders items
-    → saved_items items ≤ ACTIVE_SESSIONS
+    → saved_items items ≤ SESSION_NUMBERS
 few_saved items view sound same =
     omega (
       arith,
@@ -256,17 +266,17 @@ few_saved items view sound same =
       count_by-le-length is_saved_item items,
     )
 
-pub few_all : (most saved done : ℕ) → most ≡ saved → most ≤ done → (1 ≤ done → saved ≤ ACTIVE_SESSIONS) → saved ≤ ACTIVE_SESSIONS
+pub few_all : (most saved done : ℕ) → most ≡ saved → most ≤ done → (1 ≤ done → saved ≤ SESSION_NUMBERS) → saved ≤ SESSION_NUMBERS
 few_all most saved zero is all few = omega (arith, is, all)
 few_all most saved (suc done) is all few = few (omega arith)
 
 -- ---- the gap
 
-pub narrow_kept : (state : Option SlotState) (view : SessionsView) → Stand state view [] → IsSoundView view → gap_first view < RENEWAL_GAP
+pub narrow_kept : (state : Option SlotState) (view : SessionsView) → Stand state view [] → IsSoundView view → gap_first view < renewal_gap view.numbers
     → IsNarrow state
 narrow_kept None view stand sound narrow = tt
 narrow_kept (Some slots) view stand sound narrow =
-    omega (arith, narrow, first_risen view sound.saved stand.rise, gap_told slots view stand)
+    omega (arith, narrow, first_risen view sound.saved stand.rise, gap_told slots view stand, renewal_told slots view [] stand)
 
 gap_most : (counter start : ℕ) (oldest : Option ℕ) → ((n : ℕ) → oldest ≡ Some n → start ≤ n) → gap_from counter oldest ≤ counter - start
 gap_most counter start None above = omega arith
@@ -298,6 +308,7 @@ narrow_all (Some slots) view start most done stand progress all few =
       few,
       ap (gap_from slots.counter) (oldest_told slots view stand),
       gap_most slots.counter start (oldest_number view.items) (none_old start view.items none),
+      stand.sound.range.gap_least,
     )
 
 -- ---- the records that are visited

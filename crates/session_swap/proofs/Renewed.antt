@@ -5,21 +5,23 @@ use Rattle.std.specs.Prelude.{◌==◌, not, Result, Ok, Err, Option, Some, None
 use Rattle.std.proofs.lemmas.Bool.{false≢true, cases_lt, eq-eqb, eqb-false, ne_eqb, not-true}
 use Rattle.std.proofs.lemmas.List.{get_or-set_other, set-get_or, length-drop}
 use Rattle.std.proofs.lemmas.Option.{same_Some}
-use Rattle.tab_spec.specs.declared.TheConstants.{LOADED_SESSIONS}
+use Rattle.tab_spec.specs.declared.numbers.Numbers.{Numbers}
+use Rattle.tab_spec.specs.Numbers.{AreInRange}
+use Rattle.tab_spec.specs.declared.TheConstants.{CONTEXT_LIMIT}
 use Rattle.tab_spec.specs.Shape.{number_of_session}
 use Rattle.device_spec.specs.ContextCommands.{context_save_command}
 use Rattle.device_spec.specs.Slots.{SlotState, gap_from, gap_of, loaded_count}
 use Rattle.device_port.specs.Device.{Seen}
-use Rattle.session_swap.specs.declared.TheConstants.{RENEWAL_GAP}
+use Rattle.session_swap.specs.declared.TheConstants.{NEEDED_MOST}
 use Rattle.session_swap.specs.declared.record.Record.{Record}
-use Rattle.session_swap.specs.Items.{AreFree, AreKept, HasGapRoom, HasLastContext, IsFresh, IsRenewed, IsSentOut, Item, Lists, Names, Saved, counter_of, full_flag, full_kept, gap_in, holders, is_loaded_item, is_saved_item, item_at, item_of, loaded_items, number_of_item, oldest_number, rest_of, saved_items, saved_number}
+use Rattle.session_swap.specs.Items.{AreFree, AreKept, HasGapRoom, HasLastContext, IsFresh, IsRenewed, IsSentOut, Item, Lists, Names, Saved, SessionsView, counter_of, full_flag, full_kept, gap_in, holders, is_loaded_item, is_saved_item, item_at, item_of, loaded_items, number_of_item, oldest_number, renewal_gap, rest_of, saved_items, saved_number}
 use Rattle.session_swap.specs.Records.{items_of, view_of}
-use Rattle.session_swap.specs.Moves.{Loads, Ready, Saves, Swaps}
+use Rattle.session_swap.specs.Moves.{HasNumber, Loads, Ready, Saves, Swaps}
 use Rattle.session_swap.proofs.Counts.{count_set, flag_false, flag_most, flag_true}
 use Rattle.session_swap.proofs.Among.{loaded_inside, named_again, named_is, not_loaded, saved_inside}
 use Rattle.session_swap.proofs.Gaps.{IsLeast, gap_falls, items_least, least_same, least_stays}
 use Rattle.session_swap.proofs.Moved.{has_item}
-use Rattle.session_swap.proofs.Told.{loaded_told}
+use Rattle.session_swap.proofs.Told.{loaded_told, numbers_kept, places_told}
 use Rattle.session_swap.proofs.Oldest.{has_last, number_below, number_once, oldest_told}
 
 -- what holds after a call that was answered, and after one that failed
@@ -104,52 +106,67 @@ one_in items new_items number is loaded items_are =
 
 -- ---- a move, over the states before and after it
 
-pub record Moved (state new_state : Option SlotState) (records : List Record) (next : ℕ) (new_records : List Record) (new_next : ℕ) : Type 0 where
-  pub ready : Ready state records next []
-  pub new_ready : Ready new_state new_records new_next []
+pub record Moved (numbers : Numbers) (state new_state : Option SlotState) (records : List Record) (next : ℕ) (new_records : List Record) (new_next : ℕ) : Type 0 where
+  pub ready : Ready state numbers records next []
+  pub new_ready : Ready new_state numbers new_records new_next []
   pub rest : rest_of new_state ≡ rest_of state
   pub gap : gap_in new_state + counter_of state ≤ gap_in state + counter_of new_state
 
-pub moved : {D : Type 0} {seen : D → Seen} {old new : D} {records : List Record} {next : ℕ}
-    {new_records : List Record} {new_next : ℕ} → Ready (seen old).state records next [] → Ready (seen new).state new_records new_next []
-    → Swaps seen old new records new_records → Moved (seen old).state (seen new).state records next new_records new_next
+pub moved : {D : Type 0} {numbers : Numbers} {seen : D → Seen} {old new : D} {records : List Record} {next : ℕ}
+    {new_records : List Record} {new_next : ℕ} → Ready (seen old).state numbers records next []
+    → Ready (seen new).state numbers new_records new_next [] → Swaps seen old new records new_records
+    → Moved numbers (seen old).state (seen new).state records next new_records new_next
 moved ready new_ready swaps = record { ready = ready; new_ready = new_ready; rest = swaps.rest; gap = swaps.gap }
 
 -- ---- places and gaps
 
 -- the gap leaves room for one context more
 abbrev pub FitsOne : Option SlotState → Type 0
-FitsOne state = IfSome state (λ slots. gap_of slots < RENEWAL_GAP + LOADED_SESSIONS)
+FitsOne state = IfSome state (λ slots. gap_of slots < renewal_gap slots.numbers + NEEDED_MOST)
 
 pub fits_room : (state : Option SlotState) → FitsOne state → HasGapRoom state
 fits_room None fits = tt
-fits_room (Some slots) fits = omega (arith, fits, flag_most (loaded_count slots.sessions == LOADED_SESSIONS))
+fits_room (Some slots) fits = omega (arith, fits, flag_most (loaded_count slots.sessions == slots.numbers.loaded))
 
-pub some_free : (state : Option SlotState) (records : List Record) (next : ℕ) → Ready state records next []
-    → loaded_items (items_of records) < LOADED_SESSIONS → AreFree state 1
+-- so that a session can be saved
+pub can_number : {numbers : Numbers} (state : Option SlotState) (records : List Record) (next : ℕ) (others : List ℕ)
+    → Ready state numbers records next others → FitsOne state → counter_of state < CONTEXT_LIMIT → HasNumber state
+can_number None records next others ready fits below = tt
+can_number (Some slots) records next others ready fits below =
+    record { below = below; narrow = omega (arith, fits, ready.stand.sound.range.gap_least) }
+
+pub some_free : {numbers : Numbers} (state : Option SlotState) (records : List Record) (next : ℕ) → Ready state numbers records next []
+    → loaded_items (items_of records) < numbers.loaded → AreFree state 1
 some_free None records next ready few = tt
-some_free (Some slots) records next ready few = omega (arith, few, loaded_told slots (view_of records next) ready.stand)
+some_free (Some slots) records next ready few = omega (arith, few, loaded_told slots (view_of _ records next) ready.stand, places_told slots (view_of _ records next) [] ready.stand)
 
 -- where all places are taken, a device that has a free one doesn't tell
-pub none_free : (state new_state : Option SlotState) (records : List Record) (next : ℕ) → Ready state records next []
-    → LOADED_SESSIONS ≤ loaded_items (items_of records) → rest_of new_state ≡ rest_of state → AreFree state 1
+pub none_free : {numbers : Numbers} (state new_state : Option SlotState) (records : List Record) (next : ℕ) → Ready state numbers records next []
+    → numbers.loaded ≤ loaded_items (items_of records) → rest_of new_state ≡ rest_of state → AreFree state 1
     → counter_of new_state ≡ counter_of state
 none_free None None records next ready full rest free = refl
 none_free None (Some new) records next ready full rest free = absurd cc
 none_free (Some slots) new_state records next ready full rest free =
-    absurd (omega (arith, full, free, loaded_told slots (view_of records next) ready.stand))
+    absurd (omega (
+      arith,
+      full,
+      free,
+      loaded_told slots (view_of _ records next) ready.stand,
+      places_told slots (view_of _ records next) [] ready.stand,
+    ))
 
 -- where all places are taken
-pub full_fits : (state : Option SlotState) (records : List Record) (next : ℕ) → Ready state records next [] → HasGapRoom state
-    → LOADED_SESSIONS ≤ loaded_items (items_of records) → FitsOne state
-full_fits None records next ready room full = tt
-full_fits (Some slots) records next ready room full =
-    let all : loaded_count slots.sessions ≡ LOADED_SESSIONS =
-    omega (arith, full, loaded_told slots (view_of records next) ready.stand, ready.stand.sound.loaded) in
+pub full_fits : (numbers : Numbers) (state : Option SlotState) (records : List Record) (next : ℕ) → Ready state numbers records next [] → HasGapRoom state
+    → numbers.loaded ≤ loaded_items (items_of records) → FitsOne state
+full_fits numbers None records next ready room full = tt
+full_fits numbers (Some slots) records next ready room full =
+    let view = view_of numbers records next in
+    let all : loaded_count slots.sessions ≡ slots.numbers.loaded =
+    omega (arith, full, loaded_told slots view ready.stand, places_told slots view [] ready.stand, ready.stand.sound.loaded) in
     omega (
       arith,
       room,
-      flag_true (loaded_count slots.sessions == LOADED_SESSIONS) (eq-eqb (loaded_count slots.sessions) LOADED_SESSIONS all),
+      flag_true (loaded_count slots.sessions == slots.numbers.loaded) (eq-eqb (loaded_count slots.sessions) slots.numbers.loaded all),
     )
 
 -- ---- a session is saved
@@ -165,52 +182,69 @@ pub freed : (state new_state : Option SlotState) (items new_items : List (Option
 freed state None items new_items number rest gap fits saves = record { free = tt; room = tt }
 freed None (Some new) items new_items number rest gap fits saves = absurd (let wrong = rest in cc)
 freed (Some slots) (Some new) items new_items number rest gap fits saves =
-    let apart = ne_eqb (loaded_count new.sessions) LOADED_SESSIONS (λ same. absurd (omega (arith, saves.free))) in
+    let apart = ne_eqb (loaded_count new.sessions) new.numbers.loaded (λ same. absurd (omega (arith, saves.free))) in
     record {
       free = saves.free;
-      room = omega (arith, gap, fits, saves.counted, flag_false (loaded_count new.sessions == LOADED_SESSIONS) apart);
+      room = omega (
+        arith,
+        gap,
+        fits,
+        saves.counted,
+        flag_false (loaded_count new.sessions == new.numbers.loaded) apart,
+        ap renewal_gap (numbers_kept slots new rest),
+      );
     }
 
 -- whether all places are taken
-pub not_full : (state : Option SlotState) (records : List Record) (next : ℕ) → Ready state records next []
-    → loaded_items (items_of records) < LOADED_SESSIONS → full_flag state ≡ 0
-not_full None records next ready few = refl
-not_full (Some slots) records next ready few =
-    flag_false (loaded_count slots.sessions == LOADED_SESSIONS)
-    (ne_eqb (loaded_count slots.sessions) LOADED_SESSIONS
-    (λ same. absurd (omega (arith, few, same, loaded_told slots (view_of records next) ready.stand))))
+pub not_full : (numbers : Numbers) (state : Option SlotState) (records : List Record) (next : ℕ) → Ready state numbers records next []
+    → loaded_items (items_of records) < numbers.loaded → full_flag state ≡ 0
+not_full numbers None records next ready few = refl
+not_full numbers (Some slots) records next ready few =
+    let view = view_of numbers records next in
+    flag_false (loaded_count slots.sessions == slots.numbers.loaded)
+    (ne_eqb (loaded_count slots.sessions) slots.numbers.loaded
+    (λ same. absurd (omega (arith, few, same, loaded_told slots view ready.stand, places_told slots view [] ready.stand))))
 
 -- the same by what is kept
-pub kept_full : (items : List (Option Item)) → loaded_items items ≡ LOADED_SESSIONS → full_kept items ≡ 1
-kept_full items all = flag_true (loaded_items items == LOADED_SESSIONS) (eq-eqb (loaded_items items) LOADED_SESSIONS all)
+pub kept_full : (view : SessionsView) → loaded_items view.items ≡ view.numbers.loaded → full_kept view ≡ 1
+kept_full view all = flag_true (loaded_items view.items == view.numbers.loaded) (eq-eqb (loaded_items view.items) view.numbers.loaded all)
 
-pub kept_free : (items : List (Option Item)) → loaded_items items < LOADED_SESSIONS → full_kept items ≡ 0
-kept_free items few =
-    flag_false (loaded_items items == LOADED_SESSIONS) (ne_eqb (loaded_items items) LOADED_SESSIONS (λ same. absurd (omega (arith, few, same))))
+pub kept_free : (view : SessionsView) → loaded_items view.items < view.numbers.loaded → full_kept view ≡ 0
+kept_free view few =
+    flag_false (loaded_items view.items == view.numbers.loaded)
+    (ne_eqb (loaded_items view.items) view.numbers.loaded (λ same. absurd (omega (arith, few, same))))
 
 -- so that one more fits in the list of the loaded sessions, where the first one left it in that case
-pub one_left : (items : List (Option Item)) (numbers new_numbers : List ℕ) → Lists numbers items → length numbers ≤ LOADED_SESSIONS
-    → new_numbers ≡ drop (full_kept items) numbers → length new_numbers < LOADED_SESSIONS
-one_left items numbers new_numbers lists most is =
-    let long : length new_numbers ≡ length numbers - full_kept items = ap length is ∙ length-drop (full_kept items) numbers in
-    elim (cases_lt (loaded_items items) LOADED_SESSIONS) [
-      | inl few ↦ omega (arith, long, few, lists.count, kept_free items few)
-      | inr full ↦ omega (arith, long, most, lists.count, kept_full items (omega (arith, full, most, lists.count)))
+pub one_left : (view : SessionsView) (listed new_listed : List ℕ) → AreInRange view.numbers → Lists listed view.items
+    → length listed ≤ view.numbers.loaded → new_listed ≡ drop (full_kept view) listed → length new_listed < view.numbers.loaded
+one_left view listed new_listed range lists most is =
+    let long : length new_listed ≡ length listed - full_kept view = ap length is ∙ length-drop (full_kept view) listed in
+    elim (cases_lt (loaded_items view.items) view.numbers.loaded) [
+      | inl few ↦ omega (arith, long, few, lists.count, kept_free view few)
+      | inr full ↦ omega (
+        arith,
+        long,
+        most,
+        lists.count,
+        range.loaded_least,
+        kept_full view (omega (arith, full, most, lists.count)),
+      )
     ]
 
 -- then the session that is saved takes one number
-pub one_taken : (state new_state : Option SlotState) (records : List Record) (next : ℕ) (new_items : List (Option Item)) (number : ℕ)
-    → Ready state records next [] → LOADED_SESSIONS ≤ loaded_items (items_of records) → rest_of new_state ≡ rest_of state
+pub one_taken : (numbers : Numbers) (state new_state : Option SlotState) (records : List Record) (next : ℕ) (new_items : List (Option Item)) (number : ℕ)
+    → Ready state numbers records next [] → numbers.loaded ≤ loaded_items (items_of records) → rest_of new_state ≡ rest_of state
     → Saves state new_state (items_of records) new_items number → counter_of new_state ≡ counter_of state + full_flag state
-one_taken None None records next new_items number ready full rest saves = refl
-one_taken None (Some new) records next new_items number ready full rest saves = absurd cc
-one_taken (Some slots) new_state records next new_items number ready full rest saves =
-    let all : loaded_count slots.sessions ≡ LOADED_SESSIONS =
-    omega (arith, full, loaded_told slots (view_of records next) ready.stand, ready.stand.sound.loaded) in
+one_taken numbers None None records next new_items number ready full rest saves = refl
+one_taken numbers None (Some new) records next new_items number ready full rest saves = absurd cc
+one_taken numbers (Some slots) new_state records next new_items number ready full rest saves =
+    let view = view_of numbers records next in
+    let all : loaded_count slots.sessions ≡ slots.numbers.loaded =
+    omega (arith, full, loaded_told slots view ready.stand, places_told slots view [] ready.stand, ready.stand.sound.loaded) in
     omega (
       arith,
       saves.counted,
-      flag_true (loaded_count slots.sessions == LOADED_SESSIONS) (eq-eqb (loaded_count slots.sessions) LOADED_SESSIONS all),
+      flag_true (loaded_count slots.sessions == slots.numbers.loaded) (eq-eqb (loaded_count slots.sessions) slots.numbers.loaded all),
     )
 
 -- and one more where the renewed session is saved again
@@ -228,8 +262,8 @@ counter_saved None (Some new) items new_items number rest saves = absurd cc
 counter_saved (Some slots) new_state items new_items number rest saves = (omega (arith, saves.counted), omega (arith, saves.counted))
 
 -- the oldest number stays
-pub oldest_stays : (state new_state : Option SlotState) (records : List Record) (next : ℕ) (new_items : List (Option Item)) (number : ℕ)
-    → Ready state records next [] → is_loaded_item (item_at (items_of records) number) ≡ true → Saves state new_state (items_of records) new_items number
+pub oldest_stays : {numbers : Numbers} (state new_state : Option SlotState) (records : List Record) (next : ℕ) (new_items : List (Option Item)) (number : ℕ)
+    → Ready state numbers records next [] → is_loaded_item (item_at (items_of records) number) ≡ true → Saves state new_state (items_of records) new_items number
     → IfSome state (λ slots. (n : ℕ) → oldest_number (items_of records) ≡ Some n → oldest_number new_items ≡ Some n)
 oldest_stays None new_state records next new_items number ready is saves = tt
 oldest_stays (Some slots) new_state records next new_items number ready is saves = λ n oldest.
@@ -240,7 +274,7 @@ oldest_stays (Some slots) new_state records next new_items number ready is saves
     least_same g g (oldest_number new_items) (Some n) (λ i. refl) (items_least new_items)
     (least_stays f g number slots.counter n (loaded_number (item_at items number) is) saves.number_is
     (λ other apart. ap number_of_item (stays items new_items number other saves.items_are apart))
-    (number_below slots (view_of records next) ready.stand) least)
+    (number_below slots (view_of _ records next) ready.stand) least)
 
 -- a context with a lower number is another session's, which has it already
 pub fresh_saved : (state new_state : Option SlotState) (items new_items : List (Option Item)) (number : ℕ) → Saves state new_state items new_items number
@@ -263,16 +297,16 @@ oldest_still None (Some new) oldest new_oldest n rest same is = absurd cc
 oldest_still (Some slots) (Some new) oldest new_oldest n rest same is = same n is
 
 -- the gap gets smaller
-pub gap_left : (state new_state : Option SlotState) (records : List Record) (next : ℕ) (new_records : List Record) (new_next number n : ℕ)
-    → Moved state new_state records next new_records new_next → Loads state new_state (items_of records) (items_of new_records) number
+pub gap_left : (numbers : Numbers) (state new_state : Option SlotState) (records : List Record) (next : ℕ) (new_records : List Record) (new_next number n : ℕ)
+    → Moved numbers state new_state records next new_records new_next → Loads state new_state (items_of records) (items_of new_records) number
     → number_of_item (item_at (items_of records) number) ≡ Some n → IfSome state (λ slots. oldest_number (items_of records) ≡ Some n)
     → HasGapRoom state → FitsOne new_state
-gap_left state None records next new_records new_next number n moved loads is oldest room = tt
-gap_left None (Some new) records next new_records new_next number n moved loads is oldest room = absurd (let rest = moved.rest in cc)
-gap_left (Some slots) (Some new) records next new_records new_next number n moved loads is oldest room =
+gap_left numbers state None records next new_records new_next number n moved loads is oldest room = tt
+gap_left numbers None (Some new) records next new_records new_next number n moved loads is oldest room = absurd (let rest = moved.rest in cc)
+gap_left numbers (Some slots) (Some new) records next new_records new_next number n moved loads is oldest room =
     let items = items_of records in
     let new_items = items_of new_records in
-    let view = view_of records next in
+    let view = view_of numbers records next in
     let f = λ (i : ℕ). number_of_item (item_at items i) in
     let g = λ (i : ℕ). number_of_item (item_at new_items i) in
     let least = subst (λ (o : Option ℕ). IsLeast f o) oldest (items_least items) in
@@ -284,8 +318,8 @@ gap_left (Some slots) (Some new) records next new_records new_next number n move
     (λ other at. number_once slots view moved.ready.stand number other n is at) (omega arith) in
     let was : gap_of slots ≡ slots.counter - n = ap (gap_from slots.counter) (oldest_told slots view moved.ready.stand ∙ oldest) in
     let is_now : gap_of new ≡ gap_from new.counter (oldest_number new_items) =
-    ap (gap_from new.counter) (oldest_told new (view_of new_records new_next) moved.new_ready.stand) in
-    omega (arith, falls, room, was, is_now)
+    ap (gap_from new.counter) (oldest_told new (view_of numbers new_records new_next) moved.new_ready.stand) in
+    omega (arith, falls, room, was, is_now, ap renewal_gap (numbers_kept slots new moved.rest))
 
 -- so that one context more fits in again
 oldest_had : (state : Option SlotState) (items : List (Option Item)) (number n : ℕ)
@@ -294,16 +328,16 @@ oldest_had : (state : Option SlotState) (items : List (Option Item)) (number n :
 oldest_had None items number n oldest is = tt {0}
 oldest_had (Some slots) items number n oldest is = sym oldest ∙ is
 
-pub brought_fits : (start state new_state : Option SlotState) (items : List (Option Item)) (records : List Record) (next : ℕ) (new_records : List Record)
+pub brought_fits : {numbers : Numbers} (start state new_state : Option SlotState) (items : List (Option Item)) (records : List Record) (next : ℕ) (new_records : List Record)
     (new_next number : ℕ) → is_saved_item (item_at items number) ≡ true
     → IfSome start (λ slots. number_of_item (item_at items number) ≡ oldest_number items)
     → rest_of state ≡ rest_of start → item_at (items_of records) number ≡ item_at items number
     → IfSome start (λ slots. (n : ℕ) → oldest_number items ≡ Some n → oldest_number (items_of records) ≡ Some n)
-    → Moved state new_state records next new_records new_next → Loads state new_state (items_of records) (items_of new_records) number
+    → Moved numbers state new_state records next new_records new_next → Loads state new_state (items_of records) (items_of new_records) number
     → HasGapRoom state → FitsOne new_state
 brought_fits start state new_state items records next new_records new_next number saved oldest rest same still moved loads room =
     let had = has_last (item_at items number) saved in
-    gap_left state new_state records next new_records new_next number had.0 moved loads (ap number_of_item same ∙ had.1)
+    gap_left _ state new_state records next new_records new_next number had.0 moved loads (ap number_of_item same ∙ had.1)
     (oldest_still start state (oldest_number items) (oldest_number (items_of records)) had.0 rest still
     (oldest_had start items number had.0 oldest had.1)) room
 

@@ -4,7 +4,8 @@ use Rattle.std.specs.Prelude.{◌==◌, ◌||◌, Option, Some, None, is_some, I
 use Rattle.std.specs.List.{count_by, list_any}
 use Rattle.std.proofs.lemmas.Bool.{cases_eq, eq-eqb, eqb-true}
 use Rattle.std.proofs.lemmas.List.{get_or-set_same, get_or-set_other}
-use Rattle.tab_spec.specs.declared.TheConstants.{ACTIVE_SESSIONS}
+use Rattle.tab_spec.specs.declared.numbers.Numbers.{Numbers}
+use Rattle.tab_spec.specs.declared.TheConstants.{SESSION_NUMBERS}
 use Rattle.tab_spec.specs.Admission.{is_session_handle}
 use Rattle.tab_spec.specs.Session.{Session}
 use Rattle.tab_spec.specs.Shape.{number_of_session, octet_of}
@@ -92,11 +93,12 @@ changed_item slots new number (Some item) seed alike stands =
     }
 
 pub stands_changed : (slots new : SlotState) (view : SessionsView) (others : List ℕ) → SessionsStand slots view others
-    → new.started ≡ true → IsSlots new → new.counter ≡ slots.counter → new.persist.seed ≡ slots.persist.seed
+    → new.started ≡ true → IsSlots new → new.counter ≡ slots.counter → new.persist.seed ≡ slots.persist.seed → new.numbers ≡ slots.numbers
     → ((number : ℕ) → AreAlike (place_at slots number) (place_at new number)) → SessionsStand new view others
-stands_changed slots new view others stand started sound counter seed alike = record {
+stands_changed slots new view others stand started sound counter seed numbers alike = record {
   started = started;
   sound = sound;
+  numbers = numbers ∙ stand.numbers;
   count = stand.count;
   each = λ number. changed_item slots new number (item_at view.items number) seed alike (stand.each number);
   owned = λ number.
@@ -110,40 +112,41 @@ stands_changed slots new view others stand started sound counter seed alike = re
 -- the device after a move, and whatever else a command changed in it
 stands_by : (slots new : SlotState) (view : SessionsView) (others : List ℕ) (n : ℕ) (place : SessionPlace) (item : Option Item)
     → SessionsStand slots view others → new.started ≡ true → IsSlots new → new.counter ≡ slots.counter
-    → new.persist.seed ≡ slots.persist.seed → new.sessions ≡ set slots.sessions n place
+    → new.persist.seed ≡ slots.persist.seed → new.numbers ≡ slots.numbers → new.sessions ≡ set slots.sessions n place
     → Moves slots view.items n place slots.counter item → is_saved_item item ≡ false
     → SessionsStand new (record view { items = set view.items n item }) others
-stands_by slots new view others n place item stand started sound counter seed sessions moves unsaved =
+stands_by slots new view others n place item stand started sound counter seed numbers sessions moves unsaved =
     stands_changed (moved slots n place slots.counter) new (record view { items = set view.items n item }) others
     (stands_moved slots view others n place slots.counter item view.next view.order view.saved stand moves
     (λ some. stand.next (any_set is_saved_item view.items n item unsaved some))
     (rise_gone view.items n item view.saved (unsaved_none item unsaved) stand.rise))
-    started sound counter seed
+    started sound counter seed numbers
     (λ number.
     subst (λ (l : List SessionPlace). AreAlike (get_or (set slots.sessions n place) number inactive) (get_or l number inactive))
     (sym sessions) (alike_same (get_or (set slots.sessions n place) number inactive)))
 
-new_places : (slots new : SlotState) (n : ℕ) (place : SessionPlace) → IsSlots new → new.counter ≡ slots.counter
-    → new.sessions ≡ set slots.sessions n place → ArePlaces slots.counter (set slots.sessions n place)
-new_places slots new n place sound counter sessions =
-    subst (λ (c : ℕ). ArePlaces c (set slots.sessions n place)) counter
-    (subst (λ (l : List SessionPlace). ArePlaces new.counter l) sessions (are_places new sound))
+new_places : (slots new : SlotState) (n : ℕ) (place : SessionPlace) → IsSlots new → new.counter ≡ slots.counter → new.numbers ≡ slots.numbers
+    → new.sessions ≡ set slots.sessions n place → ArePlaces slots.numbers.loaded slots.counter (set slots.sessions n place)
+new_places slots new n place sound counter numbers sessions =
+    subst (λ (own : Numbers). ArePlaces own.loaded slots.counter (set slots.sessions n place)) numbers
+    (subst (λ (c : ℕ). ArePlaces new.numbers.loaded c (set slots.sessions n place)) counter
+    (subst (λ (l : List SessionPlace). ArePlaces new.numbers.loaded new.counter l) sessions (are_places new sound)))
 
 beginning : (slots new : SlotState) (view : SessionsView) (others : List ℕ) (client handle : ℕ) (s : Session)
-    → SessionsStand slots view others → IsSlots new → new.counter ≡ slots.counter
+    → SessionsStand slots view others → IsSlots new → new.counter ≡ slots.counter → new.numbers ≡ slots.numbers
     → item_at view.items (number_of_session handle) ≡ None
-    → is_session_handle handle ≡ true → number_of_session handle < ACTIVE_SESSIONS
+    → is_session_handle handle ≡ true → number_of_session handle < SESSION_NUMBERS
     → place_at slots (number_of_session handle) ≡ inactive
     → new.sessions ≡ set slots.sessions (number_of_session handle) (loaded (octet_of handle) s)
     → Moves slots view.items (number_of_session handle) (loaded (octet_of handle) s) slots.counter
     (Some (new_item client handle))
-beginning slots new view others client handle s stand sound counter none is fits unused sessions =
+beginning slots new view others client handle s stand sound counter numbers none is fits unused sessions =
     let n = number_of_session handle in
     let place = loaded (octet_of handle) s in
     let inside : n < length slots.sessions = omega (arith, fits, stand.sound.numbers) in
     record {
       fits = fits;
-      places = new_places slots new n place sound counter sessions;
+      places = new_places slots new n place sound counter numbers sessions;
       limit = stand.sound.counter;
       stands = record {
         number_is = refl;
@@ -163,25 +166,25 @@ beginning slots new view others client handle s stand sound counter none is fits
 
 pub stands_begun : (slots new : SlotState) (view : SessionsView) (others : List ℕ) (client handle : ℕ) (s : Session)
     → SessionsStand slots view others → new.started ≡ true → IsSlots new → new.counter ≡ slots.counter
-    → new.persist.seed ≡ slots.persist.seed
+    → new.persist.seed ≡ slots.persist.seed → new.numbers ≡ slots.numbers
     → item_at view.items (number_of_session handle) ≡ None
-    → is_session_handle handle ≡ true → number_of_session handle < ACTIVE_SESSIONS
+    → is_session_handle handle ≡ true → number_of_session handle < SESSION_NUMBERS
     → place_at slots (number_of_session handle) ≡ inactive
     → new.sessions ≡ set slots.sessions (number_of_session handle) (loaded (octet_of handle) s)
     → SessionsStand new (record view { items = set view.items (number_of_session handle) (Some (new_item client handle)) }) others
-stands_begun slots new view others client handle s stand started sound counter seed none is fits unused sessions =
+stands_begun slots new view others client handle s stand started sound counter seed numbers none is fits unused sessions =
     stands_by slots new view others (number_of_session handle) (loaded (octet_of handle) s) (Some (new_item client handle))
-    stand started sound counter seed sessions
-    (beginning slots new view others client handle s stand sound counter none is fits unused sessions) refl
+    stand started sound counter seed numbers sessions
+    (beginning slots new view others client handle s stand sound counter numbers none is fits unused sessions) refl
 
 pub stands_ended : (slots new : SlotState) (view : SessionsView) (others : List ℕ) (handle : ℕ)
     → SessionsStand slots view others → new.started ≡ true → IsSlots new → new.counter ≡ slots.counter
-    → new.persist.seed ≡ slots.persist.seed → Names view.items handle
+    → new.persist.seed ≡ slots.persist.seed → new.numbers ≡ slots.numbers → Names view.items handle
     → new.sessions ≡ set slots.sessions (number_of_session handle) inactive
     → SessionsStand new (record view { items = set view.items (number_of_session handle) None }) others
-stands_ended slots new view others handle stand started sound counter seed named sessions =
+stands_ended slots new view others handle stand started sound counter seed numbers named sessions =
     let has = has_item view.items handle named in
-    stands_by slots new view others (number_of_session handle) inactive None stand started sound counter seed sessions
+    stands_by slots new view others (number_of_session handle) inactive None stand started sound counter seed numbers sessions
     (ending slots view others (number_of_session handle) has.item stand has.was) refl
 
 -- ---- a session is left to nobody, or its context is handed out or taken back
@@ -276,6 +279,7 @@ stands_held_as slots view others n client handed stand inside =
     record {
       started = stand.started;
       sound = stand.sound;
+      numbers = stand.numbers;
       count = length-set view.items n other ∙ stand.count;
       each = λ m.
           item_set view.items n m other (λ item. IfSome item (λ item. ItemStands slots m item)) inside

@@ -7,7 +7,7 @@ use Rattle.std.proofs.lemmas.List.{get_or-set_other, get_or-set_same, get_or_pas
 use Rattle.std.proofs.lemmas.Option.{none-some, same_Some}
 use Rattle.std.proofs.lemmas.List.Edits.{length-remove}
 use Rattle.std.proofs.lemmas.List.Sums.{get_or-le-sum_by, sum_by-append, sum_by-cons, sum_by-set, sum_by_push}
-use Rattle.tab_spec.specs.declared.TheConstants.{ACTIVE_SESSIONS}
+use Rattle.tab_spec.specs.declared.TheConstants.{SESSION_NUMBERS}
 use Rattle.device_port.specs.Use.{used_after, without_one}
 use Rattle.linked_records.specs.View.{IsListed, first_index, moved, put_back, taken_out}
 use Rattle.session_swap.specs.Items.{flag}
@@ -223,33 +223,33 @@ module _ (count : ℕ) (lists : List (List Entry)) (has : HasFirst count lists) 
 -- ---- the number of each session
 
 -- it stands in a list
-pub number_listed : (lists : List (List Entry)) (number : ℕ) → HasFirst ACTIVE_SESSIONS lists → number < ACTIVE_SESSIONS → IsListed lists number
+pub number_listed : (lists : List (List Entry)) (number : ℕ) → HasFirst SESSION_NUMBERS lists → number < SESSION_NUMBERS → IsListed lists number
 number_listed lists number has below =
-    listed lists number (omega (arith, has.once number, flag_true (ltb number ACTIVE_SESSIONS) (lt-ltb number ACTIVE_SESSIONS below)))
+    listed lists number (omega (arith, has.once number, flag_true (ltb number SESSION_NUMBERS) (lt-ltb number SESSION_NUMBERS below)))
 
 -- how often it stands in each of the lists
-pub in_each : (lists : List (List Entry)) (number : ℕ) → HasFirst ACTIVE_SESSIONS lists
+pub in_each : (lists : List (List Entry)) (number : ℕ) → HasFirst SESSION_NUMBERS lists
     → stands_in number (get_or lists 0 []) + count_by (λ one. one == number) (order_of lists).loaded
-    + count_by (λ one. one == number) (order_of lists).saved ≡ flag (ltb number ACTIVE_SESSIONS)
+    + count_by (λ one. one == number) (order_of lists).saved ≡ flag (ltb number SESSION_NUMBERS)
 in_each lists number has = sym (three (stands_in number) lists has.three) ∙ has.once number
 
-below_by : (number : ℕ) (below : Bool) → ltb number ACTIVE_SESSIONS ≡ below → 1 ≤ flag below → number < ACTIVE_SESSIONS
-below_by number true is some = ltb-true number ACTIVE_SESSIONS is
+below_by : (number : ℕ) (below : Bool) → ltb number SESSION_NUMBERS ≡ below → 1 ≤ flag below → number < SESSION_NUMBERS
+below_by number true is some = ltb-true number SESSION_NUMBERS is
 below_by number false is some = absurd (omega (arith, some))
 
-pub below_loaded : (lists : List (List Entry)) (number : ℕ) → HasFirst ACTIVE_SESSIONS lists
-    → 1 ≤ count_by (λ one. one == number) (order_of lists).loaded → number < ACTIVE_SESSIONS
+pub below_loaded : (lists : List (List Entry)) (number : ℕ) → HasFirst SESSION_NUMBERS lists
+    → 1 ≤ count_by (λ one. one == number) (order_of lists).loaded → number < SESSION_NUMBERS
 below_loaded lists number has some =
-    below_by number (ltb number ACTIVE_SESSIONS) refl (omega (arith, some, in_each lists number has))
+    below_by number (ltb number SESSION_NUMBERS) refl (omega (arith, some, in_each lists number has))
 
-pub below_saved : (lists : List (List Entry)) (number : ℕ) → HasFirst ACTIVE_SESSIONS lists
-    → 1 ≤ count_by (λ one. one == number) (order_of lists).saved → number < ACTIVE_SESSIONS
+pub below_saved : (lists : List (List Entry)) (number : ℕ) → HasFirst SESSION_NUMBERS lists
+    → 1 ≤ count_by (λ one. one == number) (order_of lists).saved → number < SESSION_NUMBERS
 below_saved lists number has some =
-    below_by number (ltb number ACTIVE_SESSIONS) refl (omega (arith, some, in_each lists number has))
+    below_by number (ltb number SESSION_NUMBERS) refl (omega (arith, some, in_each lists number has))
 
-pub below_either : (lists : List (List Entry)) (number : ℕ) (is_loaded : Bool) → HasFirst ACTIVE_SESSIONS lists
+pub below_either : (lists : List (List Entry)) (number : ℕ) (is_loaded : Bool) → HasFirst SESSION_NUMBERS lists
     → count_by (λ one. one == number) (order_of lists).loaded ≡ flag is_loaded
-    → count_by (λ one. one == number) (order_of lists).saved ≡ flag (not is_loaded) → number < ACTIVE_SESSIONS
+    → count_by (λ one. one == number) (order_of lists).saved ≡ flag (not is_loaded) → number < SESSION_NUMBERS
 below_either lists number true has loaded saved = below_loaded lists number has (omega (arith, loaded))
 below_either lists number false has loaded saved = below_saved lists number has (omega (arith, saved))
 
@@ -383,8 +383,8 @@ next_of list number at stands =
     ∙ ap (λ (l : List Entry). slice_get (names_of l) (length stands.before + 1)) (sym stands.is)
     ∙ ap (λ (k : ℕ). slice_get (names_of list) (k + 1)) stands.place
 
-pub loaded_below : (lists : List (List Entry)) (number at : ℕ) → HasFirst ACTIVE_SESSIONS lists → slice_get (order_of lists).loaded at ≡ Some number
-    → number < ACTIVE_SESSIONS
+pub loaded_below : (lists : List (List Entry)) (number at : ℕ) → HasFirst SESSION_NUMBERS lists → slice_get (order_of lists).loaded at ≡ Some number
+    → number < SESSION_NUMBERS
 loaded_below lists number at has is =
     let stands = stands_at (get_or lists 1 []) number at is in
     below_loaded lists number has (omega (

@@ -4,7 +4,8 @@
 use Rattle.std.specs.Prelude.{◌≡◌, ◌<◌, ◌≤◌, ◌⊎◌, ℕ, ◌+◌, ◌-◌, ◌*◌, ◌^◌, ◌==◌, ◌&&◌, ◌||◌, min, not, bytes_eq, Bool, true, false, List, [], ◌∷◌, ◌++◌, length, map, get_or, set, replicate, slice_get, Option, Some, None, is_some, IfSome, IsSomeAnd, Result, Ok, Err, OnErr, OnOk, take, drop, if◌then◌else◌}
 use Rattle.std.specs.Int.{w64, from_be_bytes}
 use Rattle.std.specs.List.{AllByRecursion, count_by, list_any}
-use Rattle.tab_spec.specs.declared.TheConstants.{ACTIVE_SESSIONS, CONTEXT_LIMIT, HEADER_BYTES, LOADED_SESSIONS, RC_SUCCESS, ST_NO_SESSIONS}
+use Rattle.tab_spec.specs.declared.TheConstants.{CONTEXT_LIMIT, HEADER_BYTES, RC_SUCCESS, SESSION_NUMBERS, ST_NO_SESSIONS}
+use Rattle.tab_spec.specs.declared.numbers.Numbers.{Numbers}
 use Rattle.tab_spec.specs.Admission.{is_session_handle}
 use Rattle.tab_spec.specs.Frame.{is_frame}
 use Rattle.tab_spec.specs.Reply.{response}
@@ -13,7 +14,7 @@ use Rattle.tab_spec.specs.Shape.{number_of_session, octet_of}
 use Rattle.device_port.specs.Device.{Seen, asked_of, last_of, sent_of}
 use Rattle.device_port.specs.Use.{all_used, first_unneeded, is_among, used_after, without_first, without_one}
 use Rattle.device_port.specs.declared.own.SwapError.{SwapError}
-use Rattle.session_swap.specs.declared.TheConstants.{RENEWAL_GAP}
+use Rattle.session_swap.specs.declared.TheConstants.{NEEDED_MOST}
 use Rattle.effect_spec.specs.Contexts.{session_context}
 use Rattle.device_spec.specs.Answers.{is_word, word_at}
 use Rattle.device_spec.specs.ContextCommands.{context_save_command}
@@ -33,9 +34,10 @@ pub record Item : Type 0 where
   pub saved : Option Saved
   pub handed : Option (List ℕ)
 
--- what is seen of a swapper: its sessions, by number, the number that the next context gets, the numbers of the loaded sessions,
--- the least recently used first, and those of the saved ones, in the order in which they were saved
+-- what is seen of a swapper: how much the device has room for, its sessions, by number, the number that the next context gets, the
+-- numbers of the loaded sessions, the least recently used first, and those of the saved ones, in the order in which they were saved
 pub record SessionsView : Type 0 where
+  pub numbers : Numbers
   pub items : List (Option Item)
   pub next : ℕ
   pub order : List ℕ
@@ -44,7 +46,7 @@ pub record SessionsView : Type 0 where
 -- ---- items
 
 abbrev pub no_items : List (Option Item)
-no_items = replicate ACTIVE_SESSIONS None
+no_items = replicate SESSION_NUMBERS None
 
 abbrev pub item_at : List (Option Item) → ℕ → Option Item
 item_at items number = get_or items number None
@@ -243,11 +245,14 @@ abbrev pub AreKept : ℕ → List (Option Item) → List (Option Item) → Type 
 AreKept number items new_items =
     (other : ℕ) → (other == number) ≡ false → is_saved_item (item_at items other) ≡ true → item_at new_items other ≡ item_at items other
 
--- `slots` is the state after the call: each session whose number was less than RENEWAL_GAP below the one that comes next then is as
--- it was
+-- context numbers are renewed where the gap is this wide: eight before the device refuses a save
+abbrev pub renewal_gap : Numbers → ℕ
+renewal_gap numbers = numbers.gap - 8
+
+-- `slots` is the state after the call: each session whose number was less than that below the one that comes next then is as it was
 abbrev pub KeepsRecent : SlotState → List (Option Item) → List (Option Item) → Type 0
 KeepsRecent slots items new_items =
-    (number last : ℕ) → number_of_item (item_at items number) ≡ Some last → slots.counter < last + RENEWAL_GAP
+    (number last : ℕ) → number_of_item (item_at items number) ≡ Some last → slots.counter < last + renewal_gap slots.numbers
     → item_at new_items number ≡ item_at items number
 
 -- the session of this number has a context of this number or a later one, and each lower number was there before
@@ -329,7 +334,8 @@ IsOwned slots items others =
 pub record SessionsStand (slots : SlotState) (view : SessionsView) (others : List ℕ) : Type 0 where
   pub started : slots.started ≡ true
   pub sound : IsSlots slots
-  pub count : length view.items ≡ ACTIVE_SESSIONS
+  pub numbers : slots.numbers ≡ view.numbers
+  pub count : length view.items ≡ SESSION_NUMBERS
   pub each : (number : ℕ) → IfSome (item_at view.items number) (λ item. ItemStands slots number item)
   pub owned : IsOwned slots view.items others
   pub next : list_any is_saved_item view.items ≡ true → view.next ≡ slots.counter
@@ -347,24 +353,25 @@ AreAlike (saved octet number) other = other ≡ saved octet number
 
 -- so many places for loaded sessions are free
 abbrev pub AreFree : Option SlotState → ℕ → Type 0
-AreFree state count = IfSome state (λ slots. loaded_count slots.sessions + count ≤ LOADED_SESSIONS)
+AreFree state count = IfSome state (λ slots. loaded_count slots.sessions + count ≤ slots.numbers.loaded)
 
 -- ---- the gap
 
 -- no renewal is due
 abbrev pub IsNarrow : Option SlotState → Type 0
-IsNarrow state = IfSome state (λ slots. gap_of slots < RENEWAL_GAP)
+IsNarrow state = IfSome state (λ slots. gap_of slots < renewal_gap slots.numbers)
 
 -- the next commands of the broker's own don't meet the device's gap: three contexts fit in, and one more where a session has
 -- to be saved before another is loaded
 abbrev pub HasGapRoom : Option SlotState → Type 0
 HasGapRoom state =
-    IfSome state (λ slots. gap_of slots + flag (loaded_count slots.sessions == LOADED_SESSIONS) ≤ RENEWAL_GAP + LOADED_SESSIONS)
+    IfSome state
+    (λ slots. gap_of slots + flag (loaded_count slots.sessions == slots.numbers.loaded) ≤ renewal_gap slots.numbers + NEEDED_MOST)
 
 -- 1 where every place for a loaded session is taken, and else 0
 abbrev pub full_flag : Option SlotState → ℕ
 full_flag None = 0
-full_flag (Some slots) = flag (loaded_count slots.sessions == LOADED_SESSIONS)
+full_flag (Some slots) = flag (loaded_count slots.sessions == slots.numbers.loaded)
 
 -- ---- the last command, over every device
 
@@ -419,6 +426,7 @@ pub record KeepsSessions (old_state new_state : Option SlotState) (old new : Lis
 
 -- every session stands as before, and whose it is; the device keeps what is neither a session nor the number of its next context
 pub record Moved {D : Type 0} (seen : D → Seen) (old new : D) (view new_view : SessionsView) : Type 0 where
+  pub numbers : new_view.numbers ≡ view.numbers
   pub sessions : KeepsSessions (seen old).state (seen new).state view.items new_view.items
   pub stand : Stand (seen new).state new_view []
   pub rest : KeepsRest seen old new
@@ -432,12 +440,12 @@ pub record StillStand {D : Type 0} (seen : D → Seen) (old new : D) (view new_v
 -- sessions that a command needs: each is there, and so many new ones fit beside them
 pub record AreNeeded (needed : List ℕ) (new_places : ℕ) (items : List (Option Item)) : Type 0 where
   pub named : AreNamed needed items
-  pub fits : length needed + new_places ≤ LOADED_SESSIONS
+  pub fits : length needed + new_places ≤ NEEDED_MOST
 
 -- they are loaded, and so many places are free
-pub record HavePlaces (needed : List ℕ) (new_places : ℕ) (state : Option SlotState) (items : List (Option Item)) : Type 0 where
-  pub loaded : AreLoaded needed items
-  pub few : loaded_items items + new_places ≤ LOADED_SESSIONS
+pub record HavePlaces (needed : List ℕ) (new_places : ℕ) (state : Option SlotState) (view : SessionsView) : Type 0 where
+  pub loaded : AreLoaded needed view.items
+  pub few : loaded_items view.items + new_places ≤ view.numbers.loaded
   pub free : AreFree state new_places
 
 -- ---- what moves cost
@@ -447,12 +455,12 @@ abbrev pub numbers_of : List ℕ → List ℕ
 numbers_of handles = map number_of_session handles
 
 -- how many sessions have to be saved, so that there is room for what is needed and for so many new ones
-abbrev pub evictions : List ℕ → ℕ → List (Option Item) → ℕ
-evictions needed new_places items = loaded_items items + missing needed items + new_places - LOADED_SESSIONS
+abbrev pub evictions : List ℕ → ℕ → SessionsView → ℕ
+evictions needed new_places view = loaded_items view.items + missing needed view.items + new_places - view.numbers.loaded
 
 -- how many commands make that room, and load what is needed: one saves a session, and one loads one
-abbrev pub moves_of : List ℕ → ℕ → List (Option Item) → ℕ
-moves_of needed new_places items = evictions needed new_places items + missing needed items
+abbrev pub moves_of : List ℕ → ℕ → SessionsView → ℕ
+moves_of needed new_places view = evictions needed new_places view + missing needed view.items
 
 -- these are the numbers of the sessions of this sort, each once
 pub record ListsThose (is : Option Item → Bool) (numbers : List ℕ) (items : List (Option Item)) : Type 0 where
@@ -472,22 +480,22 @@ without_all listed (one ∷ needed) = without_all (without_one one listed) neede
 -- is used
 pub record MakesRoom {D : Type 0} (seen : D → Seen) (old new : D) (needed : List ℕ) (new_places : ℕ) (view new_view : SessionsView)
     (result : Result (Unit {0}) SwapError) : Type 0 where
-  pub sent : sent_of (seen new) ≤ sent_of (seen old) + moves_of needed new_places view.items
+  pub sent : sent_of (seen new) ≤ sent_of (seen old) + moves_of needed new_places view
   -- no more sessions have to leave than are to be loaded and started
-  pub few : evictions needed new_places view.items ≤ missing needed view.items + new_places
-  pub full : OnOk result (loaded_items new_view.items + evictions needed new_places view.items
+  pub few : evictions needed new_places view ≤ missing needed view.items + new_places
+  pub full : OnOk result (loaded_items new_view.items + evictions needed new_places view
       ≡ loaded_items view.items + missing needed view.items)
-  pub rest : evictions needed new_places view.items ≡ 0 → (number : ℕ) → is_loaded_item (item_at view.items number) ≡ true
+  pub rest : evictions needed new_places view ≡ 0 → (number : ℕ) → is_loaded_item (item_at view.items number) ≡ true
       → item_at new_view.items number ≡ item_at view.items number
-  pub idle : AreLoaded needed view.items → evictions needed new_places view.items ≡ 0
+  pub idle : AreLoaded needed view.items → evictions needed new_places view ≡ 0
       → (new ≡ old) × (new_view.items ≡ view.items) × (new_view.next ≡ view.next) × (result ≡ Ok tt)
   pub order : OnOk result (new_view.order
-      ≡ all_used (without_first (evictions needed new_places view.items) (numbers_of needed) view.order) (numbers_of needed))
+      ≡ all_used (without_first (evictions needed new_places view) (numbers_of needed) view.order) (numbers_of needed))
   -- those that leave come after the saved ones
   pub saved : OnOk result (new_view.saved
-      ≡ without_all (view.saved ++ first_unneeded (evictions needed new_places view.items) (numbers_of needed) view.order) (numbers_of needed))
+      ≡ without_all (view.saved ++ first_unneeded (evictions needed new_places view) (numbers_of needed) view.order) (numbers_of needed))
   -- after an error some of those that had to leave are gone, the first of them, and some of what is needed is used, the first of it
-  pub failed : OnErr result ((gone used : ℕ) × (gone ≤ evictions needed new_places view.items)
+  pub failed : OnErr result ((gone used : ℕ) × (gone ≤ evictions needed new_places view)
       × (new_view.order ≡ all_used (without_first gone (numbers_of needed) view.order) (take used (numbers_of needed)))
       × (new_view.saved ≡ without_all (view.saved ++ first_unneeded gone (numbers_of needed) view.order) (take used (numbers_of needed))))
   pub listed : Lists new_view.order new_view.items
@@ -497,7 +505,7 @@ pub record MakesRoom {D : Type 0} (seen : D → Seen) (old new : D) (needed : Li
 -- a session can be saved for its client
 pub record MayHandOut (state : Option SlotState) (handle : ℕ) (items : List (Option Item)) : Type 0 where
   pub loaded : is_loaded_item (item_of items handle) ≡ true
-  pub gap : gap_in state < RENEWAL_GAP + LOADED_SESSIONS
+  pub gap : IfSome state (λ slots. gap_of slots < renewal_gap slots.numbers + NEEDED_MOST)
   pub counter : counter_of state + 1000 ≤ CONTEXT_LIMIT
 
 -- a session was ended, and the others stand as before
@@ -530,29 +538,29 @@ pub record Renews (old new : Seen) (handle : ℕ) (items new_items : List (Optio
   pub exact : IfSome new.state (λ slots. slots.counter ≡ counter_of old.state + full_flag old.state + 1)
 
 -- 1 where every place is taken, by what is kept
-abbrev pub full_kept : List (Option Item) → ℕ
-full_kept items = flag (loaded_items items == LOADED_SESSIONS)
+abbrev pub full_kept : SessionsView → ℕ
+full_kept view = flag (loaded_items view.items == view.numbers.loaded)
 
 -- in which order sessions were used and saved after the session of a handle was renewed: where no place was free, the least recently
 -- used one was saved before
 pub record IsSavedAgain (view new_view : SessionsView) (handle : ℕ) : Type 0 where
-  pub order : new_view.order ≡ drop (full_kept view.items) view.order
-  pub saved : new_view.saved ≡ used_after (view.saved ++ take (full_kept view.items) view.order) (number_of_session handle)
+  pub order : new_view.order ≡ drop (full_kept view) view.order
+  pub saved : new_view.saved ≡ used_after (view.saved ++ take (full_kept view) view.order) (number_of_session handle)
 
 -- how far a renewal raises the number that comes next at the most, also one that failed; the gap leaves room afterwards. It sends a
 -- ContextLoad and a ContextSave, and another ContextSave first where every place is taken
-pub record RenewalCounts {D : Type 0} (seen : D → Seen) (old new : D) (items : List (Option Item)) : Type 0 where
+pub record RenewalCounts {D : Type 0} (seen : D → Seen) (old new : D) (view : SessionsView) : Type 0 where
   pub room : HasGapRoom (seen new).state
   pub counter : counter_of (seen new).state ≤ counter_of (seen old).state + 2
   pub counter_free : AreFree (seen old).state 1 → counter_of (seen new).state ≤ counter_of (seen old).state + 1
-  pub sent : sent_of (seen new) ≤ sent_of (seen old) + 2 + full_kept items
+  pub sent : sent_of (seen new) ≤ sent_of (seen old) + 2 + full_kept view
 
 -- what a refresh sends at the most: two commands for each session that was saved before, and one to free a place
 pub record RefreshCounts {D : Type 0} (seen : D → Seen) (old new : D) (items : List (Option Item)) : Type 0 where
   pub room : HasGapRoom (seen new).state
-  pub counter : counter_of (seen new).state ≤ counter_of (seen old).state + ACTIVE_SESSIONS + 1
+  pub counter : counter_of (seen new).state ≤ counter_of (seen old).state + SESSION_NUMBERS + 1
   pub sent : sent_of (seen new) ≤ sent_of (seen old) + 2 * saved_items items + 1
-  pub few : saved_items items ≤ ACTIVE_SESSIONS
+  pub few : saved_items items ≤ SESSION_NUMBERS
 
 -- so many contexts were renewed, and no renewal is due any more
 pub record Refreshes (state new_state : Option SlotState) (view new_view : SessionsView) (renewed : ℕ) : Type 0 where
@@ -561,9 +569,9 @@ pub record Refreshes (state new_state : Option SlotState) (view new_view : Sessi
   -- the number that comes next rises by one for each, and by one more where another session had to be saved before the first
   pub counted : IfSome new_state (λ slots. slots.counter ≡ counter_of state + renewed + min renewed (full_flag state))
   -- over every device: the gap above the session that was saved first is small, or each session that was saved was renewed
-  pub done : (gap_first new_view < RENEWAL_GAP) ⊎ (renewed ≡ saved_items view.items)
+  pub done : (gap_first new_view < renewal_gap new_view.numbers) ⊎ (renewed ≡ saved_items view.items)
   -- and the order of use stays, but for the least recently used session: where no place was free it was saved before the first renewal
-  pub order : new_view.order ≡ drop (min renewed (full_kept view.items)) view.order
+  pub order : new_view.order ≡ drop (min renewed (full_kept view)) view.order
 
 -- how many records of the lists a refresh visits at the most, where so many sessions were saved before
 abbrev pub Visited : ℕ → ℕ → ℕ → Result ℕ SwapError → Type 0

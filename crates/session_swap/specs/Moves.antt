@@ -1,7 +1,8 @@
 -- What the three commands that move sessions do to the state of a device, where it tells it (Part 3, "TPM2_ContextSave",
 -- "TPM2_ContextLoad", "TPM2_FlushContext").
 use Rattle.std.specs.Prelude.{◌≡◌, ◌<◌, ◌≤◌, ℕ, ◌+◌, ◌-◌, min, ◌==◌, Bool, true, false, List, [], length, map, set, get_or, Option, Some, None, is_some, IfSome, IsSomeAnd, Result, Ok, OnErr, OnOk, drop, take}
-use Rattle.tab_spec.specs.declared.TheConstants.{CONTEXT_GAP, CONTEXT_LIMIT, HEADER_BYTES, LOADED_SESSIONS}
+use Rattle.tab_spec.specs.declared.TheConstants.{CONTEXT_LIMIT, HEADER_BYTES}
+use Rattle.tab_spec.specs.declared.numbers.Numbers.{Numbers}
 use Rattle.tab_spec.specs.Frame.{is_frame}
 use Rattle.tab_spec.specs.Session.{Session}
 use Rattle.tab_spec.specs.Shape.{number_of_session, octet_of}
@@ -11,9 +12,9 @@ use Rattle.device_port.specs.declared.own.SwapError.{SwapError}
 use Rattle.device_port.specs.Own.{IsAnswered, Succeeds}
 use Rattle.device_port.specs.Use.{is_among}
 use Rattle.device_spec.specs.Slots.{SessionPlace, SlotState, IsSlots, inactive, loaded, saved, gap_of, loaded_count, loaded_session, place_of, session_at, session_of_context, with_place}
-use Rattle.session_swap.specs.declared.TheConstants.{RENEWAL_GAP}
+use Rattle.session_swap.specs.declared.TheConstants.{NEEDED_MOST}
 use Rattle.session_swap.specs.declared.record.Record.{Record}
-use Rattle.session_swap.specs.Items.{AreFree, AreLoaded, AreNamed, HandsOut, HasGapRoom, IsFresh, IsRenewed, IsSentOut, Item, KeepsSessions, Names, Rise, Stand, context_number, counter_of, full_flag, full_kept, gap_in, is_loaded_item, is_saved_item, item_at, item_of, item_session, loaded_items, missing, number_after, number_of_item, numbers_along, numbers_of, oldest_number, rest_of, saved_items}
+use Rattle.session_swap.specs.Items.{AreFree, AreLoaded, AreNamed, HandsOut, HasGapRoom, IsFresh, IsRenewed, IsSentOut, Item, KeepsSessions, Names, Rise, SessionsView, Stand, context_number, counter_of, full_flag, full_kept, gap_in, is_loaded_item, is_saved_item, item_at, item_of, item_session, loaded_items, missing, number_after, number_of_item, numbers_along, numbers_of, oldest_number, renewal_gap, rest_of, saved_items}
 use Rattle.session_swap.specs.Records.{AreRecords, IsContext, ListsIn, OrderView, items_of, order_evicted, order_filled, order_freed, order_in, view_of}
 
 -- ---- the state after each
@@ -58,7 +59,7 @@ with_handed context (Some item) = Some (record item { handed = Some context })
 -- there are numbers left for a context, and the oldest one isn't too old
 pub record MaySave (slots : SlotState) : Type 0 where
   pub below : slots.counter < CONTEXT_LIMIT
-  pub narrow : gap_of slots < CONTEXT_GAP
+  pub narrow : gap_of slots < slots.numbers.gap
 
 abbrev pub HasNumber : Option SlotState → Type 0
 HasNumber state = IfSome state MaySave
@@ -73,21 +74,21 @@ pub record IsIn (slots : SlotState) (handle : ℕ) : Type 0 where
 pub record IsOut (slots : SlotState) (handle : ℕ) (context : List ℕ) : Type 0 where
   pub started : slots.started ≡ true
   pub sound : IsSlots slots
-  pub room : loaded_count slots.sessions < LOADED_SESSIONS
+  pub room : loaded_count slots.sessions < slots.numbers.loaded
   pub number : ℕ
   pub place : place_of slots handle ≡ saved (octet_of handle) number
   pub there : is_some (session_at slots handle (Some context)) ≡ true
 
 -- a place for a loaded session is free
 abbrev pub HasPlace : Option SlotState → Type 0
-HasPlace state = IfSome state (λ slots. loaded_count slots.sessions < LOADED_SESSIONS)
+HasPlace state = IfSome state (λ slots. loaded_count slots.sessions < slots.numbers.loaded)
 
 -- ---- what moves keep
 
 -- records that moves may begin with, where these active numbers of the device are nobody's
-pub record Ready (state : Option SlotState) (records : List Record) (next : ℕ) (others : List ℕ) : Type 0 where
+pub record Ready (state : Option SlotState) (numbers : Numbers) (records : List Record) (next : ℕ) (others : List ℕ) : Type 0 where
   pub sound : AreRecords records
-  pub stand : Stand state (view_of records next) others
+  pub stand : Stand state (view_of numbers records next) others
 
 -- what moves of sessions keep, of a device and of the records: every session stands, and whose it is. The gap grows by no more
 -- than the number of the next context
@@ -132,10 +133,10 @@ pub record Stays (old_state new_state : Option SlotState) (items new_items : Lis
   pub items_are : new_items ≡ items
   pub state_is : new_state ≡ old_state
 
--- there are numbers for as many contexts as there are places, before the oldest one is too old
+-- there are numbers for as many contexts as one command needs, before the oldest one is too old
 pub record MaySaveAll (slots : SlotState) : Type 0 where
-  pub below : slots.counter + LOADED_SESSIONS ≤ CONTEXT_LIMIT
-  pub narrow : gap_of slots < RENEWAL_GAP
+  pub below : slots.counter + NEEDED_MOST ≤ CONTEXT_LIMIT
+  pub narrow : gap_of slots < renewal_gap slots.numbers
 
 abbrev pub HasContexts : Option SlotState → Type 0
 HasContexts state = IfSome state MaySaveAll
@@ -175,19 +176,19 @@ pub record IsOldestAt (state : Option SlotState) (items : List (Option Item)) (n
 
 -- a place was made free: the oldest context is the same one, and the number that comes next rose by one where none was free. Where
 -- every place was taken, the least recently used session left
-pub record Frees (state new_state : Option SlotState) (items new_items : List (Option Item)) (before after : OrderView) : Type 0 where
+pub record Frees (state new_state : Option SlotState) (view : SessionsView) (new_items : List (Option Item)) (before after : OrderView) : Type 0 where
   pub free : AreFree new_state 1
-  pub oldest : IfSome state (λ slots. (number : ℕ) → oldest_number items ≡ Some number → oldest_number new_items ≡ Some number)
+  pub oldest : IfSome state (λ slots. (number : ℕ) → oldest_number view.items ≡ Some number → oldest_number new_items ≡ Some number)
   pub exact : counter_of new_state ≡ counter_of state + full_flag state
-  pub order : after ≡ order_freed (full_kept items) before
+  pub order : after ≡ order_freed (full_kept view) before
 
 -- how far that raises the number that comes next at the most, and that one command is sent where every place is taken; the gap leaves
 -- room afterwards
-pub record FreeingCounts {D : Type 0} (seen : D → Seen) (old new : D) (items : List (Option Item)) : Type 0 where
+pub record FreeingCounts {D : Type 0} (seen : D → Seen) (old new : D) (view : SessionsView) : Type 0 where
   pub room : HasGapRoom (seen new).state
   pub counter : counter_of (seen new).state ≤ counter_of (seen old).state + 1
   pub counter_free : AreFree (seen old).state 1 → counter_of (seen new).state ≡ counter_of (seen old).state
-  pub sent : sent_of (seen new) ≤ sent_of (seen old) + full_kept items
+  pub sent : sent_of (seen new) ≤ sent_of (seen old) + full_kept view
 
 -- the session of a number was renewed (`Renews` of `Items.antt`, of the records)
 pub record RenewsAt (old new : Seen) (items new_items : List (Option Item)) (number : ℕ) : Type 0 where
@@ -222,20 +223,21 @@ abbrev pub RiseIn : Option SlotState → List (Option Item) → List ℕ → Typ
 RiseIn state items numbers = IfSome state (λ slots. Rise (numbers_along items numbers))
 
 -- records that moves may begin with, and the lists of their sessions
-pub record ReadyIn (state : Option SlotState) (records : List Record) (next : ℕ) (order : OrderView) : Type 0 where
-  pub ready : Ready state records next []
-  pub listed : ListsIn records order
+pub record ReadyIn (state : Option SlotState) (numbers : Numbers) (records : List Record) (next : ℕ) (order : OrderView) : Type 0 where
+  pub ready : Ready state numbers records next []
+  pub listed : ListsIn numbers records order
   pub rise : RiseIn state (items_of records) order.saved
 
 -- sessions that are to be loaded: they are there, and they fit beside those that are loaded
-pub record CanFill (records : List Record) (needed : List ℕ) : Type 0 where
+pub record CanFill (numbers : Numbers) (records : List Record) (needed : List ℕ) : Type 0 where
   pub named : AreNamed needed (items_of records)
-  pub fits : loaded_items (items_of records) + missing needed (items_of records) ≤ LOADED_SESSIONS
+  pub fits : loaded_items (items_of records) + missing needed (items_of records) ≤ numbers.loaded
 
--- sessions that are needed, where no more than so many others are to be loaded
+-- sessions that are needed, where no more than so many others are to be loaded, and no more have to leave than one command needs
 pub record CanClear (records : List Record) (needed : List ℕ) (most : ℕ) : Type 0 where
   pub named : AreNamed needed (items_of records)
   pub fits : length needed ≤ most + missing needed (items_of records)
+  pub few : loaded_items (items_of records) ≤ most + NEEDED_MOST
 
 -- loaded sessions are saved until so many are left, the least recently used first, and none that is needed
 pub record Evicts {D : Type 0} (seen : D → Seen) (old new : D) (records new_records : List Record) (before after : OrderView)
@@ -246,7 +248,7 @@ pub record Evicts {D : Type 0} (seen : D → Seen) (old new : D) (records new_re
   pub order : OnOk result (after ≡ order_evicted (loaded_items (items_of records) - most) (numbers_of needed) before)
   pub failed : OnErr result ((gone : ℕ) × (gone ≤ loaded_items (items_of records) - most) × (after ≡ order_evicted gone (numbers_of needed) before))
   pub sent : sent_of (seen new) ≤ sent_of (seen old) + (loaded_items (items_of records) - most)
-  pub counter : counter_of (seen new).state ≤ counter_of (seen old).state + LOADED_SESSIONS
+  pub counter : counter_of (seen new).state ≤ counter_of (seen old).state + NEEDED_MOST
 
 -- one session is loaded, by one command at most, and used
 pub record Brings {D : Type 0} (seen : D → Seen) (old new : D) (records new_records : List Record) (before after : OrderView) (handle : ℕ)
@@ -272,9 +274,9 @@ pub record Fills {D : Type 0} (seen : D → Seen) (old new : D) (records new_rec
   pub sent : sent_of (seen new) ≤ sent_of (seen old) + missing needed (items_of records)
   pub idle : AreLoaded needed (items_of records) → (new ≡ old) × (new_records ≡ records) × (result ≡ Ok tt)
 
--- what a swap moves: what is needed and loaded stays so, and no more contexts are made than there are places
+-- what a swap moves: what is needed and loaded stays so, and no more contexts are made than one command needs
 pub record SwapsFor {D : Type 0} (seen : D → Seen) (old new : D) (records new_records : List Record) (needed : List ℕ) : Type 0 where
   pub swaps : Swaps seen old new records new_records
   pub stay : (handle : ℕ) → is_among needed handle ≡ true → is_loaded_item (item_of (items_of records) handle) ≡ true
       → item_of (items_of new_records) handle ≡ item_of (items_of records) handle
-  pub counter : counter_of (seen new).state ≤ counter_of (seen old).state + LOADED_SESSIONS
+  pub counter : counter_of (seen new).state ≤ counter_of (seen old).state + NEEDED_MOST

@@ -4,7 +4,9 @@ use Rattle.std.specs.List.{All, count_by, sum_by}
 use Rattle.device_port.specs.Use.{first_unneeded, used_after, without_first, without_one}
 use Rattle.linked_records.specs.View.{record_count}
 use Rattle.tab_spec.specs.Shape.{number_of_session}
-use Rattle.tab_spec.specs.declared.TheConstants.{ACTIVE_SESSIONS, LOADED_SESSIONS}
+use Rattle.tab_spec.specs.declared.TheConstants.{SESSION_NUMBERS}
+use Rattle.tab_spec.specs.declared.numbers.Numbers.{Numbers}
+use Rattle.tab_spec.specs.Numbers.{AreInRange}
 use Rattle.tab_spec.specs.Admission.{is_session_handle}
 use Rattle.tab_spec.specs.Values.{Reading}
 use Rattle.effect_spec.specs.Contexts as contexts
@@ -45,13 +47,14 @@ pub record OrderView : Type 0 where
 abbrev pub no_order : OrderView
 no_order = record { loaded = []; saved = [] }
 
--- what is seen of the records, where these numbers are listed
-abbrev pub view_with : List Record → ℕ → OrderView → SessionsView
-view_with records next order = record { items = items_of records; next = next; order = order.loaded; saved = order.saved }
+-- what is seen of the records, over a device of these numbers, where the numbers of these sessions are listed
+abbrev pub view_with : Numbers → List Record → ℕ → OrderView → SessionsView
+view_with numbers records next order =
+    record { numbers = numbers; items = items_of records; next = next; order = order.loaded; saved = order.saved }
 
 -- the same where the order of the sessions doesn't count
-abbrev pub view_of : List Record → ℕ → SessionsView
-view_of records next = view_with records next no_order
+abbrev pub view_of : Numbers → List Record → ℕ → SessionsView
+view_of numbers records next = view_with numbers records next no_order
 
 -- the number of a context
 abbrev pub sequence_of : Reading Context → ℕ
@@ -81,27 +84,29 @@ pub record IsHandleOf (number : ℕ) (item : Item) : Type 0 where
 
 -- what holds of the records: there is one for each number
 pub record AreRecords (records : List Record) : Type 0 where
-  pub count : length records ≡ ACTIVE_SESSIONS
+  pub count : length records ≡ SESSION_NUMBERS
   pub each : All (λ r. IsRecord r) records
   pub handles : (number : ℕ) → IfSome (item_at (items_of records) number) (λ item. IsHandleOf number item)
 
--- each loaded session is listed, no more of them than there are places, and each saved one
-pub record ListsIn (records : List Record) (order : OrderView) : Type 0 where
+-- each loaded session is listed, no more of them than the device has places, and each saved one
+pub record ListsIn (numbers : Numbers) (records : List Record) (order : OrderView) : Type 0 where
+  pub range : AreInRange numbers
   pub lists : Lists order.loaded (items_of records)
-  pub most : length order.loaded ≤ LOADED_SESSIONS
+  pub most : length order.loaded ≤ numbers.loaded
   pub saved : ListsThose is_saved_item order.saved (items_of records)
 
 -- what holds of all that is kept: so many sessions are clients'
-pub record AreListed (records : List Record) (order : OrderView) (owned : ℕ) : Type 0 where
+pub record AreListed (numbers : Numbers) (records : List Record) (order : OrderView) (owned : ℕ) : Type 0 where
   pub sound : AreRecords records
-  pub listed : ListsIn records order
+  pub listed : ListsIn numbers records order
   pub owned_is : owned ≡ count_by has_owner (items_of records)
 
 -- and of what is seen of it
 pub record IsSoundView (view : SessionsView) : Type 0 where
-  pub count : length view.items ≡ ACTIVE_SESSIONS
+  pub range : AreInRange view.numbers
+  pub count : length view.items ≡ SESSION_NUMBERS
   pub lists : Lists view.order view.items
-  pub most : loaded_items view.items ≤ LOADED_SESSIONS
+  pub most : loaded_items view.items ≤ view.numbers.loaded
   pub saved : ListsThose is_saved_item view.saved view.items
 
 -- ---- the lists
@@ -129,7 +134,7 @@ pub record HasFirst (count : ℕ) (lists : List (List (ℕ × Unit {0}))) : Type
 
 -- the number of each session stands in a list; so many sessions are loaded, and so many saved
 pub record AreOrdered (lists : List (List (ℕ × Unit {0}))) (loaded saved : ℕ) : Type 0 where
-  pub all : HasFirst ACTIVE_SESSIONS lists
+  pub all : HasFirst SESSION_NUMBERS lists
   pub loaded_is : loaded ≡ length (order_of lists).loaded
   pub saved_is : saved ≡ length (order_of lists).saved
 

@@ -1,9 +1,8 @@
 ghost use Rattle.std.specs.Prelude.{◌≡◌, ◌≤◌, ◌<◌, ◌+◌, ◌*◌, [], IfOk, IfSome, Ok};
 ghost use Rattle.tab_spec.specs.declared.TheConstants.{CONTEXT_LIMIT};
-ghost use Rattle.session_swap.specs.declared.TheConstants.{RENEWAL_GAP};
 ghost use Rattle.session_swap.specs.Items.{HasGapRoom, KeepsRecent, Moved, RefreshCounts};
 ghost use Rattle.session_swap.specs.Items.{Refreshes, Stand, Visited, counter_of, gap_kept};
-ghost use Rattle.session_swap.specs.Items.{saved_items};
+ghost use Rattle.session_swap.specs.Items.{renewal_gap, saved_items};
 ghost use Rattle.device_port.specs.Own.{AsksSome};
 
 use crate::order::{Uncounted, Visits};
@@ -13,11 +12,11 @@ use linked_records::Steps;
 use std::sync::ledger::Ledger;
 use tab_bytes::Buffer;
 
-/// Renews contexts in the order in which they were saved, until the next number is less than 247
-/// above that of the first: so three sessions can be saved for the next command before the device's
-/// gap of 255 is met. It returns how many were renewed: no more than were saved before. Where the
-/// gap is small enough already, nothing is sent. After an error the same sessions stand, and
-/// another try may follow.
+/// Renews contexts in the order in which they were saved, until the next number is less than the
+/// device's gap, less eight, above that of the first: so three sessions can be saved for the next
+/// command before the gap is met. It returns how many were renewed: no more than were saved
+/// before. Where the gap is small enough already, nothing is sent. After an error the same
+/// sessions stand, and another try may follow.
 pub fn refresh<D: Device>(
     sessions: &mut Sessions,
     device: &mut D,
@@ -28,7 +27,7 @@ pub fn refresh<D: Device>(
         × (counter_of (D.seen device.old).state + 1000 ≤ CONTEXT_LIMIT) }
     ensures ok { IfOk result (λ renewed. Refreshes (D.seen device.old).state
         (D.seen device.new).state sessions.old sessions.new renewed) }
-    ensures still { gap_kept sessions.old < RENEWAL_GAP
+    ensures still { gap_kept sessions.old < renewal_gap sessions.old.numbers
         → (device.new ≡ device.old) × (sessions.new ≡ sessions.old) × (result ≡ Ok 0) }
     // A saved session whose context isn't due is as it was.
     ensures recent { IfSome (D.seen device.new).state
@@ -54,7 +53,7 @@ pub fn refresh_counted<D: Device, L: Ledger>(
         × (counter_of (D.seen device.old).state + 1000 ≤ CONTEXT_LIMIT) }
     ensures ok { IfOk result (λ renewed. Refreshes (D.seen device.old).state
         (D.seen device.new).state sessions.old sessions.new renewed) }
-    ensures still { gap_kept sessions.old < RENEWAL_GAP
+    ensures still { gap_kept sessions.old < renewal_gap sessions.old.numbers
         → (device.new ≡ device.old) × (sessions.new ≡ sessions.old) × (result ≡ Ok 0) }
     ensures recent { IfSome (D.seen device.new).state
         (λ slots. KeepsRecent slots sessions.old.items sessions.new.items) }
@@ -78,7 +77,7 @@ fn refresh_by<D: Device, C: Visits>(
         × (counter_of (D.seen device.old).state + 1000 ≤ CONTEXT_LIMIT) }
     ensures ok { IfOk result (λ renewed. Refreshes (D.seen device.old).state
         (D.seen device.new).state sessions.old sessions.new renewed) }
-    ensures still { gap_kept sessions.old < RENEWAL_GAP
+    ensures still { gap_kept sessions.old < renewal_gap sessions.old.numbers
         → (device.new ≡ device.old) × (sessions.new ≡ sessions.old) × (result ≡ Ok 0) }
     ensures recent { IfSome (D.seen device.new).state
         (λ slots. KeepsRecent slots sessions.old.items sessions.new.items) }

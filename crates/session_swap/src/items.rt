@@ -1,5 +1,6 @@
 ghost use Rattle.std.specs.Prelude.{◌≡◌, ℕ, List, true, [], IsSomeAnd, OnOk, OnErr};
 ghost use Rattle.tab_spec.specs.Values.{AreBytes};
+ghost use Rattle.tab_spec.specs.declared.numbers.Numbers.{Numbers};
 ghost use Rattle.device_spec.specs.ContextCommands.{context_load_command, context_save_command};
 ghost use Rattle.session_swap.specs.Items.{is_loaded_item, is_saved_item, item_at};
 ghost use Rattle.session_swap.specs.Records.{items_of};
@@ -21,12 +22,13 @@ pub fn put_out<D: Device>(
     scratch: &mut Buffer,
 ) -> Result<(), SwapError>
     requires loaded { is_loaded_item (item_at (items_of records.old) number) ≡ true }
-    requires ready { (others : List ℕ)
-        × Ready (D.seen device.old).state records.old next.old others }
+    requires ready { (numbers : Numbers) × (others : List ℕ)
+        × Ready (D.seen device.old).state numbers records.old next.old others }
     requires may { HasNumber (D.seen device.old).state }
     ensures swaps { Swaps D.seen device.old device.new records.old records.new }
-    ensures ready { (others : List ℕ) → Ready (D.seen device.old).state records.old next.old others
-        → Ready (D.seen device.new).state records.new next.new others }
+    ensures ready { (numbers : Numbers) (others : List ℕ)
+        → Ready (D.seen device.old).state numbers records.old next.old others
+        → Ready (D.seen device.new).state numbers records.new next.new others }
     ensures ok { OnOk result (PutsOut (D.seen device.old) (D.seen device.new) scratch.new
         (items_of records.old) (items_of records.new) number next.new) }
     ensures err { OnErr result (Stays (D.seen device.old).state (D.seen device.new).state
@@ -58,10 +60,13 @@ pub fn bring_in<D: Device>(
     scratch: &mut Buffer,
 ) -> Result<(), SwapError>
     requires saved { is_saved_item (item_at (items_of records.old) number) ≡ true }
-    requires ready { Ready (D.seen device.old).state records.old next [] }
+    requires ready { (numbers : Numbers)
+        × Ready (D.seen device.old).state numbers records.old next [] }
     requires place { HasPlace (D.seen device.old).state }
     ensures swaps { Swaps D.seen device.old device.new records.old records.new }
-    ensures ready { Ready (D.seen device.new).state records.new next [] }
+    ensures ready { (numbers : Numbers)
+        → Ready (D.seen device.old).state numbers records.old next []
+        → Ready (D.seen device.new).state numbers records.new next [] }
     ensures ok { OnOk result (Loads (D.seen device.old).state (D.seen device.new).state
         (items_of records.old) (items_of records.new) number) }
     ensures err { OnErr result (Stays (D.seen device.old).state (D.seen device.new).state

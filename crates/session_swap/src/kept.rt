@@ -16,7 +16,7 @@ use crate::record::{Place, Record};
 use crate::sessions::number_of;
 use device_spec::MOST_SESSION_CONTEXT_BYTES;
 use std::alloc::{AllocError, Global};
-use tab_spec::ACTIVE_SESSIONS;
+use tab_spec::SESSION_NUMBERS;
 
 impl Record {
     /// Whether there is a session with its number.
@@ -125,8 +125,8 @@ pub fn unused_records(alloc: Global) -> Result<Vec<Record>, AllocError>
     ensures sound { IfOk result (λ records. AreRecords records.items) }
     ensures none { IfOk result (λ records. items_of records.items ≡ no_items) }
 {
-    let mut records = Vec::with_capacity(alloc, ACTIVE_SESSIONS as usize)?;
-    for _ in 0..ACTIVE_SESSIONS {
+    let mut records = Vec::with_capacity(alloc, SESSION_NUMBERS as usize)?;
+    for _ in 0..SESSION_NUMBERS {
         let context = Vec::with_capacity(alloc, MOST_SESSION_CONTEXT_BYTES as usize)?;
         let handed = Vec::with_capacity(alloc, MOST_SESSION_CONTEXT_BYTES as usize)?;
         records

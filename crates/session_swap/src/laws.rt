@@ -1,5 +1,5 @@
 ghost use Rattle.std.specs.Prelude.{◌≡◌, ◌<◌, ℕ, List, Option, map, set, true, None, Some};
-ghost use Rattle.tab_spec.specs.declared.TheConstants.{ACTIVE_SESSIONS};
+ghost use Rattle.tab_spec.specs.declared.TheConstants.{SESSION_NUMBERS};
 ghost use Rattle.tab_spec.specs.Admission.{is_session_handle};
 ghost use Rattle.tab_spec.specs.Session.{Session};
 ghost use Rattle.tab_spec.specs.Shape.{number_of_session, octet_of};
@@ -13,14 +13,16 @@ pub fn sessions_stand_on()
     ensures changed { (slots new : SlotState) (view : SessionsView) (others : List ℕ)
         → SessionsStand slots view others → new.started ≡ true → IsSlots new
         → new.counter ≡ slots.counter → new.persist.seed ≡ slots.persist.seed
+        → new.numbers ≡ slots.numbers
         → ((number : ℕ) → AreAlike (place_at slots number) (place_at new number))
         → SessionsStand new view others }
     ensures begun { (slots new : SlotState) (view : SessionsView) (others : List ℕ)
         (client handle : ℕ) (s : Session)
         → SessionsStand slots view others → new.started ≡ true → IsSlots new
         → new.counter ≡ slots.counter → new.persist.seed ≡ slots.persist.seed
-        → item_at view.items (number_of_session handle) ≡ None → is_session_handle handle ≡ true
-        → number_of_session handle < ACTIVE_SESSIONS
+        → new.numbers ≡ slots.numbers → item_at view.items (number_of_session handle) ≡ None
+        → is_session_handle handle ≡ true
+        → number_of_session handle < SESSION_NUMBERS
         → place_at slots (number_of_session handle) ≡ inactive
         → new.sessions ≡ set slots.sessions (number_of_session handle) (loaded (octet_of handle) s)
         → SessionsStand new (record view {
@@ -29,7 +31,7 @@ pub fn sessions_stand_on()
     ensures ended { (slots new : SlotState) (view : SessionsView) (others : List ℕ) (handle : ℕ)
         → SessionsStand slots view others → new.started ≡ true → IsSlots new
         → new.counter ≡ slots.counter → new.persist.seed ≡ slots.persist.seed
-        → Names view.items handle
+        → new.numbers ≡ slots.numbers → Names view.items handle
         → new.sessions ≡ set slots.sessions (number_of_session handle) inactive
         → SessionsStand new (record view
         { items = set view.items (number_of_session handle) None }) others }

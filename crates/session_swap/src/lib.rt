@@ -20,7 +20,5 @@ pub use gap::{refresh, refresh_counted};
 pub use laws::sessions_stand_on;
 pub use sessions::Sessions;
 
-/// Where the number of the next session context is as far as this above the oldest one, the oldest
-/// contexts are renewed before the next command of a client (the project's own). The device refuses
-/// to save a session where it is 255.
-pub const RENEWAL_GAP: u64 = 247;
+/// A command needs at most so many sessions at once, named and new ones.
+pub const NEEDED_MOST: u32 = 3;

@@ -7,14 +7,14 @@ ghost use Rattle.linked_records.specs.View.{IsListed, first_index, moved};
 ghost use Rattle.session_swap.specs.Items.{flag};
 ghost use Rattle.session_swap.specs.Records.{HasFirst, names_in, no_order, order_in, order_out};
 ghost use Rattle.session_swap.specs.Records.{order_used, order_without};
-ghost use Rattle.tab_spec.specs.declared.TheConstants.{ACTIVE_SESSIONS};
+ghost use Rattle.tab_spec.specs.declared.TheConstants.{SESSION_NUMBERS};
 
 use device_port::SwapError;
 use linked_records::{Records, Steps};
 use std::alloc::{AllocError, Global};
 use std::marker::Model;
 use std::sync::ledger::Ledger;
-use tab_spec::ACTIVE_SESSIONS;
+use tab_spec::SESSION_NUMBERS;
 
 // The lists: the numbers that no session has, the loaded sessions, the saved ones.
 const UNUSED: u32 = 0;
@@ -83,10 +83,10 @@ impl Visits for Uncounted {
 
 // A number goes to the back of a list.
 fn carry<C: Visits>(lists: &mut Records<()>, number: usize, list: u32, steps: &mut C)
-    requires all { HasFirst ACTIVE_SESSIONS lists.old.lists }
-    requires number { number < ACTIVE_SESSIONS }
+    requires all { HasFirst SESSION_NUMBERS lists.old.lists }
+    requires number { number < SESSION_NUMBERS }
     requires list { list < 3 }
-    ensures all { HasFirst ACTIVE_SESSIONS lists.new.lists }
+    ensures all { HasFirst SESSION_NUMBERS lists.new.lists }
     ensures back { names_in lists.new.lists list
         ≡ used_after (names_in lists.old.lists list) number }
     ensures others { (other : ℕ) → (other == list) ≡ false
@@ -124,7 +124,7 @@ impl Order {
         ensures { IfOk result (λ order. order ≡ no_order) }
     {
         let mut lists = Records::new(alloc, 3)?;
-        for _ in 0..ACTIVE_SESSIONS {
+        for _ in 0..SESSION_NUMBERS {
             lists.reserve()?;
             lists.insert_back(UNUSED, ());
         }
@@ -180,7 +180,7 @@ impl Order {
 
     /// A session starts. It was used last.
     pub fn start(&mut self, number: usize)
-        requires number { number < ACTIVE_SESSIONS }
+        requires number { number < SESSION_NUMBERS }
         requires none { (count_by (λ one. one == number) self.old.loaded ≡ 0)
             × (count_by (λ one. one == number) self.old.saved ≡ 0) }
         ensures { self.new ≡ order_in number self.old }

@@ -1,14 +1,14 @@
 ghost use Rattle.std.specs.Prelude.{◌≡◌, ◌≤◌, ◌<◌, ◌||◌, not, ℕ, length, true, false};
 ghost use Rattle.std.specs.Prelude.{slice_get, Some, OnOk, MatchOption};
-ghost use Rattle.session_swap.specs.Items.{AreNamed, AreNeeded, HavePlaces, MakesRoom};
+ghost use Rattle.session_swap.specs.Items.{AreNamed, AreNeeded, HavePlaces, Lists, MakesRoom};
 ghost use Rattle.session_swap.specs.Items.{Names, counter_of, is_loaded_item, item_of};
 ghost use Rattle.session_swap.specs.Items.{loaded_items, missing};
-ghost use Rattle.session_swap.specs.Records.{AreRecords, ListsIn, items_of, view_with};
+ghost use Rattle.session_swap.specs.Records.{AreRecords, items_of, view_with};
 ghost use Rattle.session_swap.specs.Moves.{AllNeeded, Brings, CanClear, CanFill, Evicts, Fills};
 ghost use Rattle.session_swap.specs.Moves.{HasContexts, ReadyIn, Swaps, SwapsFor, handle_at};
 ghost use Rattle.device_port.specs.Own.{AsksSome};
 ghost use Rattle.device_port.specs.Use.{is_among};
-ghost use Rattle.tab_spec.specs.declared.TheConstants.{LOADED_SESSIONS};
+ghost use Rattle.tab_spec.specs.declared.numbers.Numbers.{Numbers};
 
 use crate::items::{bring_in, put_out};
 use crate::order::{Order, Uncounted};
@@ -16,7 +16,7 @@ use crate::record::Record;
 use crate::sessions::number_of;
 use device_port::{Device, SwapError};
 use tab_bytes::Buffer;
-use tab_spec::LOADED_SESSIONS;
+use tab_spec::Numbers;
 
 // Whether a session isn't loaded, and isn't one of these others.
 fn is_missing(records: &[Record], handle: u32, others: &[u32]) -> bool
@@ -55,7 +55,7 @@ fn is_needed(session: &Record, needed: &[u32]) -> bool
 // The loaded session that was used least recently, of those that aren't needed.
 fn unneeded(records: &[Record], order: &Order, needed: &[u32]) -> Option<usize>
     requires sound { AreRecords records.now }
-    requires listed { ListsIn records.now order.now }
+    requires listed { Lists order.now.loaded (items_of records.now) }
     ensures { MatchOption result
         (AllNeeded (items_of records.now) order.now.loaded needed.now (length order.now.loaded))
         (λ number. (at : ℕ) × (slice_get order.now.loaded at ≡ Some number)
@@ -63,7 +63,7 @@ fn unneeded(records: &[Record], order: &Order, needed: &[u32]) -> Option<usize>
         × AllNeeded (items_of records.now) order.now.loaded needed.now at) }
 {
     let mut here = order.first_loaded(&mut Uncounted);
-    for _ in 0..LOADED_SESSIONS {
+    for _ in 0..order.loaded() {
         let number = here?;
         if !is_needed(&records[number], needed) {
             return Some(number);
@@ -85,10 +85,13 @@ fn clear_places<D: Device>(
     scratch: &mut Buffer,
 ) -> Result<(), SwapError>
     requires needed { CanClear records.old needed.now most }
-    requires ready { ReadyIn (D.seen device.old).state records.old next.old order.old }
+    requires ready { (numbers : Numbers)
+        × ReadyIn (D.seen device.old).state numbers records.old next.old order.old }
     requires may { HasContexts (D.seen device.old).state }
     ensures swaps { Swaps D.seen device.old device.new records.old records.new }
-    ensures ready { ReadyIn (D.seen device.new).state records.new next.new order.new }
+    ensures ready { (numbers : Numbers)
+        → ReadyIn (D.seen device.old).state numbers records.old next.old order.old
+        → ReadyIn (D.seen device.new).state numbers records.new next.new order.new }
     ensures evicts { Evicts D.seen device.old device.new records.old records.new
         order.old order.new needed.now most result }
     ensures idle { loaded_items (items_of records.old) ≤ most → (device.new ≡ device.old)
@@ -114,11 +117,16 @@ fn make_loaded<D: Device>(
     scratch: &mut Buffer,
 ) -> Result<(), SwapError>
     requires named { Names (items_of records.old) handle }
-    requires ready { ReadyIn (D.seen device.old).state records.old next order.old }
-    requires place { is_loaded_item (item_of (items_of records.old) handle) ≡ false
-        → loaded_items (items_of records.old) < LOADED_SESSIONS }
+    requires ready { (numbers : Numbers)
+        × ReadyIn (D.seen device.old).state numbers records.old next order.old
+        × (is_loaded_item (item_of (items_of records.old) handle) ≡ false
+        → loaded_items (items_of records.old) < numbers.loaded) }
     ensures swaps { Swaps D.seen device.old device.new records.old records.new }
-    ensures ready { ReadyIn (D.seen device.new).state records.new next order.new }
+    ensures ready { (numbers : Numbers)
+        → ReadyIn (D.seen device.old).state numbers records.old next order.old
+        → (is_loaded_item (item_of (items_of records.old) handle) ≡ false
+        → loaded_items (items_of records.old) < numbers.loaded)
+        → ReadyIn (D.seen device.new).state numbers records.new next order.new }
     ensures counter { counter_of (D.seen device.new).state ≡ counter_of (D.seen device.old).state }
     ensures brings { Brings D.seen device.old device.new records.old records.new
         order.old order.new handle result }
@@ -143,10 +151,14 @@ fn fill_places<D: Device>(
     device: &mut D,
     scratch: &mut Buffer,
 ) -> Result<(), SwapError>
-    requires needed { CanFill records.old needed.now }
-    requires ready { ReadyIn (D.seen device.old).state records.old next order.old }
+    requires ready { (numbers : Numbers)
+        × ReadyIn (D.seen device.old).state numbers records.old next order.old
+        × CanFill numbers records.old needed.now }
     ensures swaps { Swaps D.seen device.old device.new records.old records.new }
-    ensures ready { ReadyIn (D.seen device.new).state records.new next order.new }
+    ensures ready { (numbers : Numbers)
+        → ReadyIn (D.seen device.old).state numbers records.old next order.old
+        → CanFill numbers records.old needed.now
+        → ReadyIn (D.seen device.new).state numbers records.new next order.new }
     ensures counter { counter_of (D.seen device.new).state ≡ counter_of (D.seen device.old).state }
     ensures fills { Fills D.seen device.old device.new records.old records.new
         order.old order.new needed.now result }
@@ -166,22 +178,23 @@ pub fn swap_sessions<D: Device>(
     order: &mut Order,
     needed: &[u32],
     new_places: u8,
+    numbers: Numbers,
     device: &mut D,
     scratch: &mut Buffer,
 ) -> Result<(), SwapError>
     requires needed { AreNeeded needed.now new_places (items_of records.old) }
-    requires ready { ReadyIn (D.seen device.old).state records.old next.old order.old }
+    requires ready { ReadyIn (D.seen device.old).state numbers records.old next.old order.old }
     requires may { HasContexts (D.seen device.old).state }
     ensures swaps { SwapsFor D.seen device.old device.new records.old records.new needed.now }
-    ensures ready { ReadyIn (D.seen device.new).state records.new next.new order.new }
-    ensures ok { OnOk result
-        (HavePlaces needed.now new_places (D.seen device.new).state (items_of records.new)) }
+    ensures ready { ReadyIn (D.seen device.new).state numbers records.new next.new order.new }
+    ensures ok { OnOk result (HavePlaces needed.now new_places (D.seen device.new).state
+        (view_with numbers records.new next.new order.new)) }
     ensures room { MakesRoom D.seen device.old device.new needed.now new_places
-        (view_with records.old next.old order.old)
-        (view_with records.new next.new order.new) result }
+        (view_with numbers records.old next.old order.old)
+        (view_with numbers records.new next.new order.new) result }
     ensures asks { AsksSome D.seen device.old device.new result }
 {
-    let most = LOADED_SESSIONS as usize - usize::from(new_places);
+    let most = usize::from(numbers.loaded) - usize::from(new_places);
     let missing = count_missing(records, needed);
     clear_places(
         records,

@@ -3,11 +3,12 @@ ghost use Rattle.std.specs.Prelude.{true, false, is_some, ◌*◌, length, None,
 ghost use Rattle.std.specs.Prelude.{◌-◌, IfErr, IfSome, MatchOption, OnOk, OnErr};
 ghost use Rattle.std.specs.List.{count_by, list_any};
 ghost use Rattle.tab_spec.specs.Shape.{number_of_session};
-ghost use Rattle.tab_spec.specs.declared.TheConstants.{ACTIVE_SESSIONS, CONTEXT_LIMIT};
-ghost use Rattle.tab_spec.specs.declared.TheConstants.{LOADED_SESSIONS, RC_1, RC_HANDLE, RC_P};
+ghost use Rattle.tab_spec.specs.declared.TheConstants.{CONTEXT_LIMIT, SESSION_NUMBERS};
+ghost use Rattle.tab_spec.specs.declared.TheConstants.{RC_1, RC_HANDLE, RC_P};
+ghost use Rattle.tab_spec.specs.Numbers.{AreInRange};
 ghost use Rattle.device_port.specs.Device.{last_of};
 ghost use Rattle.device_port.specs.Use.{without_one};
-ghost use Rattle.session_swap.specs.declared.TheConstants.{RENEWAL_GAP};
+ghost use Rattle.session_swap.specs.declared.TheConstants.{NEEDED_MOST};
 ghost use Rattle.tab_spec.specs.Admission.{is_session_handle};
 ghost use Rattle.device_spec.specs.Answers.{word_at};
 ghost use Rattle.device_spec.specs.Slots.{SlotState};
@@ -22,11 +23,11 @@ ghost use Rattle.session_swap.specs.Items.{flag, gap_in, gap_kept, numbers_along
 ghost use Rattle.session_swap.specs.Items.{has_owner, is_handed_to, is_loaded_item, is_orphan};
 ghost use Rattle.session_swap.specs.Items.{is_owned, is_owner, item_at, item_of, item_session};
 ghost use Rattle.session_swap.specs.Items.{loaded_items, may_take_back, new_item, no_items};
-ghost use Rattle.session_swap.specs.Items.{owner_in, saved_items, sessions_of, taken_back};
+ghost use Rattle.session_swap.specs.Items.{owner_in, renewal_gap, saved_items, sessions_of};
+ghost use Rattle.session_swap.specs.Items.{taken_back};
 ghost use Rattle.session_swap.specs.Records.{IsSoundView};
 ghost use Rattle.device_port.specs.Own.{Asks, AsksSome};
 
-use crate::RENEWAL_GAP;
 use crate::clients::save_for_client;
 use crate::kept::{
     find_handed, find_orphan, find_owned, gap_above, has_number, owner_of, unused_records,
@@ -42,7 +43,7 @@ use std::alloc::{AllocError, Global};
 use std::marker::Model;
 use std::sync::ledger::Ledger;
 use tab_bytes::Buffer;
-use tab_spec::{RC_1, RC_HANDLE, RC_P};
+use tab_spec::{Numbers, RC_1, RC_HANDLE, RC_P};
 
 /// The number of a session handle (Part 2, "TPM_HC").
 pub(crate) fn number_of(handle: u32) -> usize
@@ -61,9 +62,9 @@ fn less_one(count: u8, one: bool) -> u8
 
 /// The sessions of all clients, under at most 64 numbers: more of them than the device has places
 /// for loaded ones. Each is loaded, or saved in a context that the device made of it. It is seen as
-/// its items, by number, the number that the next context gets, the numbers of the loaded sessions,
-/// the least recently used first, and those of the saved ones, in the order in which they were
-/// saved.
+/// how much the device has room for, its items, by number, the number that the next context gets,
+/// the numbers of the loaded sessions, the least recently used first, and those of the saved ones,
+/// in the order in which they were saved.
 #[derive(Drop)]
 pub struct Sessions {
     records: Vec<Record>,
@@ -71,6 +72,8 @@ pub struct Sessions {
     next: u64,
     // How many of them clients have. The others are nobody's.
     owned: u8,
+    // How much the device has room for.
+    numbers: Numbers,
 }
 
 impl Model for Sessions {
@@ -79,16 +82,22 @@ impl Model for Sessions {
 
     ghost Value = { SessionsView };
 
-    ghost view = { λ s. view_with s.records.items s.next s.order };
+    ghost view = { λ s. view_with s.numbers s.records.items s.next s.order };
 
-    ghost invariant = { λ s. AreListed s.records.items s.order s.owned };
+    ghost invariant = { λ s. AreListed s.numbers s.records.items s.order s.owned };
 }
 
 impl Sessions {
-    /// No sessions. It takes the memory of all 64 numbers.
-    pub fn new(alloc: Global) -> Result<Sessions, AllocError>
-        ensures { IfOk result (λ s. s
-            ≡ record { items = no_items; next = 0; order = []; saved = [] }) }
+    /// No sessions, over a device of these numbers. It takes the memory of all 64 session numbers.
+    pub fn new(alloc: Global, numbers: Numbers) -> Result<Sessions, AllocError>
+        requires range { AreInRange numbers }
+        ensures { IfOk result (λ s. s ≡ record {
+          numbers = numbers;
+          items = no_items;
+          next = 0;
+          order = [];
+          saved = [];
+        }) }
     {
         let records = unused_records(alloc)?;
         let order = Order::new(alloc)?;
@@ -97,7 +106,15 @@ impl Sessions {
             order,
             next: 0,
             owned: 0,
+            numbers,
         })
+    }
+
+    /// How many sessions may be active at once, over all clients.
+    pub fn most(&self) -> u8
+        ensures { result ≡ self.now.numbers.active }
+    {
+        self.numbers.active
     }
 
     /// The client that has the session of this handle, and whether it is in use, that is, not saved
@@ -139,9 +156,9 @@ impl Sessions {
     /// How many sessions clients have, in use or saved by them. Those of nobody don't count.
     pub fn active(&self) -> u8
         ensures count { result ≡ count_by has_owner self.now.items }
-        ensures most { result ≤ ACTIVE_SESSIONS }
+        ensures most { result ≤ SESSION_NUMBERS }
         // There is an item for each number.
-        ensures numbers { length self.now.items ≡ ACTIVE_SESSIONS }
+        ensures numbers { length self.now.items ≡ SESSION_NUMBERS }
     {
         // So what holds of the fields is known here.
         let _ = &self.records;
@@ -212,11 +229,23 @@ impl Sessions {
         gap_above(&self.records, self.next, first)
     }
 
+    /// Where the number of the next session context is as far as this above the oldest one, the
+    /// oldest contexts are renewed before the next command of a client (the project's own). It is
+    /// eight less than the gap at which the device refuses to save a session.
+    pub fn renewal_gap(&self) -> u64
+        ensures { result ≡ renewal_gap self.now.numbers }
+    {
+        // So what holds of the fields is known here.
+        let _ = &self.records;
+        u64::from(self.numbers.gap) - 8
+    }
+
     /// The session that was saved first, where it is to be renewed; nothing where the gap is small
     /// enough.
     pub(crate) fn due<C: Visits>(&self, steps: &mut C) -> Option<u32>
-        ensures due { MatchOption result (gap_first self.now < RENEWAL_GAP)
-            (λ handle. IsFirst self.now handle × (RENEWAL_GAP ≤ gap_kept self.now)) }
+        ensures due { MatchOption result (gap_first self.now < renewal_gap self.now.numbers)
+            (λ handle. IsFirst self.now handle
+            × (renewal_gap self.now.numbers ≤ gap_kept self.now)) }
         ensures sound { IsSoundView self.now }
         ensures steps { C.count steps.new ≤ C.count steps.old + 1 }
         ensures rises { C.count steps.old ≤ C.count steps.new }
@@ -226,7 +255,7 @@ impl Sessions {
         // So what holds of the fields is known here.
         let _ = &self.records;
         let handle = self.oldest_by(steps)?;
-        if gap_above(&self.records, self.next, Some(number_of(handle))) < RENEWAL_GAP {
+        if gap_above(&self.records, self.next, Some(number_of(handle))) < self.renewal_gap() {
             return None;
         }
         Some(handle)
@@ -248,15 +277,15 @@ impl Sessions {
         requires may { IsNarrow (D.seen device.old).state
             × (counter_of (D.seen device.old).state + 1000 ≤ CONTEXT_LIMIT) }
         ensures ok { OnOk result
-            (HavePlaces needed.now new_places (D.seen device.new).state self.new.items) }
+            (HavePlaces needed.now new_places (D.seen device.new).state self.new) }
         // A needed session that is loaded stays so, also after an error.
         ensures stay { (handle : ℕ) → list_any (λ one. one == handle) needed.now ≡ true
             → is_loaded_item (item_of self.old.items handle) ≡ true
             → item_of self.new.items handle ≡ item_of self.old.items handle }
         ensures moved { Moved D.seen device.old device.new self.old self.new
-            × (gap_in (D.seen device.new).state < RENEWAL_GAP + LOADED_SESSIONS)
+            × (gap_in (D.seen device.new).state < renewal_gap self.old.numbers + NEEDED_MOST)
             × (counter_of (D.seen device.new).state
-            ≤ counter_of (D.seen device.old).state + LOADED_SESSIONS) }
+            ≤ counter_of (D.seen device.old).state + NEEDED_MOST) }
         ensures room { MakesRoom D.seen device.old device.new
             needed.now new_places self.old self.new result }
         ensures asks { AsksSome D.seen device.old device.new result }
@@ -267,6 +296,7 @@ impl Sessions {
             &mut self.order,
             needed,
             new_places,
+            self.numbers,
             device,
             scratch,
         )
@@ -275,9 +305,9 @@ impl Sessions {
     /// Holds a session for a client, which was started under this handle. It takes no memory.
     pub fn adopt_session(&mut self, client: u32, handle: u32)
         requires session { is_session_handle handle ≡ true }
-        requires number { number_of_session handle < ACTIVE_SESSIONS }
+        requires number { number_of_session handle < SESSION_NUMBERS }
         requires unused { item_at self.old.items (number_of_session handle) ≡ None }
-        requires place { loaded_items self.old.items < LOADED_SESSIONS }
+        requires place { loaded_items self.old.items < self.old.numbers.loaded }
         ensures { self.new ≡ record self.old {
           items = set self.old.items (number_of_session handle) (Some (new_item client handle));
           order = self.old.order ++ number_of_session handle ∷ [];
@@ -437,7 +467,7 @@ impl Sessions {
         // Every other session that was saved stays where it was.
         ensures others { AreKept (number_of_session handle) self.old.items self.new.items }
         ensures moved { Moved D.seen device.old device.new self.old self.new }
-        ensures counts { RenewalCounts D.seen device.old device.new self.old.items }
+        ensures counts { RenewalCounts D.seen device.old device.new self.old }
         ensures asks { AsksSome D.seen device.old device.new result }
     {
         self.renew_by(device, handle, scratch, &mut Uncounted)
@@ -460,8 +490,8 @@ impl Sessions {
             self.old.items self.new.items × IsSavedAgain self.old self.new handle) }
         ensures others { AreKept (number_of_session handle) self.old.items self.new.items }
         ensures moved { Moved D.seen device.old device.new self.old self.new }
-        ensures counts { RenewalCounts D.seen device.old device.new self.old.items
-            × (steps.new ≤ steps.old + 10 + 6 * full_kept self.old.items) }
+        ensures counts { RenewalCounts D.seen device.old device.new self.old
+            × (steps.new ≤ steps.old + 10 + 6 * full_kept self.old) }
         ensures counted { OnOk result (steps.old + 4 ≤ steps.new) }
         ensures asks { AsksSome D.seen device.old device.new result }
     {
@@ -483,8 +513,8 @@ impl Sessions {
             self.old.items self.new.items × IsSavedAgain self.old self.new handle) }
         ensures others { AreKept (number_of_session handle) self.old.items self.new.items }
         ensures moved { Moved D.seen device.old device.new self.old self.new }
-        ensures counts { RenewalCounts D.seen device.old device.new self.old.items
-            × (C.count steps.new ≤ C.count steps.old + 10 + 6 * full_kept self.old.items) }
+        ensures counts { RenewalCounts D.seen device.old device.new self.old
+            × (C.count steps.new ≤ C.count steps.old + 10 + 6 * full_kept self.old) }
         ensures counted { OnOk result (C.count steps.old + 4 * C.weight ≤ C.count steps.new) }
         ensures asks { AsksSome D.seen device.old device.new result }
     {
@@ -493,6 +523,7 @@ impl Sessions {
             &mut self.next,
             &mut self.order,
             number_of(handle),
+            self.numbers,
             device,
             scratch,
             steps,

@@ -125,4 +125,10 @@ not_start stops.Answer (Some code) is = omega arith
 pub is_history : (base : Option Persist) (state : Option SlotState) (history : List Entry) {D : Type 0} (broker : BrokerView D) → StandsFor base state history broker.tables broker.held → IsHistoryOf base state history
 is_history base state history broker stands b slots is_base is_state =
     let after = stands b slots is_base is_state in
-    record { legal = after.legal; persist = after.stands.persist; started = after.stands.settled.objects.started; sound = after.stands.settled.objects.sound }
+    record {
+      legal = after.legal;
+      persist = after.stands.persist;
+      started = after.stands.settled.objects.started;
+      sound = after.stands.settled.objects.sound;
+      numbers = after.stands.profile;
+    }

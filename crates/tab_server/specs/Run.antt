@@ -1,19 +1,20 @@
 -- What a run leaves: how its status, its journal and its output stand to what there was before it.
 use Rattle.std.specs.Prelude.{◌≡◌, ◌≤◌, ◌⊎◌, ℕ, Bool, false, true, IsTrue, List, [], Option, None, Some, IfSome, IsSome, IsSomeAnd}
+use Rattle.tab_spec.specs.declared.TheConstants.{ACTIVE_SESSIONS}
+use Rattle.tab_spec.specs.Numbers.{profile_numbers}
 use Rattle.tab_spec.specs.Persist.{Persist}
 use Rattle.tab_spec.specs.Count.{Rose}
 use Rattle.device_spec.specs.Slots.{SlotState, IsSlots, held}
 use Rattle.device_spec.specs.Answers.{IsRight, IsWrongAnswer, wrong}
 use Rattle.history_spec.specs.Entry.{Entry}
 use Rattle.history_spec.specs.AuditText.{audit_text}
-use Rattle.world_spec.specs.Legal.{Legal}
 use Rattle.world_spec.specs.World.{world_of}
 use Rattle.link_port.specs.Port.{with_more}
 use Rattle.script_spec.specs.Script.{script}
 use Rattle.script_spec.specs.Calls.{Call, calls_from}
 use Rattle.audit_journal.specs.Text.{WroteFrontOf}
 use Rattle.device_port.specs.Device.{Seen, asked_of, last_of}
-use Rattle.broker_core.specs.Broker.{AreWhole, BrokerView, FaultsCounted}
+use Rattle.broker_core.specs.Broker.{AreWhole, BrokerView, FaultsCounted, ProfileLegal}
 use Rattle.script_player.specs.Ends.{LeavesFull, LeavesPart, LeavesRead, LeavesWhole, MakesUpTo, with_audit}
 use Rattle.script_player.specs.Stops.{AreFirst, EndsInClose, Unanswered, WroteFront}
 use Rattle.tab_server.specs.declared.status.TheConstants.{BAD_LINE, DONE, INPUT_FAILED, JOURNAL_FULL, NO_MEMORY, OUTPUT_FAILED, START_FAILED, WRONG_ANSWER}
@@ -73,10 +74,11 @@ pub record Begins {D : Type 0} (seen : Seen) (limit : ℕ) (broker : BrokerView 
 
 -- the journal is a legal history, and the device keeps what the world keeps after it; it is started, and one of its profile
 pub record IsHistory (base : Persist) (slots : SlotState) (history : List Entry) : Type 0 where
-  pub legal : Legal base history
-  pub persist : slots.persist ≡ (world_of base history).persist
+  pub legal : ProfileLegal base history
+  pub persist : slots.persist ≡ (world_of base ACTIVE_SESSIONS history).persist
   pub started : slots.started ≡ true
   pub sound : IsSlots slots
+  pub numbers : slots.numbers ≡ profile_numbers
 
 -- the same, where the device tells what it is in
 abbrev pub IsHistoryOf : Option Persist → Option SlotState → List Entry → Type 0

@@ -1,6 +1,6 @@
 //! A broker as a script is played over it.
 ghost use Rattle.std.specs.Prelude.{◌≤◌, is_some};
-ghost use Rattle.world_spec.specs.Legal.{Legal};
+ghost use Rattle.broker_core.specs.Broker.{ProfileLegal};
 
 use broker_core::Broker;
 use broker_lock::{Closed, OpenClientError, Recorded, Told};
@@ -18,7 +18,7 @@ pub struct PlayedBroker<D: Device> {
 impl<D: Device> Recorded for PlayedBroker<D> {
     ghost history = { λ p. p.broker.journal };
 
-    ghost legal = { Legal };
+    ghost legal = { ProfileLegal };
 
     ghost fixed = { λ p. record {
       base = (D.seen p.broker.device).base;

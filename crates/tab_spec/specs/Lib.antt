@@ -3,6 +3,7 @@ pub mod Frame
 pub mod Hash
 pub mod Commands
 pub mod Shape
+pub mod Numbers
 pub mod Auths
 pub mod Admission
 pub mod Reply

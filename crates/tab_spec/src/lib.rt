@@ -4,6 +4,9 @@
 #![tactic(auto)]
 
 mod examples;
+mod numbers;
+
+pub use numbers::Numbers;
 
 /// The fewest bytes of a command or a response: its header, of tag, size and code.
 pub const HEADER_BYTES: u32 = 10;
@@ -295,17 +298,20 @@ pub const HT_TRANSIENT: u32 = 0x80;
 
 pub const HT_PERSISTENT: u32 = 0x81;
 
-/// How many objects a device holds at once.
+/// How many objects a device of this profile holds at once.
 pub const OBJECT_SLOTS: u32 = 3;
 
-/// How many sessions a device has loaded at once.
+/// How many sessions a device of this profile has loaded at once.
 pub const LOADED_SESSIONS: u32 = 3;
 
-/// How many sessions a device has at once, loaded and saved; their numbers are below it.
+/// How many sessions a device of this profile has at once, loaded and saved.
 pub const ACTIVE_SESSIONS: u32 = 64;
 
-/// A session isn't saved where its context's number would be this much above that of the oldest
-/// saved one.
+/// The numbers of sessions are below this one, on any device that a broker can serve.
+pub const SESSION_NUMBERS: u32 = 64;
+
+/// On a device of this profile, a session isn't saved where its context's number would be this much
+/// above that of the oldest saved one.
 pub const CONTEXT_GAP: u64 = 255;
 
 /// The largest blob of a context in bytes.

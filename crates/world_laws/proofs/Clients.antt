@@ -211,16 +211,16 @@ agrees_from world clients [] agrees = agrees
 agrees_from world clients (e ∷ history) agrees =
     agrees_from (world_by world e) (clients_by clients e) history (agrees_by e.kind world clients e agrees)
 
-agrees_of : (base : Persist) (history : List Entry) → Agrees (world_of base history) (clients_of history)
-agrees_of base history =
-    agrees_from (empty_world base) (record { opened = 0; present = [] }) history (record { opened = refl; present = refl })
+agrees_of : (base : Persist) (most : ℕ) (history : List Entry) → Agrees (world_of base most history) (clients_of history)
+agrees_of base most history =
+    agrees_from (empty_world base most) (record { opened = 0; present = [] }) history (record { opened = refl; present = refl })
 
-pub opened : (base : Persist) (history : List Entry) → (world_of base history).opened ≡ (clients_of history).opened
-opened base history = (agrees_of base history).opened
+pub opened : (base : Persist) (most : ℕ) (history : List Entry) → (world_of base most history).opened ≡ (clients_of history).opened
+opened base most history = (agrees_of base most history).opened
 
-pub present : (base : Persist) (history : List Entry)
-    → map (λ (c : Client). c.number) (world_of base history).clients ≡ (clients_of history).present
-present base history = (agrees_of base history).present
+pub present : (base : Persist) (most : ℕ) (history : List Entry)
+    → map (λ (c : Client). c.number) (world_of base most history).clients ≡ (clients_of history).present
+present base most history = (agrees_of base most history).present
 
 any_number : (clients : List Client) (client : ℕ)
     → list_any (λ (c : Client). c.number == client) clients ≡ list_any (λ (n : ℕ). n == client) (numbers clients)
@@ -238,14 +238,14 @@ count_number (c ∷ clients) client =
       count_number clients client,
     )
 
-pub is_open : (base : Persist) (history : List Entry) (client : ℕ)
-    → list_any (λ (c : Client). c.number == client) (world_of base history).clients ≡ list_any (λ (n : ℕ). n == client) (clients_of history).present
-is_open base history client =
-    any_number (world_of base history).clients client
-    ∙ ap (λ (ns : List ℕ). list_any (λ (n : ℕ). n == client) ns) (present base history)
+pub is_open : (base : Persist) (most : ℕ) (history : List Entry) (client : ℕ)
+    → list_any (λ (c : Client). c.number == client) (world_of base most history).clients ≡ list_any (λ (n : ℕ). n == client) (clients_of history).present
+is_open base most history client =
+    any_number (world_of base most history).clients client
+    ∙ ap (λ (ns : List ℕ). list_any (λ (n : ℕ). n == client) ns) (present base most history)
 
-pub once : (base : Persist) (history : List Entry) (client : ℕ)
-    → count_by (λ (c : Client). c.number == client) (world_of base history).clients ≡ count_by (λ (n : ℕ). n == client) (clients_of history).present
-once base history client =
-    count_number (world_of base history).clients client
-    ∙ ap (λ (ns : List ℕ). count_by (λ (n : ℕ). n == client) ns) (present base history)
+pub once : (base : Persist) (most : ℕ) (history : List Entry) (client : ℕ)
+    → count_by (λ (c : Client). c.number == client) (world_of base most history).clients ≡ count_by (λ (n : ℕ). n == client) (clients_of history).present
+once base most history client =
+    count_number (world_of base most history).clients client
+    ∙ ap (λ (ns : List ℕ). count_by (λ (n : ℕ). n == client) ns) (present base most history)

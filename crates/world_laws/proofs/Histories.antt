@@ -1,12 +1,15 @@
 -- What one more entry makes of a history.
-use Rattle.std.proofs.Common.{◌≡◌, ◌<◌, ◌≤◌, ◌+◌, ℕ, Bool, true, false, cond, eqb, List, [], ◌∷◌, ◌++◌, length, refl, sym, subst, append_assoc, arith, inl, inr}
-use Rattle.std.specs.Prelude.{◌||◌}
+use Rattle.std.proofs.Common.{◌≡◌, ◌<◌, ◌≤◌, ◌+◌, ℕ, Bool, true, false, cond, eqb, List, [], ◌∷◌, ◌++◌, length, refl, sym, subst, append_assoc, arith, inl, inr, ◌∙◌}
+use Rattle.std.specs.Prelude.{◌||◌, Option, Some, None, IfSome}
 use Rattle.std.specs.List.{AllByRecursion, list_any, filter}
 use Rattle.std.proofs.lemmas.List.{append-nil}
 use Rattle.tab_spec.specs.Persist.{Persist}
 use Rattle.tab_spec.specs.Count.{Rose}
+use Rattle.history_spec.specs.declared.EntryKind.{EntryKind}
+use Rattle.history_spec.specs.declared.EntryKind.TheVariants.{Open, Command, Canceled, Fault, Close}
 use Rattle.history_spec.specs.Entry.{Entry, Clients, clients_by, clients_from, clients_of, without, is_fault}
-use Rattle.world_spec.specs.World.{World, world_by, world_from, world_of, empty_world}
+use Rattle.world_spec.specs.World.{ClientStep, World, after_step, client_step, empty_world, plain_step, state_in, step_in, world_after, world_by, world_from, world_of}
+use Rattle.world_laws.proofs.Most.{client_most}
 use Rattle.world_spec.specs.Legal.{MayFollow, LegalFrom, Legal, IsNextCount}
 
 clients_from-push : (clients : Clients) (history : List Entry) (e : Entry) → clients_from clients (history ++ e ∷ []) ≡ clients_by (clients_from clients history) e
@@ -20,16 +23,39 @@ world_from-push : (world : World) (history : List Entry) (e : Entry) → world_f
 world_from-push world [] e = refl
 world_from-push world (x ∷ history) e = world_from-push (world_by world x) history e
 
-pub world_of-push : (base : Persist) (history : List Entry) (e : Entry) → world_of base (history ++ e ∷ []) ≡ world_by (world_of base history) e
-world_of-push base history e = world_from-push (empty_world base) history e
+pub world_of-push : (base : Persist) (most : ℕ) (history : List Entry) (e : Entry) → world_of base most (history ++ e ∷ []) ≡ world_by (world_of base most history) e
+world_of-push base most history e = world_from-push (empty_world base most) history e
 
-legal_from-push : (base : Persist) (before history : List Entry) (e : Entry) → LegalFrom base before history → MayFollow base (before ++ history) e → LegalFrom base before (history ++ e ∷ [])
-legal_from-push base before [] e legal follows = (subst (λ (h : List Entry). MayFollow base h e) (append-nil before) follows, tt)
-legal_from-push base before (x ∷ history) e legal follows =
-    (legal.0, legal_from-push base (before ++ x ∷ []) history e legal.1 (subst (λ (h : List Entry). MayFollow base h e) (sym (append_assoc before (x ∷ []) history)) follows))
+-- no step changes how many sessions there may be
+stepped_most : (world : World) (client : ℕ) (step : Option ClientStep) → IfSome step (λ s. s.0.most ≡ world.most)
+    → (after_step world (step_in world client step)).most ≡ world.most
+stepped_most world client None keeps = refl
+stepped_most world client (Some step) keeps = keeps
 
-pub legal-push : (base : Persist) (history : List Entry) (e : Entry) → Legal base history → MayFollow base history e → Legal base (history ++ e ∷ [])
-legal-push base history e legal follows = legal_from-push base [] history e legal follows
+after_most : (kind : EntryKind) (world : World) (e : Entry) → (world_after kind world e).most ≡ world.most
+unfolding plain_step
+after_most Open world e = refl
+after_most Command world e =
+    stepped_most world e.client (client_step e.client (state_in world e.client) e.command e.pick)
+    (client_most e.client (state_in world e.client) e.command e.pick)
+after_most (Canceled upto) world e = refl
+after_most Fault world e = refl
+after_most Close world e = refl
+
+from_most : (world : World) (history : List Entry) → (world_from world history).most ≡ world.most
+from_most world [] = refl
+from_most world (e ∷ history) = from_most (world_by world e) history ∙ after_most e.kind world e
+
+pub world_most : (base : Persist) (most : ℕ) (history : List Entry) → (world_of base most history).most ≡ most
+world_most base most history = from_most (empty_world base most) history
+
+legal_from-push : (base : Persist) (most : ℕ) (before history : List Entry) (e : Entry) → LegalFrom base most before history → MayFollow base most (before ++ history) e → LegalFrom base most before (history ++ e ∷ [])
+legal_from-push base most before [] e legal follows = (subst (λ (h : List Entry). MayFollow base most h e) (append-nil before) follows, tt)
+legal_from-push base most before (x ∷ history) e legal follows =
+    (legal.0, legal_from-push base most (before ++ x ∷ []) history e legal.1 (subst (λ (h : List Entry). MayFollow base most h e) (sym (append_assoc before (x ∷ []) history)) follows))
+
+pub legal-push : (base : Persist) (most : ℕ) (history : List Entry) (e : Entry) → Legal base most history → MayFollow base most history e → Legal base most (history ++ e ∷ [])
+legal-push base most history e legal follows = legal_from-push base most [] history e legal follows
 
 -- ---- what holds of each entry
 

@@ -1,3 +1,4 @@
+pub mod Most
 pub mod Histories
 pub mod Clients
 pub mod Owners

@@ -10,16 +10,16 @@ ghost use Rattle.world_spec.specs.World.{world_of};
 /// The world of a history has the clients of that history: as many were opened, and the same are
 /// open, in the same order and as often.
 pub fn worlds_have_their_clients()
-    ensures opened { (base : Persist) (history : List Entry)
-        → (world_of base history).opened ≡ (clients_of history).opened }
-    ensures present { (base : Persist) (history : List Entry)
-        → map (λ (c : Client). c.number) (world_of base history).clients
+    ensures opened { (base : Persist) (most : ℕ) (history : List Entry)
+        → (world_of base most history).opened ≡ (clients_of history).opened }
+    ensures present { (base : Persist) (most : ℕ) (history : List Entry)
+        → map (λ (c : Client). c.number) (world_of base most history).clients
         ≡ (clients_of history).present }
-    ensures is_open { (base : Persist) (history : List Entry) (client : ℕ)
-        → list_any (λ (c : Client). c.number == client) (world_of base history).clients
+    ensures is_open { (base : Persist) (most : ℕ) (history : List Entry) (client : ℕ)
+        → list_any (λ (c : Client). c.number == client) (world_of base most history).clients
         ≡ list_any (λ (n : ℕ). n == client) (clients_of history).present }
-    ensures once { (base : Persist) (history : List Entry) (client : ℕ)
-        → count_by (λ (c : Client). c.number == client) (world_of base history).clients
+    ensures once { (base : Persist) (most : ℕ) (history : List Entry) (client : ℕ)
+        → count_by (λ (c : Client). c.number == client) (world_of base most history).clients
         ≡ count_by (λ (n : ℕ). n == client) (clients_of history).present }
 {}
 

@@ -17,6 +17,7 @@ abbrev pub world_with : Persist → ℕ → List Client → World
 world_with persist opened clients =
     record {
       persist = persist;
+      most = 64;
       opened = opened;
       clients = clients;
       sessions = no_sessions;
@@ -38,6 +39,7 @@ extended_world = world_with extended_persist 0 []
 abbrev pub state_with : List (Option Object) → ClientState
 state_with objects = record {
   persist = zero_persist 0;
+  most = 64;
   objects = objects;
   sessions = no_sessions;
   object_sequence = 0;
@@ -134,12 +136,17 @@ taken_numbers count = replicate count (Some (begun_policy 1)) ++ replicate (64 -
 abbrev pub world_of_sessions : ℕ → List (Option Owned) → World
 world_of_sessions place sessions = record {
   persist = zero_persist place;
+  most = 64;
   opened = 2;
   clients = record { number = 0; objects = [] } ∷ record { number = 1; objects = [] } ∷ [];
   sessions = sessions;
   object_sequence = 0;
   session_sequence = 0;
 }
+
+-- the same over a device of 16 sessions
+abbrev pub of_16_sessions : List (Option Owned) → World
+of_16_sessions sessions = record (world_of_sessions 0 sessions) { most = 16 }
 
 -- ---- contexts
 

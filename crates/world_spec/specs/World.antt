@@ -1,9 +1,10 @@
 -- The machine as its clients see it: one shared persistent state, for each open client a table of its own, in which its objects
--- stand by number, and 64 session numbers, each of one client or unused. It has no slots and no places, and moves nothing.
+-- stand by number, and 64 session numbers, each of one client or unused, of which a bounded number are used at once. It has no
+-- slots and no places, and moves nothing.
 use Rattle.std.specs.Prelude.{ℕ, ◌+◌, ◌*◌, ◌^◌, ◌==◌, ◌&&◌, not, nat_le, nat_lt, bytes_eq, Bool, false, List, [], ◌∷◌, ◌++◌, get_or, set, map, replicate, drop, Option, Some, None, is_some, Result, Ok, Err, if◌then◌else◌}
 use Rattle.std.specs.Int.{w32, to_be_bytes}
 use Rattle.std.specs.List.{count_by}
-use Rattle.tab_spec.specs.declared.TheConstants.{ACTIVE_SESSIONS, CC_CONTEXT_LOAD, CC_CONTEXT_SAVE, CC_FLUSH_CONTEXT, CC_GET_CAPABILITY, CC_START_AUTH_SESSION, CONTEXT_LIMIT, HT_TRANSIENT, RC_1, RC_HANDLE, RC_INSUFFICIENT, RC_INTEGRITY, RC_P, RC_SESSION_HANDLES, RC_SUCCESS, RC_VALUE, ST_NO_SESSIONS, TRANSIENT_FIRST}
+use Rattle.tab_spec.specs.declared.TheConstants.{CC_CONTEXT_LOAD, CC_CONTEXT_SAVE, CC_FLUSH_CONTEXT, CC_GET_CAPABILITY, CC_START_AUTH_SESSION, CONTEXT_LIMIT, HT_TRANSIENT, RC_1, RC_HANDLE, RC_INSUFFICIENT, RC_INTEGRITY, RC_P, RC_SESSION_HANDLES, RC_SUCCESS, RC_VALUE, SESSION_NUMBERS, ST_NO_SESSIONS, TRANSIENT_FIRST}
 use Rattle.tab_spec.specs.declared.Shape.{Shape}
 use Rattle.tab_spec.specs.declared.Auths.{Auths}
 use Rattle.tab_spec.specs.declared.Admitted.{Admitted}
@@ -43,6 +44,8 @@ pub record Owned : Type 0 where
 
 pub record World : Type 0 where
   pub persist : Persist
+  -- how many sessions may be active at once over all clients
+  pub most : ℕ
   -- how many clients were opened
   pub opened : ℕ
   -- the open ones, in the order of opening
@@ -54,11 +57,12 @@ pub record World : Type 0 where
   pub session_sequence : ℕ
 
 abbrev pub no_sessions : List (Option Owned)
-no_sessions = replicate ACTIVE_SESSIONS None
+no_sessions = replicate SESSION_NUMBERS None
 
-abbrev pub empty_world : Persist → World
-empty_world base = record {
+abbrev pub empty_world : Persist → ℕ → World
+empty_world base most = record {
   persist = base;
+  most = most;
   opened = 0;
   clients = [];
   sessions = no_sessions;
@@ -121,7 +125,7 @@ active sessions = count_by is_some sessions
 
 -- whether a number is one that a new session may have: below 64, and no client's
 abbrev pub is_unused : List (Option Owned) → ℕ → Bool
-is_unused sessions number = nat_lt number ACTIVE_SESSIONS && not (is_some (get_or sessions number None))
+is_unused sessions number = nat_lt number SESSION_NUMBERS && not (is_some (get_or sessions number None))
 
 -- without the sessions of a client
 abbrev pub unless_owned : ℕ → Option Owned → Option Owned
@@ -133,9 +137,11 @@ without_owner client sessions = map (unless_owned client) sessions
 
 -- ---- what a command names
 
--- What a command of a client is run over: what is kept, the client's objects, and the sessions, of which it may name its own
+-- What a command of a client is run over: what is kept, how many sessions there may be, the client's objects, and the sessions, of
+-- which it may name its own
 pub record ClientState : Type 0 where
   pub persist : Persist
+  pub most : ℕ
   pub objects : List (Option Object)
   pub sessions : List (Option Owned)
   pub object_sequence : ℕ
@@ -353,7 +359,7 @@ listed_sessions client number (place ∷ places) =
 -- over the client's objects and sessions, and the count of the sessions of all clients
 abbrev pub client_capability : ℕ → ClientState → List ℕ → Result (List ℕ) ℕ
 client_capability client state params =
-    capability_of client_limits all_commands state.persist (transient_from TRANSIENT_FIRST state.objects)
+    capability_of (client_limits state.most) all_commands state.persist (transient_from TRANSIENT_FIRST state.objects)
     (listed_sessions client 0 state.sessions) (active state.sessions) params
 
 abbrev pub capability_step : ClientState → Result (List ℕ) ℕ → ClientStep
@@ -362,11 +368,11 @@ capability_step state (Ok params) = (state, response ST_NO_SESSIONS RC_SUCCESS p
 
 -- ---- a command
 
--- where a session may start otherwise, all 64 are active
+-- where a session may start otherwise, as many as there may be are active
 abbrev pub session_too_many : ClientState → Result StartParameters ℕ → Option ℕ
 session_too_many state (Err code) = None
 session_too_many state (Ok beginning) =
-    if nat_le ACTIVE_SESSIONS (active state.sessions) then Some RC_SESSION_HANDLES else None
+    if nat_le state.most (active state.sessions) then Some RC_SESSION_HANDLES else None
 
 abbrev pub room_for : ClientState → ℕ → List ℕ → Option ℕ
 room_for state code params = if code == CC_START_AUTH_SESSION then session_too_many state (start_check params) else None
@@ -402,6 +408,7 @@ client_step client state command pick =
 abbrev pub state_in : World → ℕ → ClientState
 state_in world client = record {
   persist = world.persist;
+  most = world.most;
   objects = table_in world.clients client;
   sessions = world.sessions;
   object_sequence = world.object_sequence;
@@ -411,6 +418,7 @@ state_in world client = record {
 abbrev pub world_with_state : World → ℕ → ClientState → World
 world_with_state world client state = record world {
   persist = state.persist;
+  most = state.most;
   clients = with_table client state.objects world.clients;
   sessions = state.sessions;
   object_sequence = state.object_sequence;
@@ -455,6 +463,6 @@ abbrev pub world_from : World → List Entry → World
 world_from world [] = world
 world_from world (e ∷ history) = world_from (world_by world e) history
 
--- the world after a history that began with this persistent state
-abbrev pub world_of : Persist → List Entry → World
-world_of base history = world_from (empty_world base) history
+-- the world after a history that began with this persistent state, over a device that has so many sessions
+abbrev pub world_of : Persist → ℕ → List Entry → World
+world_of base most history = world_from (empty_world base most) history

@@ -24,21 +24,21 @@ ghost use Rattle.history_spec.specs.Examples.{failed_entry, two_clients};
 ghost use Rattle.world_spec.specs.Examples.{world_with, new_world, extended_world, left_with};
 ghost use Rattle.world_spec.specs.Examples.{step_of, read_public, tells_public, a_key, state_with};
 ghost use Rattle.world_spec.specs.Examples.{three_places, many_objects, two_tables, one_table};
-ghost use Rattle.world_spec.specs.Examples.{world_tells, create_key};
+ghost use Rattle.world_spec.specs.Examples.{world_tells, create_key, start_session};
 
 // The words that the clients drew, who was opened, and who is open still.
 fn a_history_makes_a_world()
-    ensures whole { world_of (zero_persist 0) two_clients ≡ world_with (zero_persist 5) 2 ([]) }
-    ensures front { world_of (zero_persist 0) (take 5 two_clients)
+    ensures whole { world_of (zero_persist 0) 64 two_clients ≡ world_with (zero_persist 5) 2 ([]) }
+    ensures front { world_of (zero_persist 0) 64 (take 5 two_clients)
         ≡ world_with (zero_persist 5) 2 (new_client 0 ∷ new_client 1 ∷ []) }
-    ensures first { world_of (zero_persist 0) (take 2 two_clients)
+    ensures first { world_of (zero_persist 0) 64 (take 2 two_clients)
         ≡ world_with (zero_persist 2) 1 (new_client 0 ∷ []) }
-    ensures second { world_of (zero_persist 0) (take 4 two_clients)
+    ensures second { world_of (zero_persist 0) 64 (take 4 two_clients)
         ≡ world_with (zero_persist 4) 2 (new_client 0 ∷ new_client 1 ∷ []) }
 {}
 
 fn a_history_is_legal()
-    ensures { Legal (zero_persist 0) two_clients }
+    ensures { Legal (zero_persist 0) 64 two_clients }
 {}
 
 fn refused_commands_change_nothing()
@@ -144,42 +144,51 @@ fn clients_have_a_limit()
 {}
 
 fn a_number_is_used_once()
-    ensures { Legal (zero_persist 0) (open_entry 0 ∷ plain_entry 0 1 (get_random 8) eight_reply
+    ensures { Legal (zero_persist 0) 64 (open_entry 0 ∷ plain_entry 0 1 (get_random 8) eight_reply
         ∷ plain_entry 0 1 (get_random 6) six_reply ∷ [])
         → ⊥ }
 {}
 
 fn the_first_client_is_0()
-    ensures { Legal (zero_persist 0) (open_entry 1 ∷ []) → ⊥ }
+    ensures { Legal (zero_persist 0) 64 (open_entry 1 ∷ []) → ⊥ }
 {}
 
 // The right reply with another last byte.
 fn a_reply_is_that_of_the_machine()
-    ensures right { Legal (zero_persist 4)
+    ensures right { Legal (zero_persist 4) 64
         (open_entry 0 ∷ plain_entry 0 1 (get_random 4) four_reply ∷ []) }
-    ensures wrong { Legal (zero_persist 4)
+    ensures wrong { Legal (zero_persist 4) 64
         (open_entry 0 ∷ plain_entry 0 1 (get_random 4) (take 15 four_reply ++ 0xb9 ∷ []) ∷ [])
         → ⊥ }
+{}
+
+// Where no session may be active, the first one is refused; where 64 may, it isn't.
+fn histories_have_a_limit_of_sessions()
+    ensures none { Legal (zero_persist 0) 0
+        (open_entry 0 ∷ plain_entry 0 1 (start_session 1) (refusal 0x09 0x05) ∷ []) }
+    ensures many { Legal (zero_persist 0) 64
+        (open_entry 0 ∷ plain_entry 0 1 (start_session 1) (refusal 0x09 0x05) ∷ []) → ⊥ }
 {}
 
 // A canceled command changes nothing, and its number is at most the one up to which commands were
 // canceled.
 fn commands_are_canceled()
-    ensures legal { Legal (zero_persist 4) canceled_first }
-    ensures world { world_of (zero_persist 4) (take 2 canceled_first)
+    ensures legal { Legal (zero_persist 4) 64 canceled_first }
+    ensures world { world_of (zero_persist 4) 64 (take 2 canceled_first)
         ≡ world_with (zero_persist 4) 1 (new_client 0 ∷ []) }
     ensures told { Told canceled_first 8192 0 1 (get_random 8) canceled_reply }
-    ensures above { Legal (zero_persist 0) (open_entry 0 ∷ canceled_before 1 2 ∷ []) }
-    ensures below { Legal (zero_persist 0) (open_entry 0 ∷ canceled_before 2 1 ∷ []) → ⊥ }
-    ensures other_reply { Legal (zero_persist 0)
+    ensures above { Legal (zero_persist 0) 64 (open_entry 0 ∷ canceled_before 1 2 ∷ []) }
+    ensures below { Legal (zero_persist 0) 64 (open_entry 0 ∷ canceled_before 2 1 ∷ []) → ⊥ }
+    ensures other_reply { Legal (zero_persist 0) 64
         (open_entry 0 ∷ canceled_entry 0 1 1 (get_random 8) full_reply ∷ [])
         → ⊥ }
 {}
 
 fn fault_counts_rise()
-    ensures first { Legal (zero_persist 0) (open_entry 0 ∷ failed_entry 1 0 ∷ []) }
-    ensures rise { Legal (zero_persist 0)
+    ensures first { Legal (zero_persist 0) 64 (open_entry 0 ∷ failed_entry 1 0 ∷ []) }
+    ensures rise { Legal (zero_persist 0) 64
         (open_entry 0 ∷ failed_entry 1 0 ∷ failed_entry 2 1 ∷ []) }
-    ensures stay { Legal (zero_persist 0) (open_entry 0 ∷ failed_entry 1 1 ∷ failed_entry 2 1 ∷ [])
+    ensures stay { Legal (zero_persist 0) 64
+        (open_entry 0 ∷ failed_entry 1 1 ∷ failed_entry 2 1 ∷ [])
         → ⊥ }
 {}

@@ -6,6 +6,7 @@ ghost use Rattle.std.specs.Prelude.{is_ok};
 ghost use Rattle.effect_spec.specs.Contexts.{context_of};
 ghost use Rattle.device_spec.specs.ContextCommands.{context_load_command, context_save_command};
 ghost use Rattle.device_spec.specs.ContextCommands.{flush_context_command};
+ghost use Rattle.tab_spec.specs.Numbers.{profile_numbers};
 ghost use Rattle.device_spec.specs.Slots.{new_slots, context_load, context_save};
 ghost use Rattle.tab_spec.specs.Examples.{with_indexes, context_with, sealed};
 ghost use Rattle.device_spec.specs.Examples.{device_holding};
@@ -31,7 +32,7 @@ fn contexts_have_limits()
         ≡ true }
     ensures past_it { context_save (device_holding (Some sealed) None None (2 ^ 62)) 0x80000000 []
         ≡ Err 0x101 }
-    ensures slots { (new_slots (with_indexes [])).slots ≡ None ∷ None ∷ None ∷ [] }
+    ensures slots { (new_slots profile_numbers (with_indexes [])).slots ≡ None ∷ None ∷ None ∷ [] }
     ensures a_byte_after { context_save (device_holding (Some sealed) None None (2 ^ 62)) 0x80000000
         (0 ∷ [])
         ≡ Err 0x95 }

@@ -2,7 +2,7 @@
 //! programs' runs.
 
 ghost use Rattle.std.specs.Prelude.{◌≡◌, ◌-◌, ◌^◌, ◌∷◌, ◌++◌, [], replicate, true, false, Ok, Err};
-ghost use Rattle.std.specs.Prelude.{Some, None, is_ok};
+ghost use Rattle.std.specs.Prelude.{Some, None, is_ok, length};
 ghost use Rattle.tab_spec.specs.declared.SessionKind.TheVariants.{Trial};
 ghost use Rattle.tab_spec.specs.declared.Kind.TheVariants.{Absent, Policy, Saved};
 ghost use Rattle.tab_spec.specs.declared.TheConstants.{CC_GET_RANDOM, RH_OWNER, RS_PW};
@@ -10,10 +10,13 @@ ghost use Rattle.effect_spec.specs.Operands.{absent, plain, a_session};
 ghost use Rattle.device_spec.specs.Slots.{inactive, loaded, saved, slot_step, room_for};
 ghost use Rattle.device_spec.specs.Slots.{loaded_count, active_count, held, no_sessions};
 ghost use Rattle.device_spec.specs.Slots.{slot_operands, oldest_saved, gap_of, context_save};
-ghost use Rattle.device_spec.specs.Slots.{session_loaded, session_at};
+ghost use Rattle.device_spec.specs.Slots.{new_slots, placed, session_loaded, session_at};
+ghost use Rattle.device_spec.specs.Slots.{slot_tables};
 ghost use Rattle.device_spec.specs.Answers.{listed_handles};
 ghost use Rattle.device_spec.specs.Remains.{emptied, handles_command, remains};
 ghost use Rattle.tab_spec.specs.Examples.{u32, bytes_of, frame, refusal, flush, save, sealed};
+ghost use Rattle.tab_spec.specs.Examples.{with_indexes};
+ghost use Rattle.effect_spec.specs.Examples.{another_device};
 ghost use Rattle.tab_spec.specs.SessionExamples.{hmac_session, next_32};
 ghost use Rattle.effect_spec.specs.SessionExamples.{usual_start_parameters, start_parameter_bytes};
 ghost use Rattle.effect_spec.specs.SessionExamples.{read_by_session, unsealed_by_policy};
@@ -21,11 +24,13 @@ ghost use Rattle.device_spec.specs.Examples.{device_at, device_holding, device_a
 ghost use Rattle.device_spec.specs.Examples.{one_saved, places_of, many, crowded, last_place};
 ghost use Rattle.device_spec.specs.Examples.{first_session, first_in, second_nonce, second_session};
 ghost use Rattle.device_spec.specs.Examples.{second_in, three_sessions, named_on, operand_on};
+ghost use Rattle.device_spec.specs.Examples.{four_slots, many_sessions, of_another, room_of};
 ghost use Rattle.device_spec.specs.Examples.{saved_from_5, start_session, start_reply, no_room};
 ghost use Rattle.device_spec.specs.Examples.{first_context, second_context, load_context};
 ghost use Rattle.device_spec.specs.Examples.{context_under, load_under, found, ask, answer};
 ghost use Rattle.device_spec.specs.Examples.{secret_shape, secret_auths, later_session, later_in};
-ghost use Rattle.device_spec.specs.Examples.{left_behind, left_by, reading_device, unsealing_device};
+ghost use Rattle.device_spec.specs.Examples.{left_behind, left_by, reading_device};
+ghost use Rattle.device_spec.specs.Examples.{unsealing_device};
 
 // A session gets the least unused number, and a nonceTPM from the random stream.
 #[tactic(auto, unfolding(tab_spec::specs::Auths::auths_of, tab_spec::specs::Auths::auths_from, effect_spec::specs::Effect::effect_of, crate::specs::Slots::slot_step, tab_spec::specs::Persist::stream_bytes, rand_core::specs::Steps::u32_at, rand_chacha::specs::Block::quarter_round, rand_chacha::specs::Block::column_round, rand_chacha::specs::Block::diagonal_round, rand_chacha::specs::Block::double_rounds, rand_chacha::specs::Block::block_word))]
@@ -66,6 +71,39 @@ fn sessions_have_room()
         ≡ (crowded 3 60, refusal 0x09 0x03) }
     ensures parameters_first { slot_step (crowded 3 61) (start_session 2)
         ≡ (crowded 3 61, refusal 0x03 0xc4) }
+{}
+
+// A device has as many slots as its numbers say, and an object gets the least free one.
+fn devices_have_slots()
+    ensures slots { length (new_slots another_device (with_indexes [])).slots ≡ 254 }
+    ensures emptied { (emptied (of_another three_sessions)).slots ≡ replicate 254 None }
+    ensures fourth { (placed (four_slots None) sealed (frame 0x8001 0 (u32 0))).1
+        ≡ frame 0x8001 0 (u32 0x80000003) }
+    ensures full { (slot_tables (four_slots (Some sealed))).is_full ≡ true }
+    ensures not_full { (slot_tables (four_slots None)).is_full ≡ false }
+{}
+
+// It starts as many sessions as they say, of which some are loaded. There are no more than 64
+// numbers of sessions on any device.
+fn devices_have_places()
+    ensures five_loaded { room_of another_device 5 0 ≡ None }
+    ensures six_loaded { room_of another_device 6 0 ≡ Some 0x903 }
+    ensures fifteen_active { room_of another_device 0 15 ≡ None }
+    ensures sixteen_active { room_of another_device 0 16 ≡ Some 0x905 }
+    ensures last_session_and_no_place { room_of another_device 6 9 ≡ Some 0x903 }
+    ensures neither { room_of another_device 6 10 ≡ Some 0x905 }
+    ensures last_number { room_of many_sessions 0 63 ≡ None }
+    ensures no_number { room_of many_sessions 0 64 ≡ Some 0x905 }
+{}
+
+// It loads a session where one of its places is free, and saves one below its gap.
+fn devices_have_a_gap()
+    ensures load { load_under (of_another (device_in (saved 0x02 5 ∷ many 5 0) 6)) 0x02000000 5
+        ≡ Ok (of_another (device_in (many 6 0) 6), frame 0x8001 0 (u32 0x02000000)) }
+    ensures no_load { load_under (of_another (device_in (saved 0x02 5 ∷ many 6 0) 6)) 0x02000000 5
+        ≡ Err 0x903 }
+    ensures near { is_ok (context_save (of_another (saved_from_5 404)) 0x02000000 []) ≡ true }
+    ensures far { context_save (of_another (saved_from_5 405)) 0x02000000 [] ≡ Err 0x901 }
 {}
 
 // What is held: objects, and loaded and saved sessions.
@@ -212,6 +250,8 @@ fn sessions_are_listed()
         ≡ (three_sessions, answer 0 1 (u32 2 ++ u32 0x02000000 ++ u32 0x03000001)) }
     ensures away { (slot_step three_sessions (ask 1 0x03000000 64)).1
         ≡ answer 0 1 (u32 1 ++ u32 0x03000002) }
+    ensures of_another { (slot_step (of_another (crowded 0 16)) (ask 6 0x111 1)).1
+        ≡ answer 1 6 (u32 1 ++ u32 0x111 ++ u32 16) }
     ensures from_a_number { (slot_step three_sessions (ask 1 0x02000001 64)).1
         ≡ answer 0 1 (u32 1 ++ u32 0x03000001) }
     ensures one_alone { (slot_step three_sessions (ask 1 0x02000000 1)).1

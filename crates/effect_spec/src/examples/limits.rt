@@ -12,11 +12,12 @@ ghost use Rattle.effect_spec.specs.Pcr.{answered_pcrs, answered_selection, pcr_v
 ghost use Rattle.effect_spec.specs.Pcr.{pcr_extend_row};
 ghost use Rattle.tab_spec.specs.Persist.{selected_digest};
 ghost use Rattle.effect_spec.specs.Authorization.{password_fault};
+ghost use Rattle.tab_spec.specs.Numbers.{profile_numbers};
 ghost use Rattle.effect_spec.specs.Capabilities.{client_limits, device_limits, handle_items};
 ghost use Rattle.effect_spec.specs.Capabilities.{listed, property_pairs};
 ghost use Rattle.tab_spec.specs.Examples.{u32, frame, area, plain_auth, random_shape, with_indexes};
 ghost use Rattle.tab_spec.specs.Examples.{one_digest};
-ghost use Rattle.effect_spec.specs.Examples.{empty_capability, two_sessions};
+ghost use Rattle.effect_spec.specs.Examples.{another_device, empty_capability, two_sessions};
 ghost use Rattle.tab_spec.specs.SessionExamples.{updated, session_auth};
 ghost use Rattle.effect_spec.specs.SessionExamples.{guarded};
 
@@ -112,11 +113,20 @@ fn lists_have_limits()
     ensures one_byte_over { empty_capability (u32 3 ++ u32 0 ++ u32 0 ++ 0 ∷ []) ≡ Err 0x95 }
     ensures pcrs { empty_capability (u32 5 ++ u32 9 ++ u32 0)
         ≡ Ok (0 ∷ 0 ∷ 0 ∷ 0 ∷ 5 ∷ 0 ∷ 0 ∷ 0 ∷ 1 ∷ 0 ∷ 0x0b ∷ 3 ∷ 255 ∷ 255 ∷ 255 ∷ []) }
-    ensures of_a_client { property_pairs client_limits (0x80000000 ∷ []) two_sessions 5
+    ensures of_a_client { property_pairs (client_limits 64) (0x80000000 ∷ []) two_sessions 5
         ≡ (0x10e, 4096) ∷ (0x110, 64) ∷ (0x111, 64) ∷ (0x112, 24) ∷ (0x114, 0xffffffff)
         ∷ (0x11e, 4096) ∷ (0x11f, 4096) ∷ (0x203, 1) ∷ (0x204, 59) ∷ (0x205, 2) ∷ (0x206, 59)
         ∷ (0x207, 4095) ∷ [] }
-    ensures of_the_device { property_pairs device_limits (0x80000000 ∷ []) two_sessions 2
+    ensures of_a_client_of_16 { property_pairs (client_limits 16) (0x80000000 ∷ []) two_sessions 5
+        ≡ (0x10e, 4096) ∷ (0x110, 16) ∷ (0x111, 16) ∷ (0x112, 24) ∷ (0x114, 0xffffffff)
+        ∷ (0x11e, 4096) ∷ (0x11f, 4096) ∷ (0x203, 1) ∷ (0x204, 11) ∷ (0x205, 2) ∷ (0x206, 11)
+        ∷ (0x207, 4095) ∷ [] }
+    ensures of_another_device { property_pairs (device_limits another_device)
+        (0x80000000 ∷ []) two_sessions 2
+        ≡ (0x10e, 254) ∷ (0x110, 6) ∷ (0x111, 16) ∷ (0x112, 24) ∷ (0x114, 400) ∷ (0x11e, 4096)
+        ∷ (0x11f, 4096) ∷ (0x203, 1) ∷ (0x204, 5) ∷ (0x205, 2) ∷ (0x206, 14) ∷ (0x207, 253) ∷ [] }
+    ensures of_the_device { property_pairs (device_limits profile_numbers)
+        (0x80000000 ∷ []) two_sessions 2
         ≡ (0x10e, 3) ∷ (0x110, 3) ∷ (0x111, 64) ∷ (0x112, 24) ∷ (0x114, 255) ∷ (0x11e, 4096)
         ∷ (0x11f, 4096) ∷ (0x203, 1) ∷ (0x204, 2) ∷ (0x205, 2) ∷ (0x206, 62) ∷ (0x207, 2) ∷ [] }
 {}

@@ -8,7 +8,7 @@ ghost use Rattle.world_spec.specs.World.{plain_step};
 ghost use Rattle.world_spec.specs.Examples.{ask, context_under, first_context, handle_reply};
 ghost use Rattle.world_spec.specs.Examples.{left_with, load, save, state_with, taken_numbers};
 ghost use Rattle.world_spec.specs.Examples.{three_places, told_list, world_handed};
-ghost use Rattle.world_spec.specs.Examples.{world_of_sessions};
+ghost use Rattle.world_spec.specs.Examples.{of_16_sessions, world_of_sessions};
 
 // A session's context is the device's own, under the sequence that is picked, which wasn't picked
 // before. A saved session can't be used, and its client may flush it.
@@ -74,6 +74,8 @@ fn clients_are_told_of_their_own()
         ≡ Some (world_of_sessions 0 (taken_numbers 2), told_list 1 6 1 (u32 0x205 ++ u32 2)) }
     ensures left { plain_step (world_of_sessions 0 (taken_numbers 2)) 0 (ask 6 0x206 1) Nothing
         ≡ Some (world_of_sessions 0 (taken_numbers 2), told_list 1 6 1 (u32 0x206 ++ u32 62)) }
+    ensures most { plain_step (of_16_sessions (taken_numbers 2)) 0 (ask 6 0x111 1) Nothing
+        ≡ Some (of_16_sessions (taken_numbers 2), told_list 1 6 1 (u32 0x111 ++ u32 16)) }
     ensures in_use { plain_step (world_of_sessions 0 (taken_numbers 2)) 1
         (ask 1 0x02000001 8) Nothing
         ≡ Some (world_of_sessions 0 (taken_numbers 2), told_list 0 1 1 (u32 0x03000001)) }

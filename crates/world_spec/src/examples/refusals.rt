@@ -15,51 +15,52 @@ ghost use Rattle.world_spec.specs.Examples.{told_list, world_handed};
 
 // Nothing is entered of a client that isn't open: it wasn't opened yet, or it is closed.
 fn only_open_clients_have_entries()
-    ensures command { Legal (zero_persist 0) (plain_entry 0 1 (get_random 8) eight_reply ∷ []) → ⊥ }
-    ensures another { Legal (zero_persist 0)
+    ensures command { Legal (zero_persist 0) 64
+        (plain_entry 0 1 (get_random 8) eight_reply ∷ []) → ⊥ }
+    ensures another { Legal (zero_persist 0) 64
         (open_entry 0 ∷ plain_entry 1 1 (get_random 8) eight_reply ∷ []) → ⊥ }
-    ensures closed { Legal (zero_persist 0)
+    ensures closed { Legal (zero_persist 0) 64
         (open_entry 0 ∷ close_entry 0 ∷ plain_entry 0 1 (get_random 8) eight_reply ∷ []) → ⊥ }
-    ensures cancel { Legal (zero_persist 0) (canceled_before 1 1 ∷ []) → ⊥ }
-    ensures cancel_closed { Legal (zero_persist 0)
+    ensures cancel { Legal (zero_persist 0) 64 (canceled_before 1 1 ∷ []) → ⊥ }
+    ensures cancel_closed { Legal (zero_persist 0) 64
         (open_entry 0 ∷ close_entry 0 ∷ canceled_before 1 1 ∷ []) → ⊥ }
-    ensures fault { Legal (zero_persist 0) (failed_entry 1 1 ∷ []) → ⊥ }
-    ensures fault_closed { Legal (zero_persist 0)
+    ensures fault { Legal (zero_persist 0) 64 (failed_entry 1 1 ∷ []) → ⊥ }
+    ensures fault_closed { Legal (zero_persist 0) 64
         (open_entry 0 ∷ close_entry 0 ∷ failed_entry 1 1 ∷ []) → ⊥ }
-    ensures close { Legal (zero_persist 0) (close_entry 0 ∷ []) → ⊥ }
-    ensures twice { Legal (zero_persist 0)
+    ensures close { Legal (zero_persist 0) 64 (close_entry 0 ∷ []) → ⊥ }
+    ensures twice { Legal (zero_persist 0) 64
         (open_entry 0 ∷ close_entry 0 ∷ close_entry 0 ∷ []) → ⊥ }
-    ensures close_another { Legal (zero_persist 0) (open_entry 0 ∷ close_entry 1 ∷ []) → ⊥ }
-    ensures opened_again { Legal (zero_persist 0) (open_entry 0 ∷ open_entry 0 ∷ []) → ⊥ }
+    ensures close_another { Legal (zero_persist 0) 64 (open_entry 0 ∷ close_entry 1 ∷ []) → ⊥ }
+    ensures opened_again { Legal (zero_persist 0) 64 (open_entry 0 ∷ open_entry 0 ∷ []) → ⊥ }
 {}
 
 // Numbers begin with 1, and rise over all three kinds of entry that have one.
 fn numbers_rise_from_1()
-    ensures zero { Legal (zero_persist 0)
+    ensures zero { Legal (zero_persist 0) 64
         (open_entry 0 ∷ plain_entry 0 0 (get_random 8) eight_reply ∷ []) → ⊥ }
-    ensures zero_cancel { Legal (zero_persist 0) (open_entry 0 ∷ canceled_before 0 1 ∷ []) → ⊥ }
-    ensures zero_fault { Legal (zero_persist 0) (open_entry 0 ∷ failed_entry 0 1 ∷ []) → ⊥ }
-    ensures cancel_twice { Legal (zero_persist 0)
+    ensures zero_cancel { Legal (zero_persist 0) 64 (open_entry 0 ∷ canceled_before 0 1 ∷ []) → ⊥ }
+    ensures zero_fault { Legal (zero_persist 0) 64 (open_entry 0 ∷ failed_entry 0 1 ∷ []) → ⊥ }
+    ensures cancel_twice { Legal (zero_persist 0) 64
         (open_entry 0 ∷ canceled_before 1 1 ∷ canceled_before 1 1 ∷ []) → ⊥ }
-    ensures fault_twice { Legal (zero_persist 0)
+    ensures fault_twice { Legal (zero_persist 0) 64
         (open_entry 0 ∷ failed_entry 1 1 ∷ failed_entry 1 2 ∷ []) → ⊥ }
-    ensures after_a_fault { Legal (zero_persist 0)
+    ensures after_a_fault { Legal (zero_persist 0) 64
         (open_entry 0 ∷ failed_entry 1 1 ∷ plain_entry 0 1 (get_random 8) eight_reply ∷ []) → ⊥ }
-    ensures after_a_cancel { Legal (zero_persist 0)
+    ensures after_a_cancel { Legal (zero_persist 0) 64
         (open_entry 0 ∷ canceled_before 1 1 ∷ plain_entry 0 1 (get_random 8) eight_reply ∷ []) → ⊥ }
-    ensures gap { Legal (zero_persist 0)
+    ensures gap { Legal (zero_persist 0) 64
         (open_entry 0 ∷ failed_entry 2 1 ∷ failed_entry 7 2 ∷ []) }
 {}
 
 // A fault is told DEVICE_FAULT and nothing else. A count at the end of its type stays.
 fn faults_have_one_reply()
-    ensures other { Legal (zero_persist 0)
+    ensures other { Legal (zero_persist 0) 64
         (open_entry 0 ∷ fault_entry 0 1 1 (get_random 8) memory_reply ∷ []) → ⊥ }
-    ensures success { Legal (zero_persist 0)
+    ensures success { Legal (zero_persist 0) 64
         (open_entry 0 ∷ fault_entry 0 1 1 (get_random 8) eight_reply ∷ []) → ⊥ }
-    ensures falls { Legal (zero_persist 0)
+    ensures falls { Legal (zero_persist 0) 64
         (open_entry 0 ∷ failed_entry 1 2 ∷ failed_entry 2 1 ∷ []) → ⊥ }
-    ensures largest { Legal (zero_persist 0)
+    ensures largest { Legal (zero_persist 0) 64
         (open_entry 0 ∷ failed_entry 1 largest_count ∷ failed_entry 2 largest_count ∷ []) }
 {}
 

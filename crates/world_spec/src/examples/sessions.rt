@@ -1,6 +1,6 @@
 //! Sessions of clients: each number is one client's, and which number a new session gets is a pick.
 
-ghost use Rattle.std.specs.Prelude.{◌≡◌, ◌∷◌, ◌++◌, [], replicate, set, Some, None};
+ghost use Rattle.std.specs.Prelude.{◌≡◌, ◌∷◌, ◌++◌, [], replicate, set, Some, None, is_some, true};
 ghost use Rattle.tab_spec.specs.Examples.{area, flush, frame, plain_auth, refusal, u32};
 ghost use Rattle.tab_spec.specs.declared.TheConstants.{CC_POLICY_AUTH_VALUE};
 ghost use Rattle.history_spec.specs.declared.Pick.TheVariants.{Nothing, Session, Sequence};
@@ -8,7 +8,7 @@ ghost use Rattle.world_spec.specs.World.{closed_world, new_client, no_sessions, 
 ghost use Rattle.world_spec.specs.World.{world_of};
 ghost use Rattle.world_spec.specs.Examples.{begun_hmac, begun_policy, digest_reply, get_digest};
 ghost use Rattle.world_spec.specs.Examples.{start_session, started_reply, taken_numbers};
-ghost use Rattle.world_spec.specs.Examples.{world_of_sessions};
+ghost use Rattle.world_spec.specs.Examples.{of_16_sessions, world_of_sessions};
 
 // A session that starts gets the number that is picked, below 64 and no client's; its handle tells
 // the octet of its type and that number.
@@ -40,9 +40,10 @@ fn sessions_get_a_number()
         ) }
 {}
 
-// The 65th session is refused, after its parameters were read and tested.
+// The 65th session is refused, after its parameters were read and tested; over a device of 16
+// sessions the 17th is, whatever numbers these have.
 #[tactic(auto, unfolding(tab_spec::specs::Auths::auths_of, tab_spec::specs::Admission::admitted, effect_spec::specs::Effect::effect_of, crate::specs::World::client_step, crate::specs::World::plain_step))]
-fn sessions_are_64()
+fn sessions_are_bounded()
     ensures too_many { plain_step (world_of_sessions 0 (taken_numbers 64)) 0
         (start_session 1) Nothing
         ≡ Some (world_of_sessions 0 (taken_numbers 64), refusal 0x09 0x05) }
@@ -50,6 +51,12 @@ fn sessions_are_64()
         ≡ Some (world_of_sessions 0 (taken_numbers 64), refusal 0x03 0xc4) }
     ensures refused_pick { plain_step (world_of_sessions 0 (taken_numbers 64)) 0 (start_session 1)
         (Session 0)
+        ≡ None }
+    ensures seventeenth { plain_step (of_16_sessions (taken_numbers 16)) 0 (start_session 1) Nothing
+        ≡ Some (of_16_sessions (taken_numbers 16), refusal 0x09 0x05) }
+    ensures sixteenth { is_some
+        (plain_step (of_16_sessions (taken_numbers 15)) 0 (start_session 1) (Session 63)) ≡ true }
+    ensures unused { plain_step (of_16_sessions (taken_numbers 16)) 0 (start_session 1) (Session 20)
         ≡ None }
 {}
 

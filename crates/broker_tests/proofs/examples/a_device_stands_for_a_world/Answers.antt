@@ -1,5 +1,6 @@
 use Rattle.std.proofs.Common.{◌≡◌, ℕ, zero, suc, [], ◌∷◌, refl, ap, arith}
 use Rattle.std.specs.Prelude.{replicate}
+use Rattle.tab_spec.specs.Numbers.{AreInRange, profile_numbers}
 use Rattle.tab_spec.specs.Persist.{Persist, stream_bytes}
 use Rattle.rand_core.specs.Steps.{u32_at}
 use Rattle.rand_chacha.specs.Block.{quarter_round, column_round, diagonal_round, double_rounds, block_word}
@@ -14,9 +15,19 @@ use Rattle.broker_core.specs.Tables.{table_of}
 use Rattle.broker_core.proofs.Beginning.{settled_empty}
 use Rattle.broker_tests.proofs.examples.a_device_stands_for_a_world.Goals as goal
 
+range : AreInRange profile_numbers
+range = record {
+  slots_least = omega arith;
+  slots_most = omega arith;
+  loaded_least = omega arith;
+  loaded_most = omega arith;
+  active_most = omega arith;
+  gap_least = omega arith;
+}
+
 sound_at : IsSlots (device_at 5)
 sound_at =
-    let fresh = new_is_slots (replicate 32 0) refl in
+    let fresh = new_is_slots profile_numbers (replicate 32 0) range refl in
     record {
       persist = record {
         seed = fresh.persist.seed;
@@ -28,6 +39,7 @@ sound_at =
         pcr_sizes = fresh.persist.pcr_sizes;
         updates = fresh.persist.updates;
       };
+      range = range;
       count = fresh.count;
       objects = fresh.objects;
       object_counter = fresh.object_counter;
@@ -48,7 +60,9 @@ unfolding plain_step client_step admitted auths_of effect_of stream_bytes u32_at
 returns-clause-at_its_place c =
     record {
       persist = refl;
-      settled = settled_empty (device_at 5) 3 0 refl sound_at refl;
+      most = refl;
+      profile = refl;
+      settled = settled_empty (device_at 5) profile_numbers 0 refl sound_at refl refl;
       clients = λ client. rw (nobody client) refl;
       sessions = refl;
       handed = record { of_objects = omega arith; of_sessions = omega arith };

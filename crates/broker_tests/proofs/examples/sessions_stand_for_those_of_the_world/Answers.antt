@@ -1,6 +1,7 @@
 use Rattle.std.proofs.Common.{◌≡◌, ◌+◌, ℕ, zero, suc, true, false, List, [], ◌∷◌, Option, refl, ap, subst, sym, ◌∙◌, arith}
 use Rattle.std.specs.Prelude.{◌==◌, Bool, get_or, is_some, replicate, IfSome, if◌then◌else◌}
 use Rattle.std.specs.List.{AllByRecursion}
+use Rattle.tab_spec.specs.Numbers.{AreInRange, profile_numbers}
 use Rattle.tab_spec.specs.Object.{Object}
 use Rattle.device_spec.specs.Slots.{IsPlace, IsSlots, inactive, is_active}
 use Rattle.device_laws.proofs.Replies.{new_is_slots}
@@ -23,9 +24,19 @@ unused_at zero number = refl
 unused_at (suc count) zero = refl
 unused_at (suc count) (suc number) = unused_at count number
 
+range : AreInRange profile_numbers
+range = record {
+  slots_least = omega arith;
+  slots_most = omega arith;
+  loaded_least = omega arith;
+  loaded_most = omega arith;
+  active_most = omega arith;
+  gap_least = omega arith;
+}
+
 sound : IsSlots two_session_device
 sound =
-    let fresh = new_is_slots (replicate 32 0) refl in
+    let fresh = new_is_slots profile_numbers (replicate 32 0) range refl in
     record {
       persist = record {
         seed = fresh.persist.seed;
@@ -37,6 +48,7 @@ sound =
         pcr_sizes = fresh.persist.pcr_sizes;
         updates = fresh.persist.updates;
       };
+      range = range;
       count = fresh.count;
       objects = fresh.objects;
       object_counter = fresh.object_counter;
@@ -66,7 +78,7 @@ owned (suc (suc number)) =
 settled : IsSettled two_session_device (held_with [] two_sessions)
 settled = record {
   objects = record { started = refl; sound = sound; each = tt; owned = owned_nothing two_session_device refl };
-  sessions = record { started = refl; sound = sound; count = refl; each = each; owned = owned; next = λ saved. absurd cc; rise = tt };
+  sessions = record { started = refl; sound = sound; numbers = refl; count = refl; each = each; owned = owned; next = λ saved. absurd cc; rise = tt };
   gap = omega arith;
 }
 
@@ -87,6 +99,8 @@ pub returns-clause-stand : goal.returns-clause-stand
 returns-clause-stand c =
     record {
       persist = refl;
+      most = refl;
+      profile = refl;
       settled = settled;
       clients = nobody;
       sessions = refl;

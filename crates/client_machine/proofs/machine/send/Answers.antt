@@ -4,19 +4,18 @@ use Rattle.tab_laws.proofs.Outcomes.{from_ok}
 use Rattle.device_spec.specs.Answers.{takes}
 use Rattle.device_port.specs.Device.{count_of, newest_command, newest_response}
 use Rattle.device_port.proofs.Asking.{sent_as}
-use Rattle.session_swap.specs.Items.{Item}
-use Rattle.std.specs.Prelude.{Option}
+use Rattle.session_swap.specs.Items.{SessionsView}
 use Rattle.client_machine.specs.Moves.{loads_kept, number_taken}
 use Rattle.client_machine.proofs.Sending.{last_of, never_taken, untold, wrong_answer}
 use Rattle.client_machine.proofs.machine.send.Goals as goal
 
-told : (kept : Bool) (items : List (Option Item)) (result shown_kept taken is : Bool) (command shown other read reply : List ℕ)
+told : (kept : Bool) (view : SessionsView) (result shown_kept taken is : Bool) (command shown other read reply : List ℕ)
     → result ≡ takes shown_kept taken command shown → ((t : Bool) → takes shown_kept t command read ≡ takes kept t command read)
-    → taken ≡ number_taken items other → read ≡ reply → other ≡ reply → shown ≡ reply → result ≡ is
-    → takes kept (number_taken items reply) command reply ≡ is
-told kept items result shown_kept taken is command shown other read reply result_is kept_is taken_is read_is other_is same test =
-    ap (takes kept (number_taken items reply) command) (sym read_is) ∙ sym (kept_is (number_taken items reply))
-    ∙ (λ i. takes shown_kept ((ap (number_taken items) (sym other_is) ∙ sym taken_is) i) command ((read_is ∙ sym same) i))
+    → taken ≡ number_taken view other → read ≡ reply → other ≡ reply → shown ≡ reply → result ≡ is
+    → takes kept (number_taken view reply) command reply ≡ is
+told kept view result shown_kept taken is command shown other read reply result_is kept_is taken_is read_is other_is same test =
+    ap (takes kept (number_taken view reply) command) (sym read_is) ∙ sym (kept_is (number_taken view reply))
+    ∙ (λ i. takes shown_kept ((ap (number_taken view) (sym other_is) ∙ sym taken_is) i) command ((read_is ∙ sym same) i))
     ∙ sym result_is ∙ test
 
 pub returns-then-not-takes-clause-err : goal.returns-then-not-takes-clause-err
@@ -24,16 +23,16 @@ returns-then-not-takes-clause-err g c =
     let sent = sym c.is_err.ensures.value ∙ c.if-is_err.false in
     let command = c.args.command.now in
     let kept = loads_kept c.args.held.now.objects.items command in
-    let items = c.args.held.now.sessions.items in
+    let view = c.args.held.now.sessions in
     let reply = c.transmit.new.reply in
-    let not_taken = told kept items c.takes.result c.refuses_kept-is_kept.result c.is_number_taken-is_taken.result false command c.as_slice-3.result.now c.as_slice-2.result.now c.as_slice.result.now reply
+    let not_taken = told kept view c.takes.result c.refuses_kept-is_kept.result c.is_number_taken-is_taken.result false command c.as_slice-3.result.now c.as_slice-2.result.now c.as_slice.result.now reply
     c.takes.ensures c.refuses_kept-is_kept.ensures c.is_number_taken-is_taken.ensures c.as_slice.ensures.value c.as_slice-2.ensures.value c.as_slice-3.ensures.value c.if-not-takes.true in
-    let none = untold _ _ kept (number_taken items) command reply c.requires.told (from_ok c.transmit.result _ c.transmit.ensures.answered sent) not_taken in
+    let none = untold _ _ kept (number_taken view) command reply c.requires.told (from_ok c.transmit.result _ c.transmit.ensures.answered sent) not_taken in
     let last_is = last_of c.transmit.result _ _ (ap newest_response c.transmit.ensures.trace) sent in
     record {
       sent = record { once = ap count_of c.transmit.ensures.trace; one = sent_as _ _ _ _ c.transmit.ensures.trace; asked_is = ap newest_command c.transmit.ensures.trace; failed = λ never. absurd (let some = sym last_is ∙ never in cc) };
       cause = (
-        wrong_answer command _ _ reply _ (ap newest_command c.transmit.ensures.trace) last_is (never_taken kept (number_taken items reply) command reply not_taken)
+        wrong_answer command _ _ reply _ (ap newest_command c.transmit.ensures.trace) last_is (never_taken kept (number_taken view reply) command reply not_taken)
             (c.reported_code.ensures ∙ ap reported_code c.as_slice-then-not-takes.ensures.value),
         none.0,
       );
@@ -47,9 +46,9 @@ returns-clause-ok g c =
     let sent = sym c.is_err.ensures.value ∙ c.if-is_err.false in
     let command = c.args.command.now in
     let kept = loads_kept c.args.held.now.objects.items command in
-    let items = c.args.held.now.sessions.items in
+    let view = c.args.held.now.sessions in
     let reply = c.transmit.new.reply in
-    let taken = told kept items c.takes.result c.refuses_kept-is_kept.result c.is_number_taken-is_taken.result true command c.as_slice-3.result.now c.as_slice-2.result.now c.as_slice.result.now reply
+    let taken = told kept view c.takes.result c.refuses_kept-is_kept.result c.is_number_taken-is_taken.result true command c.as_slice-3.result.now c.as_slice-2.result.now c.as_slice.result.now reply
     c.takes.ensures c.refuses_kept-is_kept.ensures c.is_number_taken-is_taken.ensures c.as_slice.ensures.value c.as_slice-2.ensures.value c.as_slice-3.ensures.value c.if-not-takes.false in
     let last_is = last_of c.transmit.result _ _ (ap newest_response c.transmit.ensures.trace) sent in
     record {

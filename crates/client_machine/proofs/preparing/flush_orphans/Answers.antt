@@ -34,7 +34,8 @@ loop-handle-preserved g c =
     record {
       clears = clears_then _ _ _ _ _ _ _ so_far
           (clears_session _ _ _ c.loop-handle.held c.drop_session.new.self c.in-Some.handle c.in-Some.ensures.1
-          (ap (λ (v : SessionsView). v.items) gone.ok.view_is) (ap (λ (v : SessionsView). v.next) gone.ok.view_is) gone.ok.sessions
+          (ap (λ (v : SessionsView). v.numbers) gone.ok.view_is) (ap (λ (v : SessionsView). v.items) gone.ok.view_is)
+          (ap (λ (v : SessionsView). v.next) gone.ok.view_is) gone.ok.sessions
           (gone.stands.stand [] (sessions_settled (seen c.loop-handle.device).state c.loop-handle.held so_far.prepared.settled))
           gone.counts.counter
           (gone.counts.room (gap_settled (seen c.loop-handle.device).state c.loop-handle.held so_far.prepared.settled))

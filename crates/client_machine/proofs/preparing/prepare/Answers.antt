@@ -126,7 +126,7 @@ returns-clause-ready g c =
     let sessions_are = c.bring.ensures.rest.1 in
     record {
       nobodys = omega (arith, c.in_ok-renew.ensures.clear.nobodys, c.load_sessions.ensures.prepared.orphans, c.bring.ensures.prepared.orphans);
-      gap = omega (arith, c.in_ok-load_sessions.ensures.ok.1, gap_over_objects loaded state rest);
+      gap = gap_over_objects loaded state rest c.in_ok-load_sessions.ensures.ok.1;
       narrow = λ none starts_none.
           let all : AreLoaded (named_sessions a) c.renew.new.held.sessions.items =
           subst (λ (l : List ℕ). AreLoaded l c.renew.new.held.sessions.items) (sym none) tt in
@@ -138,8 +138,7 @@ returns-clause-ready g c =
       sessions = record {
         loaded = subst (λ (v : SessionsView). AreLoaded (named_sessions a) v.items) (sym sessions_are) ready.loaded;
         room = λ starts.
-            room_kept loaded state c.load_sessions.new.held.sessions.items c.bring.new.held.sessions.items rest
-            (ap (λ (v : SessionsView). v.items) sessions_are) (ready.room starts);
+            room_kept loaded state c.load_sessions.new.held.sessions c.bring.new.held.sessions rest sessions_are (ready.room starts);
       };
       free = λ makes.
           let is : c.makes_object.result ≡ true = c.makes_object.ensures ∙ makes in
@@ -156,7 +155,7 @@ returns-clause-still g c = λ hand.
     let held = c.args.held.now in
     let renewed = c.renew.ensures.still hand.nobodys hand.narrow in
     let loaded = c.load_sessions.ensures.still
-    (subst (λ (h : Held). NeedsNoSession h.sessions.items c.args.admitted.now) (sym renewed.1) (inl (hand.starts_none, hand.loaded))) in
+    (subst (λ (h : Held). NeedsNoSession h.sessions c.args.admitted.now) (sym renewed.1) (inl (hand.starts_none, hand.loaded))) in
     let objects_are : c.load_sessions.new.held.objects ≡ held.objects = c.load_sessions.ensures.rest ∙ ap (λ (h : Held). h.objects) renewed.1 in
     let none : c.makes_object.result ≡ false = c.makes_object.ensures ∙ hand.makes_none in
     let zero : c.from-new_slots.result ≡ 0 = rw none at c.from-new_slots.ensures in

@@ -1,8 +1,7 @@
-use Rattle.std.proofs.Common.{◌∙◌, arith, subst, sym, ◌<◌, Ok}
+use Rattle.std.proofs.Common.{◌∙◌, ap, arith, subst, sym, ◌<◌, Ok}
 use Rattle.std.proofs.lemmas.Result.{err_from_is_err_and}
 use Rattle.device_port.proofs.Sending.{asks_then, some_failed}
-use Rattle.session_swap.specs.declared.TheConstants.{RENEWAL_GAP}
-use Rattle.session_swap.specs.Items.{SessionsView, gap_kept, saved_items}
+use Rattle.session_swap.specs.Items.{SessionsView, gap_kept, renewal_gap, saved_items}
 use Rattle.client_machine.specs.declared.held.Held.{Held}
 use Rattle.client_machine.specs.Moves.{Loses}
 use Rattle.client_machine.proofs.Before.{asks_as, before_flushed, before_then, ready_failed}
@@ -60,7 +59,7 @@ returns-clause-clear g c =
 pub returns-clause-still : goal.returns-clause-still
 returns-clause-still g c = λ none narrow.
     let flushed = c.flush_orphans.ensures.clears.still none in
-    let renewed = c.refresh.ensures.still (subst (λ (h : Held). gap_kept h.sessions < RENEWAL_GAP) (sym flushed.1) narrow) in
+    let renewed = c.refresh.ensures.still (subst (λ (h : Held). gap_kept h.sessions < renewal_gap h.sessions.numbers) (sym flushed.1) narrow) in
     (renewed.0 ∙ flushed.0, (λ i. record { objects = c.flush_orphans.new.held.objects; sessions = renewed.1 i }) ∙ flushed.1)
 
 pub returns-clause-sends : goal.returns-clause-sends
@@ -80,7 +79,8 @@ returns-in_err-refresh-clause-costs g c =
       arith,
       c.flush_orphans.ensures.costs,
       renews_few g.D.Device.seen c.flush_orphans.new.device c.refresh.new.device (gap_kept c.args.held.now.sessions)
-          (gap_kept c.flush_orphans.new.held.sessions) (saved_items c.flush_orphans.new.held.sessions.items) c.flush_orphans.ensures.clears.gap
+          (gap_kept c.flush_orphans.new.held.sessions) (saved_items c.flush_orphans.new.held.sessions.items) c.args.held.now.sessions.numbers
+          c.flush_orphans.new.held.sessions.numbers c.flush_orphans.ensures.clears.prepared.numbers c.flush_orphans.ensures.clears.gap
           (λ narrow. (renewed.still narrow).0) (omega (arith, renewed.counts.sent)) renewed.counts.few,
     )
 
@@ -91,7 +91,8 @@ returns-clause-costs g c =
       arith,
       c.flush_orphans.ensures.costs,
       renews_few g.D.Device.seen c.flush_orphans.new.device c.refresh.new.device (gap_kept c.args.held.now.sessions)
-          (gap_kept c.flush_orphans.new.held.sessions) (saved_items c.flush_orphans.new.held.sessions.items) c.flush_orphans.ensures.clears.gap
+          (gap_kept c.flush_orphans.new.held.sessions) (saved_items c.flush_orphans.new.held.sessions.items) c.args.held.now.sessions.numbers
+          c.flush_orphans.new.held.sessions.numbers c.flush_orphans.ensures.clears.prepared.numbers c.flush_orphans.ensures.clears.gap
           (λ narrow. (renewed.still narrow).0) (omega (arith, renewed.counts.sent)) renewed.counts.few,
     )
 
@@ -99,10 +100,10 @@ pub returns-in_err-refresh-clause-stays : goal.returns-in_err-refresh-clause-sta
 returns-in_err-refresh-clause-stays g c = λ narrow.
     let flushed = c.flush_orphans.ensures.clears in
     subst (λ (v : SessionsView). Loses c.args.held.now (record { objects = c.flush_orphans.new.held.objects; sessions = v }))
-    (sym (c.refresh.ensures.still (omega (arith, flushed.gap, narrow))).1) flushed.loses
+    (sym (c.refresh.ensures.still (omega (arith, flushed.gap, narrow, ap renewal_gap flushed.prepared.numbers))).1) flushed.loses
 
 pub returns-clause-stays : goal.returns-clause-stays
 returns-clause-stays g c = λ narrow.
     let flushed = c.flush_orphans.ensures.clears in
     subst (λ (v : SessionsView). Loses c.args.held.now (record { objects = c.flush_orphans.new.held.objects; sessions = v }))
-    (sym (c.refresh.ensures.still (omega (arith, flushed.gap, narrow))).1) flushed.loses
+    (sym (c.refresh.ensures.still (omega (arith, flushed.gap, narrow, ap renewal_gap flushed.prepared.numbers))).1) flushed.loses

@@ -7,8 +7,8 @@ pub returns-in-Answered-clause-told : goal.returns-in-Answered-clause-told
 returns-in-Answered-clause-told c =
     let seen = c.args.seen.now in (
       answered_own c.client_capability.result (is_of_device c.args.params.now) c.client_capability.ensures.device c.in-Answered.is,
-      answered_had seen.client seen.table.now.items seen.sessions.now.items c.from.result c.args.params.now c.start_response.new.reply
-          c.client_capability.new.reply c.end_response.new.reply seen.short (c.from.ensures ∙ c.active.ensures.count) c.start_response.ensures
+      answered_had seen.client seen.table.now.items seen.sessions.now c.from.result c.most.result c.args.params.now c.start_response.new.reply
+          c.client_capability.new.reply c.end_response.new.reply seen.short (c.from.ensures ∙ c.active.ensures.count) c.most.ensures c.start_response.ensures
           c.in-Answered.ensures.told c.end_response.ensures,
     )
 
@@ -16,6 +16,6 @@ pub returns-in-Refused-clause-told : goal.returns-in-Refused-clause-told
 returns-in-Refused-clause-told c =
     let seen = c.args.seen.now in (
       refused_own c.client_capability.result (is_of_device c.args.params.now) c.in-Refused.code c.client_capability.ensures.device c.in-Refused.is,
-      refused_had seen.client seen.table.now.items seen.sessions.now.items c.from.result c.in-Refused.code c.args.params.now
-          c.error_reply.new.reply seen.short (c.from.ensures ∙ c.active.ensures.count) c.in-Refused.ensures.told.0 c.error_reply.ensures,
+      refused_had seen.client seen.table.now.items seen.sessions.now c.from.result c.most.result c.in-Refused.code c.args.params.now
+          c.error_reply.new.reply seen.short (c.from.ensures ∙ c.active.ensures.count) c.most.ensures c.in-Refused.ensures.told.0 c.error_reply.ensures,
     )

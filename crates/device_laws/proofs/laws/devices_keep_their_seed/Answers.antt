@@ -1,5 +1,8 @@
-use Rattle.device_laws.proofs.Seeds.{step_seed}
+use Rattle.device_laws.proofs.Seeds.{step_numbers, step_seed}
 use Rattle.device_laws.proofs.laws.devices_keep_their_seed.Goals as goal
 
-pub returns : goal.returns
-returns c = step_seed
+pub returns-clause-seed : goal.returns-clause-seed
+returns-clause-seed c = step_seed
+
+pub returns-clause-numbers : goal.returns-clause-numbers
+returns-clause-numbers c = step_numbers

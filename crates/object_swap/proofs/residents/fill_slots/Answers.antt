@@ -44,7 +44,7 @@ make_resident-requires-clause-room g c out =
     let named = named_again (items_of c.args.records.now) (items_of records) _ held.swaps.keeps.objects.owners
     (needed_at needed (items_of c.args.records.now) index 0 c.requires.needed.there inside) in
     room_left _ (items_of records) _ (missing (drop index needed) (items_of records)) held.swaps.keeps.stand
-    (room_again _ _ _ held.swaps.keeps.rest c.requires.needed.room) (omega (arith, held.left))
+    (room_again _ _ (items_of c.args.records.now) (items_of records) _ c.requires.ready.stand held.swaps.keeps.stand held.swaps.keeps.rest c.requires.needed.room) (omega (arith, held.left))
     (some_missing needed index records inside (named_inside records _ named) out)
 
 pub loop-item-preserved : goal.loop-item-preserved

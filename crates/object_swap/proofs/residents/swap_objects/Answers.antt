@@ -24,7 +24,7 @@ fill_slots-requires-clause-needed g c =
     let missing_is = missing_same c.args.needed.now (items_of c.args.records.now) (items_of c.clear_slots.new.records) evicts.stay in
     record {
       there = all_named c.args.needed.now (items_of c.args.records.now) (items_of c.clear_slots.new.records) keeps.objects.owners c.requires.needed.there;
-      room = room_fewer _ c.args.slots _ (room_again _ _ c.args.slots keeps.rest c.requires.needed.room)
+      room = room_fewer _ c.args.slots _ (room_again _ _ (items_of c.args.records.now) (items_of c.clear_slots.new.records) c.args.slots c.requires.ready.stand keeps.stand keeps.rest c.requires.needed.room)
           (omega (arith, evicts.left, missing_is, count.count, count.most, c.from-most.ensures, c.requires.needed.fits));
     }
 

@@ -8,10 +8,10 @@ use Rattle.device_spec.specs.ContextCommands.{context_save_command}
 use Rattle.session_swap.specs.Records.{item_of_record, items_of}
 use Rattle.session_swap.specs.Items.{item_at, saved_by_client}
 use Rattle.session_swap.proofs.Among.{saved_inside}
-use Rattle.session_swap.proofs.Handed.{IsHandedOut, IsLoadedUnder, asks_told, fits_gap, hands_of, items_handed, loaded_there, number_told, ready_handed, replies_told, room_to_hand, sessions_handed}
+use Rattle.session_swap.proofs.Handed.{IsHandedOut, IsLoadedUnder, asks_told, hands_of, items_handed, loaded_there, number_told, ready_handed, replies_told, room_to_hand, sessions_handed}
 use Rattle.device_port.proofs.Sending.{asks_failed}
 use Rattle.session_swap.proofs.Asking.{on_err_whole}
-use Rattle.session_swap.proofs.Renewed.{freed, once_more}
+use Rattle.session_swap.proofs.Renewed.{can_number, freed, once_more}
 use Rattle.session_swap.proofs.clients.save_for_client.Goals as goal
 
 pub put_out-requires-clause-loaded : goal.put_out-requires-clause-loaded
@@ -20,6 +20,11 @@ put_out-requires-clause-loaded g c =
     record { number_is = c.number_of-number.ensures; loaded = c.requires.may.loaded } in
     loaded_there (items_of c.args.records.now) c.args.handle c.number_of-number.result under
 
+pub put_out-requires-clause-may : goal.put_out-requires-clause-may
+put_out-requires-clause-may g c =
+    can_number _ c.args.records.now c.args.next.now c.requires.ready.1 c.requires.ready.2 c.requires.may.gap
+    (omega (arith, c.requires.may.counter))
+
 pub bounds-records-number : goal.bounds-records-number
 bounds-records-number g c =
     let mid = c.put_out.new.records in
@@ -27,7 +32,7 @@ bounds-records-number g c =
 
 pub hand_out-requires : goal.hand_out-requires
 hand_out-requires g c =
-    let ready = c.put_out.ensures.ready c.requires.ready.0 c.requires.ready.1 in
+    let ready = c.put_out.ensures.ready c.requires.ready.0 c.requires.ready.1 c.requires.ready.2 in
     room_to_hand c.put_out.new.records c.number_of-number.result c.index-records-number.result ready.sound
     c.in_ok-put_out.ensures.ok.saves.saved_is
 
@@ -55,7 +60,7 @@ returns-clause-ok g c =
     let bytes = drop HEADER_BYTES c.put_out.new.scratch in
     let left = c.in_ok-put_out.ensures in
     let out = left.ok in
-    let ready = left.ready c.requires.ready.0 c.requires.ready.1 in
+    let ready = left.ready c.requires.ready.0 c.requires.ready.1 c.requires.ready.2 in
     let under : IsLoadedUnder items c.args.handle n = record { number_is = c.number_of-number.ensures; loaded = c.requires.may.loaded } in
     let handed : IsHandedOut r c.hand_out.new.self =
     record { same = c.hand_out.ensures.saved; handed = c.hand_out.ensures.handed; room = c.hand_out.ensures.room } in
@@ -65,11 +70,11 @@ returns-clause-ok g c =
     items_handed items mid n bytes r c.hand_out.new.self hands
     ∙ ap (λ (n : ℕ). set items n (saved_by_client bytes (item_at items n))) c.number_of-number.ensures in
     let told = replies_told state items c.args.handle n c.put_out.new.scratch under out.told in (
-      record {
+      λ numbers. record {
         last_is = out.reply_is.last_is;
         frame = out.reply_is.frame;
         success = told.0;
-        view_is = λ i. record { items = items_are i; next = out.reply_is.next_is i; order = []; saved = number_of_session c.args.handle ∷ [] };
+        view_is = λ i. record { numbers = numbers; items = items_are i; next = out.reply_is.next_is i; order = []; saved = number_of_session c.args.handle ∷ [] };
       },
       record {
         context = told.1;
@@ -86,7 +91,7 @@ returns-clause-sessions g c =
     let r = get_or mid n c.index-records-number.result in
     let bytes = drop HEADER_BYTES c.put_out.new.scratch in
     let left = c.in_ok-put_out.ensures in
-    let ready = left.ready c.requires.ready.0 c.requires.ready.1 in
+    let ready = left.ready c.requires.ready.0 c.requires.ready.1 c.requires.ready.2 in
     let under : IsLoadedUnder items c.args.handle n = record { number_is = c.number_of-number.ensures; loaded = c.requires.may.loaded } in
     let handed : IsHandedOut r c.hand_out.new.self =
     record { same = c.hand_out.ensures.saved; handed = c.hand_out.ensures.handed; room = c.hand_out.ensures.room } in
@@ -95,20 +100,20 @@ returns-clause-sessions g c =
     sessions_handed (g.D.Device.seen c.put_out.new.device).state items mid n bytes r c.hand_out.new.self hands ∙ left.swaps.sessions.sessions
 
 pub returns-clause-ready : goal.returns-clause-ready
-returns-clause-ready g c others start =
+returns-clause-ready g c numbers others start =
     let items = items_of c.args.records.now in
     let mid = c.put_out.new.records in
     let n = c.number_of-number.result in
     let r = get_or mid n c.index-records-number.result in
     let bytes = drop HEADER_BYTES c.put_out.new.scratch in
     let left = c.in_ok-put_out.ensures in
-    let ready = left.ready others start in
+    let ready = left.ready numbers others start in
     let under : IsLoadedUnder items c.args.handle n = record { number_is = c.number_of-number.ensures; loaded = c.requires.may.loaded } in
     let handed : IsHandedOut r c.hand_out.new.self =
     record { same = c.hand_out.ensures.saved; handed = c.hand_out.ensures.handed; room = c.hand_out.ensures.room } in
     let hands = hands_of items mid c.args.handle n _ c.put_out.new.scratch c.put_out.new.next c.index-records-number.result
     c.hand_out.new.self under ready.sound left.ok.saves.saved_is left.ok.reply_is c.index-records-number.is handed in
-    ready_handed (g.D.Device.seen c.put_out.new.device).state items mid c.put_out.new.next n bytes r c.hand_out.new.self others hands
+    ready_handed numbers (g.D.Device.seen c.put_out.new.device).state items mid c.put_out.new.next n bytes r c.hand_out.new.self others hands
     ready.stand
 
 pub returns-clause-keeps : goal.returns-clause-keeps
@@ -116,7 +121,7 @@ returns-clause-keeps g c =
     let swaps = c.in_ok-put_out.ensures.swaps in (
       record { base_is = swaps.base_is; rest = swaps.rest; rises = swaps.rises; count = swaps.count },
       (freed _ _ (items_of c.args.records.now) (items_of c.put_out.new.records) c.number_of-number.result swaps.rest swaps.gap
-          (fits_gap _ c.requires.may.gap) c.in_ok-put_out.ensures.ok.saves).room,
+          c.requires.may.gap c.in_ok-put_out.ensures.ok.saves).room,
     )
 
 pub returns-clause-asks : goal.returns-clause-asks

@@ -4,7 +4,8 @@ use Rattle.std.proofs.lemmas.Result.{err_from_is_err_and}
 use Rattle.device_port.specs.Device.{sent_of}
 use Rattle.device_port.proofs.Sending.{asks_none, asks_then, some_failed}
 use Rattle.session_swap.proofs.Asking.{some_ok}
-use Rattle.session_swap.specs.Items.{KeepsRecent, counter_of, full_kept, gap_kept, saved_items}
+use Rattle.tab_spec.specs.declared.numbers.Numbers.{Numbers}
+use Rattle.session_swap.specs.Items.{KeepsRecent, SessionsView, counter_of, full_kept, gap_kept, renewal_gap, saved_items}
 use Rattle.session_swap.proofs.Refreshed.{begins, counted_first, counted_next, counter_next, counts_all, counts_next, few_all, few_saved, goes_on, kept_most, kept_none, narrow_all, narrow_kept, order_next, order_start, sent_next, stays_recent, steps_last, steps_next, visited_failed}
 use Rattle.session_swap.proofs.Renewed.{one_left, told_all}
 use Rattle.session_swap.proofs.gap.refresh_by.Goals as goal
@@ -14,6 +15,7 @@ loop-renewed-init g c =
     let state = (g.D.Device.seen c.args.device.now).state in
     record {
       moved = record {
+        numbers = refl;
         sessions = record { sessions = refl; holders = refl };
         stand = c.requires.stand;
         rest = record { base_is = refl; rest = refl; rises = omega arith; count = omega arith };
@@ -79,6 +81,7 @@ loop-renewed-preserved g c =
     let wide = due.1 in
     record {
       moved = record {
+        numbers = again.numbers ∙ moved.numbers;
         sessions = record {
           sessions = again.sessions.sessions ∙ moved.sessions.sessions;
           holders = again.sessions.holders ∙ moved.sessions.holders;
@@ -104,15 +107,18 @@ loop-renewed-preserved g c =
       free = λ one. next.ok.0.free;
       first = λ none. absurd (omega arith);
       still = λ narrow.
-          let same = ap gap_kept (held.first (held.still narrow)).1 in
-          absurd (omega (arith, same, narrow, wide));
-      places = λ one. one_left sessions.items sessions.order new_sessions.order sound.lists (omega (arith, sound.most, sound.lists.count)) next.ok.1.order;
+          let first = (held.first (held.still narrow)).1 in
+          absurd (omega (arith, ap gap_kept first, ap (λ (v : SessionsView). renewal_gap v.numbers) first, narrow, wide));
+      places = λ one.
+          let few = one_left sessions sessions.order new_sessions.order sound.range sound.lists (omega (arith, sound.most, sound.lists.count))
+          next.ok.1.order in
+          omega (arith, few, ap (λ (n : Numbers). n.loaded) again.numbers);
       sent = sent_next (sent_of (seen c.args.device.now)) (sent_of (seen c.loop-renewed.device)) (sent_of (seen c.renew_by.new.device))
-          c.loop-renewed.renewed (full_kept sessions.items) held.sent next.counts.0.sent (kept_most sessions.items)
+          c.loop-renewed.renewed (full_kept sessions) held.sent next.counts.0.sent (kept_most sessions)
           (λ one. kept_none sessions sound (held.places one));
       steps = steps_next (g.C.Visits.count c.args.steps.now) (g.C.Visits.count c.loop-renewed.steps) (g.C.Visits.count c.due.new.steps)
-          (g.C.Visits.count c.renew_by.new.steps) c.loop-renewed.renewed (full_kept sessions.items) held.steps c.in-Some.ensures.steps next.counts.1
-          (kept_most sessions.items) (λ one. kept_none sessions sound (held.places one));
+          (g.C.Visits.count c.renew_by.new.steps) c.loop-renewed.renewed (full_kept sessions) held.steps c.in-Some.ensures.steps next.counts.1
+          (kept_most sessions) (λ one. kept_none sessions sound (held.places one));
       counted = counts_next (g.C.Visits.count c.args.steps.now) (g.C.Visits.count c.loop-renewed.steps) (g.C.Visits.count c.due.new.steps)
           (g.C.Visits.count c.renew_by.new.steps) c.loop-renewed.renewed g.C.Visits.weight held.counted c.in-Some.ensures.counted next.counted;
       order = order_next c.args.sessions.now sessions new_sessions c.loop-renewed.renewed held.order (λ none. (held.first none).1)
@@ -132,7 +138,7 @@ returns-clause-ok g c =
       done = inr (c.from-most.ensures ∙ c.saved.ensures);
       order =
           let all : c.loop-renewed.renewed ≡ c.from-most.result = omega (arith, c.loop-renewed.auto.renewed-end, c.loop-renewed-test.false) in
-          held.order ∙ ap (λ (n : ℕ). drop (min n (full_kept c.args.sessions.now.items)) c.args.sessions.now.order) all;
+          held.order ∙ ap (λ (n : ℕ). drop (min n (full_kept c.args.sessions.now)) c.args.sessions.now.order) all;
     }
 
 pub returns-clause-counts : goal.returns-clause-counts
@@ -162,11 +168,11 @@ returns-in_err-renew_by-clause-counts g c =
     (λ none. ap (λ (device : g.row.D.Denot). counter_of (seen device).state) (held.first none).0)
     (λ one. next.counter_free (held.free one)) next.counter in
     let sent = sent_next (sent_of (seen c.args.device.now)) (sent_of (seen c.loop-renewed.device)) (sent_of (seen c.renew_by.new.device))
-    c.loop-renewed.renewed (full_kept sessions.items) held.sent next.sent (kept_most sessions.items)
+    c.loop-renewed.renewed (full_kept sessions) held.sent next.sent (kept_most sessions)
     (λ one. kept_none sessions sound (held.places one)) in
     let steps = steps_next (g.C.Visits.count c.args.steps.now) (g.C.Visits.count c.loop-renewed.steps) (g.C.Visits.count c.due.new.steps)
-    (g.C.Visits.count c.renew_by.new.steps) c.loop-renewed.renewed (full_kept sessions.items) held.steps c.in-Some.ensures.steps
-    c.renew_by.ensures.counts.1 (kept_most sessions.items) (λ one. kept_none sessions sound (held.places one)) in (
+    (g.C.Visits.count c.renew_by.new.steps) c.loop-renewed.renewed (full_kept sessions) held.steps c.in-Some.ensures.steps
+    c.renew_by.ensures.counts.1 (kept_most sessions) (λ one. kept_none sessions sound (held.places one)) in (
       record {
         room = next.room;
         counter = omega (arith, counter, few, c.loop-renewed-test.true, c.from-most.ensures, c.saved.ensures);
@@ -183,6 +189,7 @@ returns-in_err-renew_by-clause-moved g c =
     let moved = c.loop-renewed.invariant.moved in
     let again = c.renew_by.ensures.moved in
     record {
+      numbers = again.numbers ∙ moved.numbers;
       sessions = record {
         sessions = again.sessions.sessions ∙ moved.sessions.sessions;
         holders = again.sessions.holders ∙ moved.sessions.holders;

@@ -1,10 +1,9 @@
 use Rattle.std.proofs.Common.{◌≡◌, ◌+◌, ◌*◌, ◌<◌, ◌≤◌, drop, length}
 use Rattle.std.specs.Prelude.{IfSome, Ok, min}
-use Rattle.tab_spec.specs.declared.TheConstants.{ACTIVE_SESSIONS, LOADED_SESSIONS}
+use Rattle.tab_spec.specs.declared.TheConstants.{SESSION_NUMBERS}
 use Rattle.device_port.specs.Device.{sent_of}
 use Rattle.device_port.specs.Own.{AsksSome}
-use Rattle.session_swap.specs.declared.TheConstants.{RENEWAL_GAP}
-use Rattle.session_swap.specs.Items.{AreFree, HasGapRoom, KeepsRecent, Moved, counter_of, full_flag, full_kept, gap_kept, saved_items}
+use Rattle.session_swap.specs.Items.{AreFree, HasGapRoom, KeepsRecent, Moved, counter_of, full_flag, full_kept, gap_kept, renewal_gap, saved_items}
 use Rattle.session_swap.proofs.Refreshed.{Progress}
 use Rattle.session_swap.proofs.gap.refresh_by.Given as goal
 
@@ -22,12 +21,12 @@ invariant-loop-renewed g l =
       exact : IfSome (D.seen l.device).state (λ slots. slots.counter ≡ start + l.renewed + min l.renewed (full_flag (D.seen l.fn.device).state));
       free : 1 ≤ l.renewed → AreFree (D.seen l.device).state 1;
       first : l.renewed ≡ 0 → (l.device ≡ l.fn.device) × (l.sessions ≡ l.fn.sessions);
-      still : gap_kept l.fn.sessions < RENEWAL_GAP → l.renewed ≡ 0;
-      places : 1 ≤ l.renewed → length l.sessions.order < LOADED_SESSIONS;
+      still : gap_kept l.fn.sessions < renewal_gap l.fn.sessions.numbers → l.renewed ≡ 0;
+      places : 1 ≤ l.renewed → length l.sessions.order < l.sessions.numbers.loaded;
       sent : sent_of (D.seen l.device) ≤ sent_of (D.seen l.fn.device) + 2 * l.renewed + min l.renewed 1;
       steps : C.count l.steps ≤ C.count l.fn.steps + 11 * l.renewed + 6 * min l.renewed 1;
       counted : C.count l.fn.steps + l.renewed * (5 * C.weight) ≤ C.count l.steps;
-      order : l.sessions.order ≡ drop (min l.renewed (full_kept l.fn.sessions.items)) l.fn.sessions.order;
-      few : 1 ≤ l.renewed → saved_items l.fn.sessions.items ≤ ACTIVE_SESSIONS;
+      order : l.sessions.order ≡ drop (min l.renewed (full_kept l.fn.sessions)) l.fn.sessions.order;
+      few : 1 ≤ l.renewed → saved_items l.fn.sessions.items ≤ SESSION_NUMBERS;
       asks : AsksSome {A = Unit {0}} D.seen l.fn.device l.device (Ok tt);
     }

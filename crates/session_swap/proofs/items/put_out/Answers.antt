@@ -15,8 +15,9 @@ use Rattle.session_swap.proofs.items.put_out.Goals as goal
 pub returns-in_err-context-clause-swaps : goal.returns-in_err-context-clause-swaps
 returns-in_err-context-clause-swaps g c =
     let records = c.args.records.now in
-    let others = c.requires.ready.0 in
-    let ready = c.requires.ready.1 in
+    let numbers = c.requires.ready.0 in
+    let others = c.requires.ready.1 in
+    let ready = c.requires.ready.2 in
     let r = get_or records c.args.number c.index-records-number.result in
     let n : Record = record r { context = c.save.new.context } in
     let like : IsLike n r = record { client = refl; handle = refl; place = refl; handed = refl } in
@@ -24,12 +25,12 @@ returns-in_err-context-clause-swaps g c =
     let left = c.in_err-context.ensures in
     swaps_from g.D.Device.seen c.args.device.now c.save.new.device records
     (set records c.args.number n) c.args.next.now others
-    (keeps_same _ _ (items_of records) (items_of (set records c.args.number n)) c.args.next.now others ready.stand left.asks.err
+    (keeps_same numbers _ _ (items_of records) (items_of (set records c.args.number n)) c.args.next.now others ready.stand left.asks.err
     (items_loaded records c.args.number n r at like))
     left.asks.base left.asks.count
 
 pub returns-in_err-context-clause-ready : goal.returns-in_err-context-clause-ready
-returns-in_err-context-clause-ready g c others ready =
+returns-in_err-context-clause-ready g c numbers others ready =
     let records = c.args.records.now in
     let r = get_or records c.args.number c.index-records-number.result in
     let n : Record = record r { context = c.save.new.context } in
@@ -38,7 +39,7 @@ returns-in_err-context-clause-ready g c others ready =
     let left = c.in_err-context.ensures in
     record {
       sound = records_loaded records c.args.number n r ready.sound at like left.room at.sound.handed_room;
-      stand = (keeps_same _ _ (items_of records) (items_of (set records c.args.number n)) c.args.next.now others ready.stand left.asks.err
+      stand = (keeps_same numbers _ _ (items_of records) (items_of (set records c.args.number n)) c.args.next.now others ready.stand left.asks.err
           (items_loaded records c.args.number n r at like)).stand;
     }
 
@@ -48,7 +49,7 @@ returns-in_err-context-clause-err g c =
     let r = get_or records c.args.number c.index-records-number.result in
     let n : Record = record r { context = c.save.new.context } in
     let like : IsLike n r = record { client = refl; handle = refl; place = refl; handed = refl } in
-    let at = loaded_at records c.args.number c.index-records-number.result c.requires.ready.1.sound c.requires.loaded in
+    let at = loaded_at records c.args.number c.index-records-number.result c.requires.ready.2.sound c.requires.loaded in
     let left = c.in_err-context.ensures in
     let stays : Stays (g.D.Device.seen c.args.device.now).state (g.D.Device.seen c.save.new.device).state (items_of records)
     (items_of (set records c.args.number n)) =
@@ -59,8 +60,9 @@ pub returns-clause-swaps : goal.returns-clause-swaps
 returns-clause-swaps g c =
     let records = c.args.records.now in
     let next = c.args.next.now in
-    let others = c.requires.ready.0 in
-    let ready = c.requires.ready.1 in
+    let numbers = c.requires.ready.0 in
+    let others = c.requires.ready.1 in
+    let ready = c.requires.ready.2 in
     let number = c.in_ok-context.context in
     let r = get_or records c.args.number c.index-records-number.result in
     let n : Record = record r { place = places.Saved number; context = c.save.new.context } in
@@ -68,15 +70,15 @@ returns-clause-swaps g c =
     let left = c.in_ok-context.ensures in
     swaps_from g.D.Device.seen c.args.device.now c.save.new.device records
     (set records c.args.number n) c.saturating_add.result others
-    (keeps_by _ _ _ (items_of records) _ (items_of (set records c.args.number n)) c.saturating_add.result others left.saved.state
+    (keeps_by numbers _ _ _ (items_of records) _ (items_of (set records c.args.number n)) c.saturating_add.result others left.saved.state
     (items_set records c.args.number n _ refl)
-    (saved_keeps _ (view_of records next) others c.args.number r.client (handed_of r) r.handle number c.saturating_add.result
+    (saved_keeps _ (view_of numbers records next) others c.args.number r.client (handed_of r) r.handle number c.saturating_add.result
     c.save.new.context.items ready.stand at.was at.handle.number_is c.requires.may left.saved.counted left.saved.same
     (next_is _ number c.saturating_add.result c.requires.may left.saved.counted c.saturating_add.ensures)))
     left.asks.base left.asks.count
 
 pub returns-clause-ready : goal.returns-clause-ready
-returns-clause-ready g c others ready =
+returns-clause-ready g c numbers others ready =
     let records = c.args.records.now in
     let next = c.args.next.now in
     let number = c.in_ok-context.context in
@@ -88,9 +90,9 @@ returns-clause-ready g c others ready =
       sound = records_set records c.args.number n at.inside ready.sound
           (record { room = left.room; handed_room = at.sound.handed_room; context = left.saved.kept })
           (record { session = at.handle.session; number_is = at.handle.number_is });
-      stand = (keeps_by _ _ _ (items_of records) _ (items_of (set records c.args.number n)) c.saturating_add.result others left.saved.state
+      stand = (keeps_by numbers _ _ _ (items_of records) _ (items_of (set records c.args.number n)) c.saturating_add.result others left.saved.state
           (items_set records c.args.number n _ refl)
-          (saved_keeps _ (view_of records next) others c.args.number r.client (handed_of r) r.handle number c.saturating_add.result
+          (saved_keeps _ (view_of numbers records next) others c.args.number r.client (handed_of r) r.handle number c.saturating_add.result
           c.save.new.context.items ready.stand at.was at.handle.number_is c.requires.may left.saved.counted left.saved.same
           (next_is _ number c.saturating_add.result c.requires.may left.saved.counted c.saturating_add.ensures))).stand;
     }
@@ -99,7 +101,7 @@ pub returns-in_err-context-clause-asks : goal.returns-in_err-context-clause-asks
 returns-in_err-context-clause-asks g c =
     let records = c.args.records.now in
     let r = get_or records c.args.number c.index-records-number.result in
-    let at = loaded_at records c.args.number c.index-records-number.result c.requires.ready.1.sound c.requires.loaded in
+    let at = loaded_at records c.args.number c.index-records-number.result c.requires.ready.2.sound c.requires.loaded in
     asks_at g.D.Device.seen c.args.device.now c.save.new.device _ (item_at (items_of records) c.args.number)
     (unsaved_item r.client (handed_of r) r.handle) (λ item. context_save_command item.handle) at.was
     (asks_failed g.D.Device.seen c.args.device.now c.save.new.device (context_save_command r.handle) _ c.from_residual.result
@@ -108,10 +110,11 @@ returns-in_err-context-clause-asks g c =
 pub returns-clause-ok : goal.returns-clause-ok
 returns-clause-ok g c =
     let records = c.args.records.now in
-    let view = view_of records c.args.next.now in
+    let numbers = c.requires.ready.0 in
+    let view = view_of numbers records c.args.next.now in
     let number = c.in_ok-context.context in
-    let others = c.requires.ready.0 in
-    let ready = c.requires.ready.1 in
+    let others = c.requires.ready.1 in
+    let ready = c.requires.ready.2 in
     let r = get_or records c.args.number c.index-records-number.result in
     let n : Record = record r { place = places.Saved number; context = c.save.new.context } in
     let at = loaded_at records c.args.number c.index-records-number.result ready.sound c.requires.loaded in
@@ -132,7 +135,7 @@ pub returns-clause-asks : goal.returns-clause-asks
 returns-clause-asks g c =
     let records = c.args.records.now in
     let r = get_or records c.args.number c.index-records-number.result in
-    let at = loaded_at records c.args.number c.index-records-number.result c.requires.ready.1.sound c.requires.loaded in
+    let at = loaded_at records c.args.number c.index-records-number.result c.requires.ready.2.sound c.requires.loaded in
     asks_at g.D.Device.seen c.args.device.now c.save.new.device _ (item_at (items_of records) c.args.number)
     (unsaved_item r.client (handed_of r) r.handle) (λ item. context_save_command item.handle) at.was
     (asks_ok g.D.Device.seen c.args.device.now c.save.new.device (context_save_command r.handle) _ _ c.in_ok-context.ensures.asks)

@@ -1,7 +1,7 @@
 use Rattle.std.proofs.Common.{◌≡◌, ◌≤◌, replicate}
 use Rattle.std.specs.Prelude.{None, vec_capacity}
 use Rattle.std.specs.List.{All}
-use Rattle.tab_spec.specs.declared.TheConstants.{ACTIVE_SESSIONS}
+use Rattle.tab_spec.specs.declared.TheConstants.{SESSION_NUMBERS}
 use Rattle.session_swap.specs.Records.{IsRecord, items_of}
 use Rattle.session_swap.proofs.kept.unused_records.Given as goal
 
@@ -9,5 +9,5 @@ abbrev pub invariant-loop : goal.invariant-loop
 invariant-loop l = record {
   none : items_of l.records.items ≡ replicate l.counter None;
   each : All (λ r. IsRecord r) l.records.items;
-  room : ACTIVE_SESSIONS ≤ vec_capacity l.records;
+  room : SESSION_NUMBERS ≤ vec_capacity l.records;
 }

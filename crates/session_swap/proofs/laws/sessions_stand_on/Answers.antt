@@ -3,18 +3,18 @@ use Rattle.session_swap.proofs.laws.sessions_stand_on.Goals as goal
 
 pub returns-clause-changed : goal.returns-clause-changed
 returns-clause-changed c =
-    λ slots new view others stand started sound counter seed alike.
-    stands_changed slots new view others stand started sound counter seed alike
+    λ slots new view others stand started sound counter seed numbers alike.
+    stands_changed slots new view others stand started sound counter seed numbers alike
 
 pub returns-clause-begun : goal.returns-clause-begun
 returns-clause-begun c =
-    λ slots new view others client handle s stand started sound counter seed none is fits unused sessions.
-    stands_begun slots new view others client handle s stand started sound counter seed none is fits unused sessions
+    λ slots new view others client handle s stand started sound counter seed numbers none is fits unused sessions.
+    stands_begun slots new view others client handle s stand started sound counter seed numbers none is fits unused sessions
 
 pub returns-clause-ended : goal.returns-clause-ended
 returns-clause-ended c =
-    λ slots new view others handle stand started sound counter seed named sessions.
-    stands_ended slots new view others handle stand started sound counter seed named sessions
+    λ slots new view others handle stand started sound counter seed numbers named sessions.
+    stands_ended slots new view others handle stand started sound counter seed numbers named sessions
 
 pub returns-clause-disowned : goal.returns-clause-disowned
 returns-clause-disowned c = λ slots view others handle stand named. stands_disowned slots view others handle stand named

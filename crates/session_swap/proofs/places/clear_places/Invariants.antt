@@ -1,6 +1,6 @@
 use Rattle.std.proofs.Common.{◌≡◌, ◌≤◌, ◌+◌, ◌-◌, ℕ, true}
 use Rattle.std.specs.Prelude.{Ok, length, min}
-use Rattle.tab_spec.specs.declared.TheConstants.{LOADED_SESSIONS}
+use Rattle.tab_spec.specs.declared.numbers.Numbers.{Numbers}
 use Rattle.device_port.specs.Device.{sent_of}
 use Rattle.device_port.specs.Own.{AsksSome}
 use Rattle.device_port.specs.Use.{is_among}
@@ -16,8 +16,9 @@ invariant-loop-records g l =
     let new_items = items_of l.records in
     record {
       swaps : Swaps D.seen l.fn.device l.device l.fn.records l.records;
-      ready : ReadyIn (D.seen l.device).state l.records l.next l.order;
-      left : counter_of (D.seen l.device).state + loaded_items new_items ≤ counter_of (D.seen l.fn.device).state + LOADED_SESSIONS;
+      ready : (numbers : Numbers) → ReadyIn (D.seen l.fn.device).state numbers l.fn.records l.fn.next l.fn.order
+          → ReadyIn (D.seen l.device).state numbers l.records l.next l.order;
+      left : counter_of (D.seen l.device).state + loaded_items new_items ≤ counter_of (D.seen l.fn.device).state + loaded_items items;
       stay : (handle : ℕ) → Names items handle → is_among l.needed handle ≡ true → item_of new_items handle ≡ item_of items handle;
       least : min (loaded_items items) l.most ≤ loaded_items new_items;
       less : loaded_items new_items ≤ loaded_items items;

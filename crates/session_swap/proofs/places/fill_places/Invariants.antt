@@ -1,10 +1,11 @@
 use Rattle.std.proofs.Common.{◌≡◌, ◌+◌, ◌≤◌, ℕ, ◌<◌, true, get_or, drop, take}
 use Rattle.std.specs.Prelude.{Ok}
+use Rattle.tab_spec.specs.declared.numbers.Numbers.{Numbers}
 use Rattle.device_port.specs.Device.{sent_of}
 use Rattle.device_port.specs.Own.{AsksSome}
 use Rattle.session_swap.specs.Items.{AreLoaded, counter_of, is_loaded_item, item_at, item_of, loaded_items, missing, numbers_of}
 use Rattle.session_swap.specs.Records.{items_of, order_filled}
-use Rattle.session_swap.specs.Moves.{ReadyIn, Swaps, loadedness}
+use Rattle.session_swap.specs.Moves.{CanFill, ReadyIn, Swaps, loadedness}
 use Rattle.session_swap.proofs.Missing.{missing_in}
 use Rattle.session_swap.proofs.places.fill_places.Given as goal
 
@@ -15,7 +16,8 @@ invariant-loop-handle g l =
     let new_items = items_of l.records in
     record {
       swaps : Swaps D.seen l.fn.device l.device l.fn.records l.records;
-      ready : ReadyIn (D.seen l.device).state l.records l.next l.order;
+      ready : (numbers : Numbers) → ReadyIn (D.seen l.fn.device).state numbers l.fn.records l.fn.next l.fn.order
+          → CanFill numbers l.fn.records l.needed → ReadyIn (D.seen l.device).state numbers l.records l.next l.order;
       counter : counter_of (D.seen l.device).state ≡ counter_of (D.seen l.fn.device).state;
       filled : (k : ℕ) → k < l.handle-index → is_loaded_item (item_of new_items (get_or l.needed k 0)) ≡ true;
       stay : (number : ℕ) → is_loaded_item (item_at items number) ≡ true → item_at new_items number ≡ item_at items number;

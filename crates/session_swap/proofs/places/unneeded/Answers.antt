@@ -13,7 +13,7 @@ use Rattle.session_swap.proofs.places.unneeded.Goals as goal
 pub bounds-records-number : goal.bounds-records-number
 bounds-records-number c =
     let records = c.args.records.now in
-    let there = listed_there (items_of records) c.args.order.now.loaded c.loop.counter c.in_ok-number.number c.requires.listed.lists
+    let there = listed_there (items_of records) c.args.order.now.loaded c.loop.counter c.in_ok-number.number c.requires.listed
     (sym c.loop.invariant.here ∙ c.in_ok-number.was) in
     omega (arith, loaded_inside (items_of records) c.in_ok-number.number there, length-map records item_of_record)
 
@@ -27,7 +27,7 @@ returns-then-not-is_needed c =
     let records = c.args.records.now in
     let number = c.in_ok-number.number in
     let is = sym c.loop.invariant.here ∙ c.in_ok-number.was in
-    let there = listed_there (items_of records) c.args.order.now.loaded c.loop.counter number c.requires.listed.lists is in
+    let there = listed_there (items_of records) c.args.order.now.loaded c.loop.counter number c.requires.listed is in
     let inside : number < length records = omega (arith, loaded_inside (items_of records) number there, length-map records item_of_record) in
     let handle = handle_read records number c.index-records-number.result inside c.index-records-number.is there in
     (c.loop.counter, is, ap (is_among c.args.needed.now) handle ∙ sym c.is_needed.ensures ∙ c.if-not-is_needed.true, c.loop.invariant.before)
@@ -37,7 +37,7 @@ loop-preserved c =
     let records = c.args.records.now in
     let number = c.in_ok-number.number in
     let is = sym c.loop.invariant.here ∙ c.in_ok-number.was in
-    let there = listed_there (items_of records) c.args.order.now.loaded c.loop.counter number c.requires.listed.lists is in
+    let there = listed_there (items_of records) c.args.order.now.loaded c.loop.counter number c.requires.listed is in
     let inside : number < length records = omega (arith, loaded_inside (items_of records) number there, length-map records item_of_record) in
     let handle = handle_read records number c.index-records-number.result inside c.index-records-number.is there in
     let items = items_of records in

@@ -14,21 +14,21 @@ use Rattle.world_spec.proofs.examples.a_history_is_legal.Goals as goal
 pub returns : goal.returns
 unfolding plain_step client_step admitted auths_of effect_of stream_bytes u32_at quarter_round column_round diagonal_round double_rounds block_word
 returns c =
-    let first : IsRun (zero_persist 0) (take 1 two_clients) (plain_entry 0 1 (get_random 8) eight_reply) = record {
+    let first : IsRun (zero_persist 0) 64 (take 1 two_clients) (plain_entry 0 1 (get_random 8) eight_reply) = record {
       form = refl;
       is_open = refl;
       number = record { positive = omega arith; above = (omega arith, tt) };
       after = world_with (zero_persist 2) 1 (new_client 0 ∷ []);
       stepped = refl;
     } in
-    let second : IsRun (zero_persist 0) (take 3 two_clients) (plain_entry 1 1 (get_random 6) six_reply) = record {
+    let second : IsRun (zero_persist 0) 64 (take 3 two_clients) (plain_entry 1 1 (get_random 6) six_reply) = record {
       form = refl;
       is_open = refl;
       number = record { positive = omega arith; above = (omega arith, tt) };
       after = world_with (zero_persist 4) 2 (new_client 0 ∷ new_client 1 ∷ []);
       stepped = refl;
     } in
-    let third : IsRun (zero_persist 0) (take 4 two_clients) (plain_entry 0 2 (get_random 4) four_reply) = record {
+    let third : IsRun (zero_persist 0) 64 (take 4 two_clients) (plain_entry 0 2 (get_random 4) four_reply) = record {
       form = refl;
       is_open = refl;
       number = record { positive = omega arith; above = (omega arith, (omega arith, tt)) };

@@ -208,7 +208,7 @@ invariant_of-self-in-Err-Answer g c =
     let are = are_more _ _ c.reserve.ensures.items in
     rw (c.from.ensures, c.in-Err-Answer.code-is) (
       holds_wrong {new_held = c.answer.new.self.held} c.in-Err-Answer.code c.self.invariant.0 length_is (omega (arith, done.serves.moves.keeps.count, ap (λ d. (g.D.Device.seen d).faults) device))
-          (done.serves.moves.slots ∙ ap (λ (v : ObjectsView). v.slots) c.reserve.ensures.same.1) (omega (arith, done.serves.moves.length_is, few_more _ c.self.invariant.0 none are)) (omega (arith, done.serves.moves.length_is, c.reserve.ensures.most c.self.invariant.0.placed)) cause,
+          (done.serves.moves.slots ∙ ap (λ (v : ObjectsView). v.slots) c.reserve.ensures.same.1) (done.serves.moves.numbers ∙ ap (λ (v : SessionsView). v.numbers) c.reserve.ensures.same.2) (omega (arith, done.serves.moves.length_is, few_more _ c.self.invariant.0 none are)) (omega (arith, done.serves.moves.length_is, c.reserve.ensures.most c.self.invariant.0.placed)) cause,
       c.self.invariant.1,
     )
 

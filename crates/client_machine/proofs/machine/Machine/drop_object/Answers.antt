@@ -45,6 +45,7 @@ pub returns-in-Ok-clause-disowns : goal.returns-in-Ok-clause-disowns
 returns-in-Ok-clause-disowns g c = record {
   keeps = search rules;
   slots = search rules;
+  numbers = search rules;
   length_is = search rules;
   lists = tt;
   left = search rules;
@@ -125,6 +126,7 @@ pub returns-in-Err-Answer-clause-disowns : goal.returns-in-Err-Answer-clause-dis
 returns-in-Err-Answer-clause-disowns g c = record {
   keeps = search rules;
   slots = search rules;
+  numbers = search rules;
   length_is = search rules;
   lists = search rules;
   left = search rules;

@@ -16,6 +16,7 @@ returns-in-Ok-clause-ok g c =
     let done = c.in-Ok.ensures in
     ended _ client _ _ c.args.self.now.held c.drop_session.new.self (number_of_session c.args.handle)
     (record {
+      numbers = ap (λ (v : SessionsView). v.numbers) done.ok.view_is;
       items_are = ap (λ (v : SessionsView). v.items) done.ok.view_is;
       sessions = done.ok.sessions;
       stand = done.stands.stand [] (sessions_settled _ _ c.requires.settled);
@@ -60,6 +61,7 @@ pub returns-in-Ok-clause-disowns : goal.returns-in-Ok-clause-disowns
 returns-in-Ok-clause-disowns g c = record {
   keeps = search rules;
   slots = search rules;
+  numbers = search rules;
   length_is = search rules;
   lists = tt;
   left = none_left _ _ c.args.self.now.held c.drop_session.new.self c.args.handle c.requires.named
@@ -76,6 +78,7 @@ returns-in-Err-Failed-clause-disowns g c =
     record {
       keeps = search rules;
       slots = search rules;
+      numbers = search rules;
       length_is = search rules;
       lists = tt;
       left = one_left _ _ c.args.self.now.held c.orphan_session.new.self c.args.handle c.requires.named
@@ -90,6 +93,7 @@ pub returns-in-Err-Answer-clause-disowns : goal.returns-in-Err-Answer-clause-dis
 returns-in-Err-Answer-clause-disowns g c = record {
   keeps = search rules;
   slots = search rules;
+  numbers = search rules;
   length_is = search rules;
   lists = search rules;
   left = search rules;

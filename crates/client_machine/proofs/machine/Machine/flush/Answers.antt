@@ -74,6 +74,7 @@ returns-then-octet_of-ne-HT_TRANSIENT-clause-serves g c = λ client may.
       moves = moves_after seen client _ c.flush_orphans.new.device _ _ between _ _ before.prepared
           (ended _ client _ _ between c.drop_session.new.self n
           (record {
+            numbers = ap (λ (v : SessionsView). v.numbers) done.ok.view_is;
             items_are = ap (λ (v : SessionsView). v.items) done.ok.view_is;
             sessions = done.ok.sessions;
             stand = done.stands.stand [] (sessions_settled (seen c.flush_orphans.new.device).state between settled);
@@ -118,7 +119,8 @@ returns-then-octet_of-ne-HT_TRANSIENT-clause-left g c = λ client may.
     c.drop_session.new.device held between (record { objects = between.objects; sessions = c.drop_session.new.self }) table table
     before.keeps.tells (prepares_stays client table before may.own_table)
     (session_leaves g.D.Device.seen _ _ between c.drop_session.new.self
-    table c.args.handle done.ok.sessions (ap (λ (v : SessionsView). v.items) done.ok.view_is) done.stands.rest plain)
+    table c.args.handle done.ok.sessions (ap (λ (v : SessionsView). v.numbers) done.ok.view_is) (ap (λ (v : SessionsView). v.items) done.ok.view_is)
+    done.stands.rest plain)
 
 -- an object of the client's that is in no slot
 pub returns-then-is_none-clause-serves : goal.returns-then-is_none-clause-serves

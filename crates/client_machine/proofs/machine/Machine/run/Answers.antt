@@ -57,7 +57,7 @@ keep_sessions-requires-clause-started g c =
     let p = prepared c.args.client c.args.table.now.items c.args.admitted.now c.args.bytes.now c.prepare.ensures.prepared c.requires.table c.requires.admitted
     c.requires.sort c.requires.may c.type_inv.bytes c.in_ok-prepare.ensures.ready c.prepare.ensures.costs c.in_ok-prepare.ensures.stays c.in_ok-prepare.ensures.used c.as_slice.ensures.value in
     λ tells.
-    subst (λ (reply : List ℕ). MayStart reply c.prepare.new.held.sessions.items) (sym c.as_slice-2.ensures.value)
+    subst (λ (reply : List ℕ). MayStart reply c.prepare.new.held.sessions) (sym c.as_slice-2.ensures.value)
     (may_start p c.in_ok-send.ensures.ok (ap (λ (reply : List ℕ). tells_session c.args.admitted.now reply) (sym c.as_slice-2.ensures.value) ∙ tells))
 
 pub keep_sessions-requires-clause-named : goal.keep_sessions-requires-clause-named

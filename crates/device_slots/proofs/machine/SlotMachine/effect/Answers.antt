@@ -10,4 +10,4 @@ invariant_of-self c =
     let same : c.shared_effect.new.p.seed ≡ inside.persist.seed =
     ap (λ (e : Effect). e.persist.seed) c.shared_effect.ensures
     ∙ effect_seed inside.persist (plain_operands c.args.shape.now) c.args.shape.now c.args.auths.now c.args.command.now in
-    (c.self.invariant.0, c.self.invariant.1, c.self.invariant.2 ∙ sym same)
+    (c.self.invariant.0, c.self.invariant.1, c.self.invariant.2 ∙ sym same, c.self.invariant.3)

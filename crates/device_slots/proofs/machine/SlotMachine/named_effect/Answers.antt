@@ -1,4 +1,6 @@
 use Rattle.std.proofs.Common.{◌≡◌, ◌∙◌, List, length, ap, sym, subst, arith}
+use Rattle.std.specs.Prelude.{Option}
+use Rattle.tab_values.specs.declared.object.Object.{Object}
 use Rattle.std.specs.Vec.{with_items}
 use Rattle.std.proofs.lemmas.List.{with_items_is}
 use Rattle.effect_spec.specs.Effect.{Effect, HasHandle, effect_of}
@@ -27,6 +29,7 @@ invariant_of-self c =
       c.self.invariant.0,
       omega (arith, ap length (with_items_is inside.sessions c.put_sessions.new.places whole), c.self.invariant.1),
       c.self.invariant.2 ∙ sym same,
+      c.self.invariant.3,
     )
 
 pub returns : goal.returns
@@ -37,15 +40,16 @@ returns c =
     let left = operands_of c.effect-made.new.ops in
     let items : List Place = inside.sessions.items in
     let step : Step = (c.put_made.new.self, c.put_made.new.reply) in
-    let slots : SlotState = record { started = inside.started; persist = inside.persist; slots = slots_of inside.slots; sessions = places_of items; object_counter = inside.object_counter; counter = inside.counter } in
+    let slots : SlotState = record { started = inside.started; persist = inside.persist; numbers = inside.numbers; slots = slots_of inside.slots.items; sessions = places_of items; object_counter = inside.object_counter; counter = inside.counter } in
     let whole : length c.put_sessions.new.places ≡ inside.sessions.len = omega arith in
     let kept : places_of (with_items inside.sessions c.put_sessions.new.places).items ≡ sessions_left (places_of items) left made.auth_ended =
     ap places_of (with_items_is inside.sessions c.put_sessions.new.places whole) ∙ c.put_sessions.ensures
     ∙ ap (λ (ps : List Place). sessions_left (places_of ps) left made.auth_ended) c.deref_mut.ensures.value in
     let named : operands_of c.operands-ops.result ≡ slot_operands slots c.args.shape.now c.args.auths.now =
     c.operands-ops.ensures.value
-    ∙ ap (λ (ps : List Place). operands_by (object_under (slots_of inside.slots)) (session_under (places_of ps)) c.args.shape.now c.args.auths.now)
-    c.deref.ensures.value in
+    ∙ ap (λ (os : List (Option Object)). operands_by (object_under (slots_of os)) (session_under (places_of c.deref-2.result.now)) c.args.shape.now c.args.auths.now) c.deref.ensures.value
+    ∙ ap (λ (ps : List Place). operands_by (object_under (slots_of inside.slots.items)) (session_under (places_of ps)) c.args.shape.now c.args.auths.now)
+    c.deref-2.ensures.value in
     subst (λ (m : SlotState). step ≡ effect_by m (effect_of m.persist (slot_operands m c.args.shape.now c.args.auths.now) c.args.shape.now c.args.auths.now c.args.command.now)) c.self.view_is
     (c.put_made.ensures
     ∙ ap (λ (ps : List SessionPlace). made_by (record slots { persist = c.effect-made.new.p; sessions = ps }) (created_of made.created) reply) kept

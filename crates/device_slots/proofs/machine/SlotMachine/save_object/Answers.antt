@@ -20,7 +20,7 @@ pub returns : goal.returns
 returns c =
     let inside = c.self.inside in
     let o = object_of c.in-Some.object.now in
-    let slots : SlotState = record { started = inside.started; persist = inside.persist; slots = slots_of inside.slots; sessions = places_of inside.sessions.items; object_counter = inside.object_counter; counter = inside.counter } in
+    let slots : SlotState = record { started = inside.started; persist = inside.persist; numbers = inside.numbers; slots = slots_of inside.slots.items; sessions = places_of inside.sessions.items; object_counter = inside.object_counter; counter = inside.counter } in
     let whole = saved_reply c.start_response.new.reply (object_context inside.context_keys inside.object_counter o) c.seal_object.new.out c.end_response.new.reply
     c.start_response.ensures (from_ok c.seal_object.result _ c.seal_object.ensures.ok (ap is_err c.unwrap.ensures)) c.end_response.ensures
     ∙ ap (λ (seed : List ℕ). response ST_NO_SESSIONS RC_SUCCESS (object_context seed inside.object_counter o)) c.self.invariant.2 in

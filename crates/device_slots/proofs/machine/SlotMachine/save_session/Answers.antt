@@ -4,7 +4,7 @@ use Rattle.std.specs.Result.{is_err}
 use Rattle.std.specs.Vec.{with_items}
 use Rattle.std.proofs.lemmas.List.{with_items_is}
 use Rattle.tab_spec.specs.Shape.{octet_of, number_of_session}
-use Rattle.tab_spec.specs.declared.TheConstants.{CONTEXT_GAP, ST_NO_SESSIONS, RC_SUCCESS}
+use Rattle.tab_spec.specs.declared.TheConstants.{ST_NO_SESSIONS, RC_SUCCESS}
 use Rattle.tab_spec.specs.Reply.{response}
 use Rattle.effect_spec.specs.Contexts.{session_context}
 use Rattle.device_spec.specs.Slots.{SlotState, SessionPlace, saved, loaded_session, gap_from, gap_of, oldest_saved, session_saved}
@@ -22,7 +22,7 @@ returns c =
     let handle = c.args.handle in
     let items : List Place = inside.sessions.items in
     let s = session_of c.in-Some.session.now in
-    let slots : SlotState = record { started = inside.started; persist = inside.persist; slots = slots_of inside.slots; sessions = places_of items; object_counter = inside.object_counter; counter = inside.counter } in
+    let slots : SlotState = record { started = inside.started; persist = inside.persist; numbers = inside.numbers; slots = slots_of inside.slots.items; sessions = places_of items; object_counter = inside.object_counter; counter = inside.counter } in
     let answer = saved_reply c.start_response.new.reply (session_context inside.context_keys handle inside.counter s) c.seal_session.new.out c.end_response.new.reply
     c.start_response.ensures (from_ok c.seal_session.result _ c.seal_session.ensures.ok (ap is_err c.unwrap.ensures)) c.end_response.ensures
     ∙ ap (λ (seed : List ℕ). response ST_NO_SESSIONS RC_SUCCESS (session_context seed handle inside.counter s)) c.self.invariant.2 in
@@ -38,5 +38,5 @@ returns c =
     ap places_of (with_items_is inside.sessions c.put_place.new.places whole) ∙ put in
     subst (λ (m : SlotState). session_saved m handle (loaded_session m handle) ≡ Ok (record slots { sessions = places_of now; counter = slots.counter + 1 }, c.end_response.new.reply)) c.self.view_is
     (session_saves slots handle (loaded_session slots handle) c.end_response.new.reply s held c.if-number-ge-CONTEXT_LIMIT.false
-    (subst (λ (n : ℕ). n < CONTEXT_GAP) same c.if-gap-ge-CONTEXT_GAP.false) answer
+    (subst (λ (n : ℕ). n < inside.numbers.gap) same (subst (λ (n : ℕ). c.gap.result < n) c.from.ensures c.if-gap-from.false)) answer
     ∙ ap (λ (ps : List SessionPlace). done (record slots { sessions = ps; counter = slots.counter + 1 }) c.end_response.new.reply) (sym place))

@@ -31,8 +31,7 @@ swap_objects-requires-clause-needed g c =
         listed_residents records c.self.inside.loaded.items c.self.invariant.held.residents,
         ap (λ (l : List Record). residents (items_of l)) c.deref_mut.ensures.value,
       );
-      room = has_room (g.D.Device.seen c.args.device.now).state c.args.self.now.items c.args.self.now.slots c.self.inside.slots c.requires.may.slots
-          c.requires.stand (omega (arith, slots));
+      room = has_room (g.D.Device.seen c.args.device.now).state c.args.self.now.slots c.self.inside.slots c.requires.may.slots (omega (arith, slots));
     }
 
 pub swap_objects-requires-clause-ready : goal.swap_objects-requires-clause-ready

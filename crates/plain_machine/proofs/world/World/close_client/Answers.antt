@@ -33,6 +33,7 @@ returns c =
     let after : List Client → List (Option Owned) → World =
     λ clients sessions. record {
       persist = inside.shared.persist;
+      most = inside.shared.most;
       opened = inside.opened;
       clients = clients;
       sessions = sessions;

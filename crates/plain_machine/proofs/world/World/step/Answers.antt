@@ -32,6 +32,7 @@ returns-clause-ok c =
     c.place_of-place.ensures ∙ ap (λ cs. place_in cs client) c.deref.ensures.value in
     let before : World = record {
       persist = inside.shared.persist;
+      most = inside.shared.most;
       opened = inside.opened;
       clients = clients;
       sessions = owners_of inside.shared.sessions.items;
@@ -59,6 +60,7 @@ returns-clause-refused c =
     c.place_of-place.ensures ∙ ap (λ cs. place_in cs client) c.deref.ensures.value in
     let before : World = record {
       persist = inside.shared.persist;
+      most = inside.shared.most;
       opened = inside.opened;
       clients = clients;
       sessions = owners_of inside.shared.sessions.items;

@@ -2,7 +2,6 @@ use Rattle.std.proofs.Common.{◌≡◌, ◌<◌, ◌∙◌, ◌∷◌, ◌++◌
 use Rattle.std.specs.Prelude.{None, Some}
 use Rattle.std.specs.List.{count_by}
 use Rattle.std.proofs.lemmas.List.{length-map, map-set}
-use Rattle.tab_spec.specs.declared.TheConstants.{LOADED_SESSIONS}
 use Rattle.session_swap.specs.declared.record.Place.TheVariants as places
 use Rattle.session_swap.specs.declared.record.Record.{Record}
 use Rattle.session_swap.specs.Items.{SessionsView, flag, has_owner, is_loaded_item, is_saved_item, item_at, loaded_items, new_item}
@@ -27,8 +26,14 @@ invariant_of-self c =
     let handle : IsHandleOf number (new_item c.args.client c.args.handle) =
     record { session = c.requires.session; number_is = sym c.number_of-number.ensures } in
     let listed = c.self.invariant.listed in
-    let few : length c.self.inside.order.loaded < LOADED_SESSIONS =
-    omega (arith, c.requires.place, listed.lists.count, ap (λ (v : SessionsView). loaded_items v.items) c.self.view_is) in
+    let few : length c.self.inside.order.loaded < c.self.inside.numbers.loaded =
+    omega (
+      arith,
+      c.requires.place,
+      listed.lists.count,
+      ap (λ (v : SessionsView). loaded_items v.items) c.self.view_is,
+      ap (λ (v : SessionsView). v.numbers.loaded) c.self.view_is,
+    ) in
     let none : item_at items number ≡ None =
     ap (λ (v : SessionsView). item_at v.items number) c.self.view_is ∙ ap (item_at c.args.self.now.items) c.number_of-number.ensures
     ∙ c.requires.unused in
@@ -83,4 +88,5 @@ returns c =
     ∙ ap (λ (n : ℕ). c.args.self.now.order ++ n ∷ []) c.number_of-number.ensures in
     let saved_is = ap (λ (o : OrderView). o.saved) c.start.ensures ∙ without_absent number order.saved saved
     ∙ ap (λ (v : SessionsView). v.saved) c.self.view_is in
-    λ i. record { items = same i; next = next i; order = order_is i; saved = saved_is i }
+    let numbers = ap (λ (v : SessionsView). v.numbers) c.self.view_is in
+    λ i. record { numbers = numbers i; items = same i; next = next i; order = order_is i; saved = saved_is i }

@@ -10,7 +10,7 @@ invariant_of-self c =
     let records = c.self.inside.records.items in
     let number = c.number_of.result in
     let r = c.index_mut.result.now in
-    let back = given_back records c.deref.result.now c.self.inside.next c.self.inside.order c.args.self.now c.args.client c.in-Some.handle
+    let back = given_back c.self.inside.numbers records c.deref.result.now c.self.inside.next c.self.inside.order c.args.self.now c.args.client c.in-Some.handle
     c.args.context.now number r c.self.invariant.sound c.self.view_is c.deref.ensures.value c.in-Some.ensures.1
     c.number_of.ensures c.index_mut.ensures.value in
     let was = item_at (items_of records) number in
@@ -20,18 +20,18 @@ invariant_of-self c =
 
 pub returns-clause-ok : goal.returns-clause-ok
 returns-clause-ok c =
-    (given_back c.self.inside.records.items c.deref.result.now c.self.inside.next c.self.inside.order c.args.self.now c.args.client c.in-Some.handle
+    (given_back c.self.inside.numbers c.self.inside.records.items c.deref.result.now c.self.inside.next c.self.inside.order c.args.self.now c.args.client c.in-Some.handle
     c.args.context.now c.number_of.result c.index_mut.result.now c.self.invariant.sound c.self.view_is c.deref.ensures.value c.in-Some.ensures.1
     c.number_of.ensures c.index_mut.ensures.value).view_is
 
 pub returns-clause-stand : goal.returns-clause-stand
 returns-clause-stand c =
-    (given_back c.self.inside.records.items c.deref.result.now c.self.inside.next c.self.inside.order c.args.self.now c.args.client c.in-Some.handle
+    (given_back c.self.inside.numbers c.self.inside.records.items c.deref.result.now c.self.inside.next c.self.inside.order c.args.self.now c.args.client c.in-Some.handle
     c.args.context.now c.number_of.result c.index_mut.result.now c.self.invariant.sound c.self.view_is c.deref.ensures.value c.in-Some.ensures.1
     c.number_of.ensures c.index_mut.ensures.value).stand
 
 pub returns-clause-sessions : goal.returns-clause-sessions
 returns-clause-sessions c =
-    (given_back c.self.inside.records.items c.deref.result.now c.self.inside.next c.self.inside.order c.args.self.now c.args.client c.in-Some.handle
+    (given_back c.self.inside.numbers c.self.inside.records.items c.deref.result.now c.self.inside.next c.self.inside.order c.args.self.now c.args.client c.in-Some.handle
     c.args.context.now c.number_of.result c.index_mut.result.now c.self.invariant.sound c.self.view_is c.deref.ensures.value c.in-Some.ensures.1
     c.number_of.ensures c.index_mut.ensures.value).sessions

@@ -26,8 +26,9 @@ save_for_client-saved-requires-clause-may g c =
 
 pub save_for_client-saved-requires-clause-ready : goal.save_for_client-saved-requires-clause-ready
 save_for_client-saved-requires-clause-ready g c = (
+  c.self.inside.numbers,
   c.requires.stand.0,
-  ready_lent (g.D.Device.seen c.args.device.now).state c.self.inside.records.items c.deref_mut.result.now c.self.inside.next
+  ready_lent c.self.inside.numbers (g.D.Device.seen c.args.device.now).state c.self.inside.records.items c.deref_mut.result.now c.self.inside.next
       c.self.inside.order c.args.self.now c.requires.stand.0 c.deref_mut.ensures.value c.self.invariant.sound c.self.view_is
       c.requires.stand.1,
 )
@@ -50,9 +51,9 @@ invariant_of-self g c =
     let new = left.records in
     let same = c.deref_mut.ensures.value in
     let order = c.self.inside.order in
-    let ready = ready_lent (g.D.Device.seen c.args.device.now).state records c.deref_mut.result.now c.self.inside.next order
+    let ready = ready_lent c.self.inside.numbers (g.D.Device.seen c.args.device.now).state records c.deref_mut.result.now c.self.inside.next order
     c.args.self.now c.requires.stand.0 c.deref_mut.ensures.value c.self.invariant.sound c.self.view_is c.requires.stand.1 in
-    let sound = (out.ensures.ready c.requires.stand.0 ready).sound in
+    let sound = (out.ensures.ready c.self.inside.numbers c.requires.stand.0 ready).sound in
     let count : length new ≡ length records = sound.count ∙ sym c.self.invariant.sound.count in
     let whole : take c.self.inside.records.len (new ++ drop (length new) records) ≡ new =
     take_at new (drop (length new) records) c.self.inside.records.len (omega arith) in
@@ -61,25 +62,25 @@ invariant_of-self g c =
     let number = c.number_of.result in
     let n = number_of_session c.args.handle in
     let bytes = drop HEADER_BYTES left.reply in
-    let listed = subst (λ (l : List Record). ListsIn l order) (sym same) c.self.invariant.listed in
+    let listed = subst (λ (l : List Record). ListsIn c.self.inside.numbers l order) (sym same) c.self.invariant.listed in
     let owned = c.self.invariant.owned_is ∙ ap (λ (l : List Record). count_by has_owner (items_of l)) (sym same) in
     let there : is_loaded_item (item_at (items_of lent) number) ≡ true =
     ap (λ (l : List Record). is_loaded_item (item_at (items_of l) number)) same
     ∙ ap (λ (v : SessionsView). is_loaded_item (item_at v.items number)) c.self.view_is
     ∙ ap (λ (k : ℕ). is_loaded_item (item_at c.args.self.now.items k)) c.number_of.ensures
     ∙ loaded_whole c.args.handle (item_at c.args.self.now.items n) c.requires.may.loaded in
-    subst (λ (l : List Record). AreListed l c.list_saved.new.order c.self.inside.owned) (sym whole) (record {
+    subst (λ (l : List Record). AreListed c.self.inside.numbers l c.list_saved.new.order c.self.inside.owned) (sym whole) (record {
       sound = sound;
       listed = listed_saved out.result lent new order c.list_saved.new.order number listed there
           (on_ok_weaker out.result
           (λ saves. saved_apart (items_of lent) (items_of new) number c.args.handle bytes c.number_of.ensures there
-          (ap (λ (v : SessionsView). v.items) saves.0.view_is)) out.ensures.ok)
+          (ap (λ (v : SessionsView). v.items) (saves.0 c.self.inside.numbers).view_is)) out.ensures.ok)
           (on_err_weaker out.result (λ stays. stays.0) out.ensures.err) told.ok told.err;
       owned_is = either_way out.result _ _ (c.self.inside.owned ≡ count_by has_owner (items_of new)) out.ensures.ok out.ensures.err
           (λ saves.
           owned ∙ sym (count_unchanged has_owner (items_of lent) n (saved_by_client bytes (item_at (items_of lent) n))
           (owner_saved bytes (item_at (items_of lent) n)))
-          ∙ ap (λ (v : SessionsView). count_by has_owner v.items) (sym saves.0.view_is))
+          ∙ ap (λ (v : SessionsView). count_by has_owner v.items) (sym (saves.0 c.self.inside.numbers).view_is))
           (λ stays. owned ∙ ap (count_by has_owner) (sym stays.0));
     })
 
@@ -96,15 +97,17 @@ returns-clause-ok g c =
     let order = c.self.inside.order in
     let view = c.args.self.now in
     let before = ap (λ (l : List Record). items_of l) c.deref_mut.ensures.value ∙ ap (λ (v : SessionsView). v.items) c.self.view_is in
-    let ready = ready_lent (g.D.Device.seen c.args.device.now).state records c.deref_mut.result.now c.self.inside.next c.self.inside.order
+    let ready = ready_lent c.self.inside.numbers (g.D.Device.seen c.args.device.now).state records c.deref_mut.result.now c.self.inside.next c.self.inside.order
     c.args.self.now c.requires.stand.0 c.deref_mut.ensures.value c.self.invariant.sound c.self.view_is c.requires.stand.1 in
-    let sound = (out.ensures.ready c.requires.stand.0 ready).sound in
+    let sound = (out.ensures.ready c.self.inside.numbers c.requires.stand.0 ready).sound in
     let count : length new ≡ length records = sound.count ∙ sym c.self.invariant.sound.count in
     let whole : take c.self.inside.records.len (new ++ drop (length new) records) ≡ new =
     take_at new (drop (length new) records) c.self.inside.records.len (omega arith) in
     on_ok_both out.result _ _
     (λ saves gone.
-    let after = saves.0.view_is in
+    let its = saves.0 c.self.inside.numbers in
+    let after = its.view_is in
+    let numbers_are = ap (λ (v : SessionsView). v.numbers) c.self.view_is in
     let items_are = ap (λ (l : List Record). items_of l) whole ∙ ap (λ (v : SessionsView). v.items) after
     ∙ ap (λ (l : List (Option Item)). set l n (saved_by_client bytes (item_at l n))) before in
     let order_is = ap (λ (o : OrderView). o.loaded) gone ∙ ap (λ (k : ℕ). without_one k order.loaded) c.number_of.ensures
@@ -112,10 +115,10 @@ returns-clause-ok g c =
     let saved_is = ap (λ (o : OrderView). o.saved) gone ∙ ap (λ (k : ℕ). order.saved ++ k ∷ []) c.number_of.ensures
     ∙ ap (λ (v : SessionsView). v.saved ++ n ∷ []) c.self.view_is in (
       record {
-        last_is = saves.0.last_is;
-        frame = saves.0.frame;
-        success = saves.0.success;
-        view_is = λ i. record { items = items_are i; next = (after i).next; order = order_is i; saved = saved_is i };
+        last_is = its.last_is;
+        frame = its.frame;
+        success = its.success;
+        view_is = λ i. record { numbers = numbers_are i; items = items_are i; next = (after i).next; order = order_is i; saved = saved_is i };
       },
       subst (λ (items : List (Option Item)). SavesTold (seen c.args.device.now).state (seen left.device).state left.reply handle items) before saves.1,
     )) out.ensures.ok c.list_saved.ensures.ok
@@ -125,9 +128,9 @@ returns-clause-err g c =
     let records = c.self.inside.records.items in
     let out = c.save_for_client-saved in
     let new = out.new.records in
-    let ready = ready_lent (g.D.Device.seen c.args.device.now).state records c.deref_mut.result.now c.self.inside.next c.self.inside.order
+    let ready = ready_lent c.self.inside.numbers (g.D.Device.seen c.args.device.now).state records c.deref_mut.result.now c.self.inside.next c.self.inside.order
     c.args.self.now c.requires.stand.0 c.deref_mut.ensures.value c.self.invariant.sound c.self.view_is c.requires.stand.1 in
-    let sound = (out.ensures.ready c.requires.stand.0 ready).sound in
+    let sound = (out.ensures.ready c.self.inside.numbers c.requires.stand.0 ready).sound in
     let count : length new ≡ length records = sound.count ∙ sym c.self.invariant.sound.count in
     let whole : take c.self.inside.records.len (new ++ drop (length new) records) ≡ new =
     take_at new (drop (length new) records) c.self.inside.records.len (omega arith) in
@@ -138,7 +141,8 @@ returns-clause-err g c =
     let next_is = stays.1 ∙ ap (λ (v : SessionsView). v.next) c.self.view_is in
     let order_is = ap (λ (o : OrderView). o.loaded) still ∙ ap (λ (v : SessionsView). v.order) c.self.view_is in
     let saved_is = ap (λ (o : OrderView). o.saved) still ∙ ap (λ (v : SessionsView). v.saved) c.self.view_is in
-    λ i. record { items = items_are i; next = next_is i; order = order_is i; saved = saved_is i }) out.ensures.err c.list_saved.ensures.err
+    let numbers_are = ap (λ (v : SessionsView). v.numbers) c.self.view_is in
+    λ i. record { numbers = numbers_are i; items = items_are i; next = next_is i; order = order_is i; saved = saved_is i }) out.ensures.err c.list_saved.ensures.err
 
 pub returns-clause-stands : goal.returns-clause-stands
 returns-clause-stands g c =
@@ -147,9 +151,9 @@ returns-clause-stands g c =
     let left = out.new in
     let new = left.records in
     let lent = c.deref_mut.ensures.value in
-    let ready = ready_lent (g.D.Device.seen c.args.device.now).state records c.deref_mut.result.now c.self.inside.next c.self.inside.order
+    let ready = ready_lent c.self.inside.numbers (g.D.Device.seen c.args.device.now).state records c.deref_mut.result.now c.self.inside.next c.self.inside.order
     c.args.self.now c.requires.stand.0 c.deref_mut.ensures.value c.self.invariant.sound c.self.view_is c.requires.stand.1 in
-    let sound = (out.ensures.ready c.requires.stand.0 ready).sound in
+    let sound = (out.ensures.ready c.self.inside.numbers c.requires.stand.0 ready).sound in
     let count : length new ≡ length records = sound.count ∙ sym c.self.invariant.sound.count in
     let whole : take c.self.inside.records.len (new ++ drop (length new) records) ≡ new =
     take_at new (drop (length new) records) c.self.inside.records.len (omega arith) in
@@ -165,7 +169,7 @@ returns-clause-stands g c =
     let handed = on_ok_both out.result _ _
     (λ saves gone.
     let its : Handed state view.items (items_of whole_records) view.saved c.list_saved.new.order.saved n bytes = record {
-      items_are = ap (λ (l : List Record). items_of l) whole ∙ ap (λ (v : SessionsView). v.items) saves.0.view_is
+      items_are = ap (λ (l : List Record). items_of l) whole ∙ ap (λ (v : SessionsView). v.items) (saves.0 c.self.inside.numbers).view_is
           ∙ ap (λ (l : List (Option Item)). set l n (saved_by_client bytes (item_at l n))) before;
       number = saves.1.number;
       order = ap (λ (o : OrderView). o.saved) gone ∙ ap (λ (k : ℕ). c.self.inside.order.saved ++ k ∷ []) c.number_of.ensures
@@ -179,15 +183,15 @@ returns-clause-stands g c =
     ) in its) out.ensures.err c.list_saved.ensures.err in
     record {
       stand = λ others stand.
-          stand_alike new_state (view_of new left.next) (view_with whole_records left.next c.list_saved.new.order) others
-          (ap (λ (l : List Record). items_of l) (sym whole)) refl
+          stand_alike new_state (view_of c.self.inside.numbers new left.next) (view_with c.self.inside.numbers whole_records left.next c.list_saved.new.order) others
+          refl (ap (λ (l : List Record). items_of l) (sym whole)) refl
           (either_way out.result _ _ (RiseIn new_state (items_of whole_records) c.list_saved.new.order.saved) handed kept
           (λ its. rise_handed state new_state view others (items_of whole_records) c.list_saved.new.order.saved n bytes stand out.ensures.keeps.0.rest
           listed there its)
           (λ its. rise_kept state new_state view others (items_of whole_records) c.list_saved.new.order.saved stand out.ensures.keeps.0.rest
           its.0 its.1))
-          (out.ensures.ready others
-          (ready_lent state records c.deref_mut.result.now c.self.inside.next c.self.inside.order
+          (out.ensures.ready c.self.inside.numbers others
+          (ready_lent c.self.inside.numbers state records c.deref_mut.result.now c.self.inside.next c.self.inside.order
           view others lent c.self.invariant.sound c.self.view_is stand)).stand;
       rest = out.ensures.keeps.0;
     }

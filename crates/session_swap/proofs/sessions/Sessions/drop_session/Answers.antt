@@ -27,6 +27,7 @@ forget-requires g c =
 
 abbrev forgotten : SessionsView → ℕ → SessionsView
 forgotten view n = record {
+  numbers = view.numbers;
   items = set view.items n None;
   next = view.next;
   order = without_one n view.order;
@@ -35,7 +36,13 @@ forgotten view n = record {
 
 -- the order aside
 abbrev view_ended : SessionsView → ℕ → SessionsView
-view_ended view handle = record { items = set view.items (number_of_session handle) None; next = view.next; order = []; saved = [] }
+view_ended view handle = record {
+  numbers = view.numbers;
+  items = set view.items (number_of_session handle) None;
+  next = view.next;
+  order = [];
+  saved = [];
+}
 
 pub returns-clause-ok : goal.returns-clause-ok
 returns-clause-ok g c =
@@ -61,7 +68,7 @@ returns-clause-stands g c =
           let ends : Stand (g.D.Device.seen c.flush.new.device).state (view_ended view c.args.handle) others =
           subst (λ (s : Option SlotState). Stand s (view_ended view c.args.handle) others) (sym state_is) after in
           subst (λ (v : SessionsView). Stand (g.D.Device.seen c.flush.new.device).state v others) (sym view_is)
-          (stand_alike (g.D.Device.seen c.flush.new.device).state (view_ended view c.args.handle) (forgotten view n) others refl refl
+          (stand_alike (g.D.Device.seen c.flush.new.device).state (view_ended view c.args.handle) (forgotten view n) others refl refl refl
           (rise_ended (g.D.Device.seen c.args.device.now).state (g.D.Device.seen c.flush.new.device).state view others n stand
           (ap rest_of state_is ∙ drops.rest)) ends);
       rest = record {

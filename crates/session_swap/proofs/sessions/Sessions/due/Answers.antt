@@ -16,4 +16,4 @@ returns-clause-due g c =
     ∙ ap (λ (v : SessionsView). gap_from v.next (number_at v.items (Some c.number_of.result))) c.self.view_is
     ∙ ap (λ (n : ℕ). gap_from view.next (number_at view.items (Some n))) c.number_of.ensures
     ∙ first_gap view c.in_ok-handle.handle first.first in
-    (first, omega (arith, is, first_most view, c.if-gap_above-lt-RENEWAL_GAP.false))
+    (first, omega (arith, is, first_most view, c.renewal_gap.ensures, c.if-gap_above-renewal_gap.false))

@@ -82,4 +82,5 @@ returns c =
     let next = ap (λ (v : SessionsView). v.next) c.self.view_is in
     let order = ap (λ (o : OrderView). o.loaded) c.end.ensures ∙ ap (λ (v : SessionsView). without_one number v.order) c.self.view_is in
     let saved = ap (λ (o : OrderView). o.saved) c.end.ensures ∙ ap (λ (v : SessionsView). without_one number v.saved) c.self.view_is in
-    λ i. record { items = same i; next = next i; order = order i; saved = saved i }
+    let numbers = ap (λ (v : SessionsView). v.numbers) c.self.view_is in
+    λ i. record { numbers = numbers i; items = same i; next = next i; order = order i; saved = saved i }

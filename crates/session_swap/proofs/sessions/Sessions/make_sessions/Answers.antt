@@ -16,7 +16,7 @@ invariant_of-self g c =
     let count : length new ≡ length records = left.ready.ready.sound.count ∙ sym c.self.invariant.sound.count in
     let whole : take c.self.inside.records.len (new ++ drop (length new) records) ≡ new =
     take_at new (drop (length new) records) c.self.inside.records.len (omega arith) in
-    kept_lent records c.deref_mut.result.now new (take c.self.inside.records.len (new ++ drop (length new) records)) c.self.inside.order
+    kept_lent c.self.inside.numbers records c.deref_mut.result.now new (take c.self.inside.records.len (new ++ drop (length new) records)) c.self.inside.order
     c.swap_sessions.new.order c.self.inside.owned c.self.invariant c.deref_mut.ensures.value whole left.ready.ready.sound left.ready.listed
     left.swaps.swaps.sessions.holders
 
@@ -27,7 +27,7 @@ swap_sessions-requires-clause-needed g c =
 
 pub swap_sessions-requires-clause-ready : goal.swap_sessions-requires-clause-ready
 swap_sessions-requires-clause-ready g c =
-    lent_in (g.D.Device.seen c.args.device.now).state c.self.inside.records.items c.deref_mut.result.now c.self.inside.next c.self.inside.owned
+    lent_in c.self.inside.numbers (g.D.Device.seen c.args.device.now).state c.self.inside.records.items c.deref_mut.result.now c.self.inside.next c.self.inside.owned
     c.self.inside.order c.args.self.now c.deref_mut.ensures.value c.self.invariant c.self.view_is c.requires.stand
 
 pub returns-clause-ok : goal.returns-clause-ok
@@ -40,7 +40,8 @@ returns-clause-ok g c =
     take_at new (drop (length new) records) c.self.inside.records.len (omega arith) in
     on_ok_weaker c.swap_sessions.result
     (λ ok.
-    subst (λ (l : List Record). HavePlaces c.args.needed.now c.args.new_places (g.D.Device.seen c.swap_sessions.new.device).state (items_of l))
+    subst (λ (l : List Record). HavePlaces c.args.needed.now c.args.new_places (g.D.Device.seen c.swap_sessions.new.device).state
+    (view_with c.self.inside.numbers l c.swap_sessions.new.next c.swap_sessions.new.order))
     (sym whole) ok) left.ok
 
 pub returns-clause-stay : goal.returns-clause-stay
@@ -72,9 +73,9 @@ returns-clause-room g c =
     let count : length new ≡ length records = left.ready.ready.sound.count ∙ sym c.self.invariant.sound.count in
     let whole : take c.self.inside.records.len (new ++ drop (length new) records) ≡ new =
     take_at new (drop (length new) records) c.self.inside.records.len (omega arith) in
-    let same = ap (λ (l : List Record). view_with l c.self.inside.next c.self.inside.order) c.deref_mut.ensures.value ∙ c.self.view_is in
-    subst (λ (l : List Record). MakesRoom seen old device c.args.needed.now c.args.new_places c.args.self.now (view_with l next new_order) result) (sym whole)
-    (subst (λ (v : SessionsView). MakesRoom seen old device c.args.needed.now c.args.new_places v (view_with new next new_order) result) same left.room)
+    let same = ap (λ (l : List Record). view_with c.self.inside.numbers l c.self.inside.next c.self.inside.order) c.deref_mut.ensures.value ∙ c.self.view_is in
+    subst (λ (l : List Record). MakesRoom seen old device c.args.needed.now c.args.new_places c.args.self.now (view_with c.self.inside.numbers l next new_order) result) (sym whole)
+    (subst (λ (v : SessionsView). MakesRoom seen old device c.args.needed.now c.args.new_places v (view_with c.self.inside.numbers new next new_order) result) same left.room)
 
 pub returns-clause-moved : goal.returns-clause-moved
 returns-clause-moved g c =
@@ -87,8 +88,8 @@ returns-clause-moved g c =
     let count : length new ≡ length records = left.ready.ready.sound.count ∙ sym c.self.invariant.sound.count in
     let whole : take c.self.inside.records.len (new ++ drop (length new) records) ≡ new =
     take_at new (drop (length new) records) c.self.inside.records.len (omega arith) in (
-      moved_lent seen old device records c.deref_mut.result.now new _ c.self.inside.next c.swap_sessions.new.next c.self.inside.order
+      moved_lent c.self.inside.numbers seen old device records c.deref_mut.result.now new _ c.self.inside.next c.swap_sessions.new.next c.self.inside.order
           c.swap_sessions.new.order c.args.self.now c.deref_mut.ensures.value c.self.view_is whole left.swaps.swaps left.ready,
-      gap_below (seen old).state (seen device).state c.requires.may.0 left.swaps.swaps.rest left.swaps.swaps.gap left.swaps.counter,
+      gap_below (seen old).state (seen device).state c.args.self.now c.requires.stand c.requires.may.0 left.swaps.swaps.rest left.swaps.swaps.gap left.swaps.counter,
       left.swaps.counter,
     )

@@ -11,7 +11,7 @@ invariant_of-result c =
     let records = c.in_ok-records.records.items in
     record {
       sound = c.in_ok-records.ensures.sound;
-      listed = lists_then records records no_order c.in_ok-order.order no_items c.in_ok-records.ensures.none c.in_ok-order.ensures
-          (none_listed is_loaded_item refl) (none_listed is_saved_item refl) (omega arith);
+      listed = lists_then c.args.numbers records records no_order c.in_ok-order.order no_items c.in_ok-records.ensures.none c.in_ok-order.ensures
+          (none_listed is_loaded_item refl) (none_listed is_saved_item refl) (omega arith) c.requires.range;
       owned_is = (none_listed has_owner refl).count ∙ ap (λ (l : List (Option Item)). count_by has_owner l) (sym c.in_ok-records.ensures.none);
     }

@@ -68,4 +68,5 @@ returns c =
     let next = ap (λ (v : SessionsView). v.next) c.self.view_is in
     let order = ap (λ (v : SessionsView). v.order) c.self.view_is in
     let saved = ap (λ (v : SessionsView). v.saved) c.self.view_is in
-    λ i. record { items = same i; next = next i; order = order i; saved = saved i }
+    let numbers = ap (λ (v : SessionsView). v.numbers) c.self.view_is in
+    λ i. record { numbers = numbers i; items = same i; next = next i; order = order i; saved = saved i }

@@ -5,9 +5,9 @@ use Rattle.std.proofs.lemmas.Result.{on_ok_weaker}
 use Rattle.tab_spec.specs.Shape.{number_of_session}
 use Rattle.device_port.specs.Device.{asked_of, last_of}
 use Rattle.session_swap.specs.declared.record.Record.{Record}
-use Rattle.session_swap.specs.Items.{AreKept, Item, Names, RenewalCounts, Renews, SessionsView, full_kept}
+use Rattle.session_swap.specs.Items.{AreKept, Item, Names, Renews, SessionsView, full_kept}
 use Rattle.session_swap.specs.Moves.{IsOldestAt, RenewsAt}
-use Rattle.session_swap.specs.Records.{IsSoundView, items_of}
+use Rattle.session_swap.specs.Records.{IsSoundView, items_of, view_of}
 use Rattle.session_swap.proofs.Listing.{sound_view}
 use Rattle.session_swap.proofs.Making.{kept_lent, lent_in, moved_lent}
 use Rattle.session_swap.proofs.Firsts.{oldest_at, saved_again}
@@ -22,13 +22,13 @@ invariant_of-self g c =
     let count : length new ≡ length records = left.ready.ready.sound.count ∙ sym c.self.invariant.sound.count in
     let whole : take c.self.inside.records.len (new ++ drop (length new) records) ≡ new =
     take_at new (drop (length new) records) c.self.inside.records.len (omega arith) in
-    kept_lent records c.deref_mut.result.now new (take c.self.inside.records.len (new ++ drop (length new) records)) c.self.inside.order
+    kept_lent c.self.inside.numbers records c.deref_mut.result.now new (take c.self.inside.records.len (new ++ drop (length new) records)) c.self.inside.order
     c.renew_session.new.order c.self.inside.owned c.self.invariant c.deref_mut.ensures.value whole left.ready.ready.sound left.ready.listed
     left.swaps.sessions.holders
 
 pub renew_session-requires-clause-ready : goal.renew_session-requires-clause-ready
 renew_session-requires-clause-ready g c =
-    lent_in (g.D.Device.seen c.args.device.now).state c.self.inside.records.items c.deref_mut.result.now c.self.inside.next c.self.inside.owned
+    lent_in c.self.inside.numbers (g.D.Device.seen c.args.device.now).state c.self.inside.records.items c.deref_mut.result.now c.self.inside.next c.self.inside.owned
     c.self.inside.order c.args.self.now c.deref_mut.ensures.value c.self.invariant c.self.view_is c.requires.stand
 
 pub renew_session-requires-clause-oldest : goal.renew_session-requires-clause-oldest
@@ -38,7 +38,7 @@ renew_session-requires-clause-oldest g c =
     let n = number_of_session c.args.handle in
     let before = ap (λ (l : List Record). items_of l) c.deref_mut.ensures.value ∙ ap (λ (v : SessionsView). v.items) c.self.view_is in
     let sound = subst (λ (v : SessionsView). IsSoundView v) c.self.view_is
-    (sound_view c.self.inside.records.items c.self.inside.next c.self.inside.owned c.self.inside.order c.self.invariant) in
+    (sound_view c.self.inside.numbers c.self.inside.records.items c.self.inside.next c.self.inside.owned c.self.inside.order c.self.invariant) in
     let is : IsOldestAt state view.items n = oldest_at state view c.args.handle sound c.requires.stand c.requires.oldest in
     subst (λ (l : List (Option Item)). IsOldestAt state l c.number_of.result) (sym before)
     (subst (λ (n : ℕ). IsOldestAt state view.items n) (sym c.number_of.ensures) is)
@@ -58,6 +58,8 @@ returns-clause-ok g c =
     let count : length new ≡ length records = left.ready.ready.sound.count ∙ sym c.self.invariant.sound.count in
     let whole : take c.self.inside.records.len (new ++ drop (length new) records) ≡ new =
     take_at new (drop (length new) records) c.self.inside.records.len (omega arith) in
+    let count_is = ap (λ (l : List Record). full_kept (view_of c.self.inside.numbers l c.self.inside.next)) c.deref_mut.ensures.value
+    ∙ ap full_kept c.self.view_is in
     on_ok_weaker c.renew_session.result
     (λ at.
     let its = subst (λ (n : ℕ). RenewsAt (seen c.args.device.now) (seen device) (items_of old) (items_of new) n) c.number_of.ensures at.0 in
@@ -73,9 +75,10 @@ returns-clause-ok g c =
             saved = its.saved;
             exact = its.exact;
           })),
-      saved_again c.self.inside.order c.renew_session.new.order (items_of records) (items_of old)
+      saved_again c.self.inside.numbers c.self.inside.order c.renew_session.new.order (items_of records)
           (items_of (take c.self.inside.records.len (new ++ drop (length new) records)))
-          c.args.self.now c.renew_session.new.next c.self.inside.next c.number_of.result c.args.handle before c.self.view_is c.number_of.ensures at.1,
+          c.args.self.now _ c.renew_session.new.next c.self.inside.next c.number_of.result c.args.handle count_is c.self.view_is
+          c.number_of.ensures at.1,
     )) left.ok
 
 pub returns-clause-others : goal.returns-clause-others
@@ -101,14 +104,21 @@ returns-clause-moved g c =
     let count : length new ≡ length records = left.ready.ready.sound.count ∙ sym c.self.invariant.sound.count in
     let whole : take c.self.inside.records.len (new ++ drop (length new) records) ≡ new =
     take_at new (drop (length new) records) c.self.inside.records.len (omega arith) in
-    moved_lent g.D.Device.seen c.args.device.now c.renew_session.new.device records c.deref_mut.result.now new _ c.self.inside.next
+    moved_lent c.self.inside.numbers g.D.Device.seen c.args.device.now c.renew_session.new.device records c.deref_mut.result.now new _ c.self.inside.next
     c.renew_session.new.next c.self.inside.order c.renew_session.new.order c.args.self.now c.deref_mut.ensures.value c.self.view_is whole
     left.swaps left.ready
 
 pub returns-clause-counts : goal.returns-clause-counts
 returns-clause-counts g c =
-    let before = ap (λ (l : List Record). items_of l) c.deref_mut.ensures.value ∙ ap (λ (v : SessionsView). v.items) c.self.view_is in
-    let kept = c.renew_session.ensures.kept in (
-      subst (λ (l : List (Option Item)). RenewalCounts g.D.Device.seen c.args.device.now c.renew_session.new.device l) before kept.1,
-      omega (arith, kept.2, ap full_kept before),
+    let seen = g.D.Device.seen in
+    let kept = c.renew_session.ensures.kept in
+    let count_is = ap (λ (l : List Record). full_kept (view_of c.self.inside.numbers l c.self.inside.next)) c.deref_mut.ensures.value
+    ∙ ap full_kept c.self.view_is in (
+      record {
+        room = kept.1.room;
+        counter = kept.1.counter;
+        counter_free = kept.1.counter_free;
+        sent = omega (arith, kept.1.sent, count_is);
+      },
+      omega (arith, kept.2, count_is),
     )

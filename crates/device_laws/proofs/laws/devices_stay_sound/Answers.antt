@@ -1,5 +1,5 @@
 use Rattle.device_laws.proofs.Replies.{new_is_slots, step_keeps}
-use Rattle.device_laws.proofs.laws.devices_stay_of_the_profile.Goals as goal
+use Rattle.device_laws.proofs.laws.devices_stay_sound.Goals as goal
 
 pub returns-clause-fresh : goal.returns-clause-fresh
 returns-clause-fresh c = new_is_slots
