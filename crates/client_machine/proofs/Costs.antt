@@ -2,7 +2,7 @@
 use Rattle.std.proofs.Common.{◌≡◌, ◌≤◌, ◌+◌, inl, inr, ℕ, Bool, true, false, List, ap, arith}
 use Rattle.std.specs.Prelude.{◌*◌, ◌<◌, if◌then◌else◌, Option, Some, None, is_some, MatchOption, Result, Ok}
 use Rattle.std.proofs.lemmas.Bool.{cases_lt, le-ltb}
-use Rattle.tab_spec.specs.declared.TheConstants.{SESSION_NUMBERS, TRANSIENT_FIRST}
+use Rattle.tab_spec.specs.declared.TheConstants.{TRANSIENT_FIRST}
 use Rattle.tab_spec.specs.declared.numbers.Numbers.{Numbers}
 use Rattle.tab_spec.specs.Count.{one_more}
 use Rattle.device_spec.specs.ContextCommands.{flush_context_command}
@@ -47,13 +47,13 @@ one_most false = omega arith
 -- nothing is sent where no renewal was due before; the gap is no larger now
 pub renews_few : {D : Type 0} (seen : D → Seen) (between new : D) (gap gap_left saved : ℕ) (numbers numbers_left : Numbers) → numbers_left ≡ numbers
     → gap_left ≤ gap → (gap_left < renewal_gap numbers_left → new ≡ between)
-    → SendsUpTo seen (2 * saved + 1) between new → saved ≤ SESSION_NUMBERS → SendsUpTo seen (renewal_bound gap numbers) between new
+    → SendsUpTo seen (2 * saved + 1) between new → saved ≤ numbers_left.active → SendsUpTo seen (renewal_bound gap numbers) between new
 renews_few seen between new gap gap_left saved numbers numbers_left same less still sent few =
     elim (cases_lt gap_left (renewal_gap numbers_left)) [
       | inl narrow ↦ omega (arith, ap (λ (d : _). sent_of (seen d)) (still narrow))
       | inr wide ↦
-          let due : renewal_bound gap numbers ≡ 2 * SESSION_NUMBERS + 1 =
-          ap {B = ℕ} (λ (test : Bool). if test then 0 else 2 * SESSION_NUMBERS + 1)
+          let due : renewal_bound gap numbers ≡ 2 * numbers.active + 1 =
+          ap {B = ℕ} (λ (test : Bool). if test then 0 else 2 * numbers.active + 1)
           (le-ltb gap (renewal_gap numbers) (omega (arith, less, wide, ap renewal_gap same))) in
-          omega (arith, due, sent, few)
+          omega (arith, due, sent, few, ap (λ (n : Numbers). n.active) same)
     ]

@@ -568,13 +568,15 @@ may_start {mid = mid} {client = client} {table = table} {a = a} {bytes = bytes} 
     let told = command_session is_taken (tables_seen client table mid.sessions.items) bytes a (device_handle table mid.objects.items (first_handle a)) reply p.admitted
     (ap (λ (command : List ℕ). takes false is_taken command reply) (sym p.ready.written) ∙ taken_unkept sent) tells in
     let free = none_told mid.sessions reply told.1 told.0 in
+    let nobodys : count_by sessions.is_orphan mid.sessions.items ≡ 0 = omega (arith, p.ready.nobodys) in
     record {
       long = told.1;
       handle = told.2;
       number = told.3;
       vacant = free.none;
-      place = place_for _ mid.sessions free.few (omega (arith, p.ready.nobodys))
+      place = place_for _ mid.sessions free.few nobodys
           (p.ready.sessions.room (and_parts (starts_session a) (code_of reply == RC_SUCCESS) tells).0);
+      few = omega (arith, free.few, nobodys, owners_and_orphans mid.sessions.items);
     }
 
 named_rest : (P : ℕ → Type 0) (is : Bool) (handle : ℕ) (more : List ℕ) → AllByRecursion P (if is then handle ∷ more else more) → AllByRecursion P more

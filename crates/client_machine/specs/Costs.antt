@@ -1,7 +1,6 @@
 -- What calls send at the most, and what stays in the device, by what is kept beside it: so over every device.
 use Rattle.std.specs.Prelude.{◌≡◌, ◌≤◌, ◌⊎◌, ℕ, ◌+◌, ◌*◌, ◌&&◌, nat_lt, true, List, Option, Some, None, if◌then◌else◌}
 use Rattle.std.specs.List.{count_by}
-use Rattle.tab_spec.specs.declared.TheConstants.{SESSION_NUMBERS}
 use Rattle.tab_spec.specs.declared.numbers.Numbers.{Numbers}
 use Rattle.tab_spec.specs.declared.Admitted.{Admitted}
 use Rattle.client_laws.specs.Ready.{starts_session}
@@ -16,9 +15,9 @@ use Rattle.client_machine.specs.declared.held.Held.{Held}
 abbrev pub SendsUpTo : {D : Type 0} (seen : D → Seen) → ℕ → (old new : D) → Type 0
 SendsUpTo seen most old new = sent_of (seen new) ≤ sent_of (seen old) + most
 
--- what closes a gap that is due: two commands for each session that may be saved, and one to free a place
+-- what closes a gap that is due: two commands for each session that may be active, and one to free a place
 abbrev pub renewal_bound : (gap : ℕ) → Numbers → ℕ
-renewal_bound gap numbers = if nat_lt gap (renewal_gap numbers) then 0 else 2 * SESSION_NUMBERS + 1
+renewal_bound gap numbers = if nat_lt gap (renewal_gap numbers) then 0 else 2 * numbers.active + 1
 
 -- what one command of a client costs, where so many things are nobody's and the gap is so large
 abbrev pub new_bound : (orphans gap : ℕ) → Numbers → ℕ

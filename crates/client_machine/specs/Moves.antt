@@ -257,6 +257,7 @@ pub record MayStart (reply : List ℕ) (view : sessions.SessionsView) : Type 0 w
   pub number : number_of_session (told_handle reply) < SESSION_NUMBERS
   pub vacant : sessions.item_at view.items (number_of_session (told_handle reply)) ≡ None
   pub place : sessions.loaded_items view.items < view.numbers.loaded
+  pub few : count_by is_some view.items < view.numbers.active
 
 -- a client's new object, which is in the slot of this handle
 pub record Adopts (client handle : ℕ) (items new_items : List Item) (table new_table : List (Option ℕ)) : Type 0 where

@@ -341,4 +341,5 @@ sound_view numbers records next owned order kept = record {
   lists = kept.listed.lists;
   most = omega (arith, kept.listed.most, kept.listed.lists.count);
   saved = kept.listed.saved;
+  few = kept.few;
 }

@@ -313,16 +313,28 @@ owned_moved items new_items same =
     count_same has_owner has_owner new_items items None None long
     (λ i inside. owned_of (item_at new_items i) ∙ ap holder_owned (holder_again items new_items i same) ∙ sym (owned_of (item_at items i)))
 
+some_of : (item : Option Item) → is_some item ≡ is_some (holder_of item)
+some_of None = refl
+some_of (Some item) = refl
+
+-- how many there are
+pub some_moved : (items new_items : List (Option Item)) → holders new_items ≡ holders items → count_by is_some new_items ≡ count_by is_some items
+some_moved items new_items same =
+    let long : length new_items ≡ length items = sym (length-map new_items holder_of) ∙ ap length same ∙ length-map items holder_of in
+    count_same is_some is_some new_items items None None long
+    (λ i inside. some_of (item_at new_items i) ∙ ap (λ (o : Option Holder). is_some o) (holder_again items new_items i same) ∙ sym (some_of (item_at items i)))
+
 -- what holds of all that is kept, after moves of lent records
 pub kept_lent : (numbers : Numbers) (records lent new_records whole : List Record) (order new_order : OrderView) (owned : ℕ) → AreListed numbers records order owned → lent ≡ records
     → whole ≡ new_records → AreRecords new_records → ListsIn numbers new_records new_order
     → holders (items_of new_records) ≡ holders (items_of lent) → AreListed numbers whole new_order owned
 kept_lent numbers records lent new_records whole order new_order owned kept same back sound listed held =
+    let holders_are = held ∙ ap (λ (l : List Record). holders (items_of l)) same in
     subst (λ (l : List Record). AreListed numbers l new_order owned) (sym back) (record {
       sound = sound;
       listed = listed;
-      owned_is = kept.owned_is ∙ sym (owned_moved (items_of records) (items_of new_records)
-          (held ∙ ap (λ (l : List Record). holders (items_of l)) same));
+      owned_is = kept.owned_is ∙ sym (owned_moved (items_of records) (items_of new_records) holders_are);
+      few = omega (arith, kept.few, some_moved (items_of records) (items_of new_records) holders_are);
     })
 
 pub gap_below : (state new_state : Option SlotState) (view : SessionsView) → Stand state view [] → IsNarrow state

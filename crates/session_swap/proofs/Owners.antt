@@ -1,4 +1,4 @@
--- How many sessions clients have, where one changes; and all that is kept of the sessions then.
+-- How many sessions there are, and how many clients have, where one changes; and all that is kept of the sessions then.
 use Rattle.std.proofs.Common.{◌≡◌, ◌+◌, ◌-◌, ◌<◌, ◌≤◌, inl, inr, ℕ, Bool, true, false, List, [], ◌∷◌, ◌++◌, length, set, refl, ap, subst, sym, ◌∙◌, arith}
 use Rattle.std.specs.Prelude.{IfSome, None, Option, Some, is_some, not}
 use Rattle.std.specs.List.{count_by}
@@ -31,6 +31,14 @@ owner_taken (Some item) = owner_some true item.client ∙ sym (owner_some (not (
 pub owner_disowned : (item : Option Item) → has_owner (disowned item) ≡ false
 owner_disowned None = refl
 owner_disowned (Some item) = refl
+
+pub some_saved : (bytes : List ℕ) (item : Option Item) → is_some (saved_by_client bytes item) ≡ is_some item
+some_saved bytes None = refl
+some_saved bytes (Some item) = refl
+
+pub some_disowned : (item : Option Item) → is_some (disowned item) ≡ is_some item
+some_disowned None = refl
+some_disowned (Some item) = refl
 
 pub taken_loaded : (item : Option Item) → is_loaded_item (taken_back item) ≡ is_loaded_item item
 taken_loaded None = refl
@@ -88,6 +96,23 @@ owners_split (item ∷ items) =
       owners_split items,
     )
 
+split_some : (item : Option Item) → flag (is_some item) ≡ flag (is_loaded_item item) + flag (is_saved_item item)
+split_some None = refl
+split_some (Some item) = omega (arith, flags_both (is_some item.saved))
+
+-- and there are no others
+pub some_split : (items : List (Option Item)) → count_by is_some items ≡ loaded_items items + saved_items items
+some_split [] = refl
+some_split (item ∷ items) =
+    omega (
+      arith,
+      count_cons is_some item items,
+      count_cons is_loaded_item item items,
+      count_cons is_saved_item item items,
+      split_some item,
+      some_split items,
+    )
+
 pub count_unchanged : (p : Option Item → Bool) (items : List (Option Item)) (n : ℕ) (item : Option Item) → p item ≡ p (item_at items n)
     → count_by p (set items n item) ≡ count_by p items
 count_unchanged p items n item same =
@@ -113,13 +138,25 @@ pub kept_set : {numbers : Numbers} (records : List Record) (order : OrderView) (
     → is_loaded_item (item_of_record r) ≡ is_loaded_item (item_at (items_of records) n)
     → is_saved_item (item_of_record r) ≡ is_saved_item (item_at (items_of records) n)
     → has_owner (item_of_record r) ≡ has_owner (item_at (items_of records) n) → AreListed numbers (set records n r) order owned
-kept_set records order owned n r kept sound loaded saved owner = record {
-  sound = sound;
-  listed = listed_set records order n r kept.listed loaded saved;
-  owned_is = kept.owned_is
-      ∙ sym (count_unchanged has_owner (items_of records) n (item_of_record r) owner)
-      ∙ ap (count_by has_owner) (sym (map-set item_of_record records n r));
-}
+kept_set records order owned n r kept sound loaded saved owner =
+    let items = items_of records in
+    let item = item_of_record r in
+    record {
+      sound = sound;
+      listed = listed_set records order n r kept.listed loaded saved;
+      owned_is = kept.owned_is
+          ∙ sym (count_unchanged has_owner items n item owner)
+          ∙ ap (count_by has_owner) (sym (map-set item_of_record records n r));
+      few = omega (
+        arith,
+        kept.few,
+        ap (λ (l : List (Option Item)). count_by is_some l) (map-set item_of_record records n r),
+        some_split items,
+        some_split (set items n item),
+        count_unchanged is_loaded_item items n item loaded,
+        count_unchanged is_saved_item items n item saved,
+      );
+    }
 
 -- ---- a session that was saved for its client
 

@@ -4,20 +4,22 @@ use Rattle.std.proofs.Common.{◌≡◌, ◌≢◌, ◌+◌, ◌-◌, ◌*◌, �
 use Rattle.std.specs.Prelude.{◌==◌, min, Option, Some, None, is_some, IfSome, Result, Ok, Err}
 use Rattle.std.specs.List.{count_by}
 use Rattle.std.proofs.lemmas.Bool.{cases_lt, le-ltb, lt-ltb, ltb-true, ne_eqb}
-use Rattle.std.proofs.lemmas.List.{length-map}
 use Rattle.std.proofs.lemmas.List.Sums.{count_by-le-length, sum_by-le-sum_by}
 use Rattle.std.proofs.Math.Nat.{suc-mul}
 use Rattle.tab_spec.specs.Shape.{number_of_session}
 use Rattle.tab_spec.specs.declared.TheConstants.{SESSION_NUMBERS}
+use Rattle.tab_spec.specs.declared.numbers.Numbers.{Numbers}
 use Rattle.device_spec.specs.Slots.{SlotState, gap_from, gap_of, loaded_count}
 use Rattle.device_port.specs.declared.own.SwapError.{SwapError}
-use Rattle.session_swap.specs.Items.{AreFree, AreKept, IsFirst, IsFresh, IsNarrow, IsRenewed, Item, KeepsRecent, Saved, SessionsView, Stand, Visited, counter_of, flag, full_flag, full_kept, gap_first, gap_kept, holder_of, holders, is_saved_item, item_at, loaded_items, number_of_item, oldest_number, renewal_gap, rest_of, saved_items, saved_number}
+use Rattle.session_swap.specs.Items.{AreFree, AreKept, IsFirst, IsFresh, IsNarrow, IsRenewed, Item, KeepsRecent, Saved, SessionsView, Stand, Visited, counter_of, flag, full_flag, full_kept, gap_first, gap_kept, holders, is_saved_item, item_at, loaded_items, number_of_item, oldest_number, renewal_gap, rest_of, saved_items, saved_number}
 use Rattle.session_swap.specs.Records.{IsSoundView}
 use Rattle.session_swap.proofs.Counts.{count_cons, count_one, flag_false, flag_most, flag_true}
 use Rattle.session_swap.proofs.Among.{named_is}
 use Rattle.session_swap.proofs.Firsts.{first_risen, oldest_of}
 use Rattle.session_swap.proofs.Gaps.{items_least}
+use Rattle.session_swap.proofs.Making.{some_moved}
 use Rattle.session_swap.proofs.Oldest.{gap_told, has_last, is_saved_with, number_inside, oldest_told}
+use Rattle.session_swap.proofs.Owners.{some_split}
 use Rattle.session_swap.proofs.Renewed.{kept_free}
 use Rattle.session_swap.proofs.Told.{numbers_kept, renewal_told}
 
@@ -253,22 +255,26 @@ order_next first view new_view (suc done) held same none is =
     let count : min (suc done) (full_kept first) ≡ min (suc done + 1) (full_kept first) = omega (arith, kept_most first) in
     is ∙ ap (λ (n : ℕ). drop n view.order) (none (omega arith)) ∙ held ∙ ap (λ (n : ℕ). drop n first.order) count
 
--- how many were saved at the start
-pub few_saved : (items : List (Option Item)) (view : SessionsView) → IsSoundView view → holders view.items ≡ holders items
-    → saved_items items ≤ SESSION_NUMBERS
-few_saved items view sound same =
-    omega (
-      arith,
-      sound.count,
-      ap length same,
-      length-map items holder_of,
-      length-map view.items holder_of,
-      count_by-le-length is_saved_item items,
-    )
+-- so few were saved at the start: no more than may be active, and than there are numbers
+pub record AreFew (saved : ℕ) (numbers : Numbers) : Type 0 where
+  pub active : saved ≤ numbers.active
+  pub all : saved ≤ SESSION_NUMBERS
 
-pub few_all : (most saved done : ℕ) → most ≡ saved → most ≤ done → (1 ≤ done → saved ≤ SESSION_NUMBERS) → saved ≤ SESSION_NUMBERS
-few_all most saved zero is all few = omega (arith, is, all)
-few_all most saved (suc done) is all few = few (omega arith)
+pub few_saved : (first view : SessionsView) → IsSoundView view → holders view.items ≡ holders first.items → view.numbers ≡ first.numbers
+    → AreFew (saved_items first.items) first.numbers
+few_saved first view sound same numbers =
+    let few : saved_items first.items ≤ first.numbers.active = omega (
+      arith,
+      sound.few,
+      some_split first.items,
+      some_moved first.items view.items same,
+      ap (λ (n : Numbers). n.active) numbers,
+    ) in
+    record { active = few; all = omega (arith, few, sound.range.active_most, ap (λ (n : Numbers). n.active) numbers) }
+
+pub few_all : (most saved done : ℕ) (numbers : Numbers) → most ≡ saved → most ≤ done → (1 ≤ done → AreFew saved numbers) → AreFew saved numbers
+few_all most saved zero numbers is all few = record { active = omega (arith, is, all); all = omega (arith, is, all) }
+few_all most saved (suc done) numbers is all few = few (omega arith)
 
 -- ---- the gap
 

@@ -556,11 +556,11 @@ pub record RenewalCounts {D : Type 0} (seen : D → Seen) (old new : D) (view : 
   pub sent : sent_of (seen new) ≤ sent_of (seen old) + 2 + full_kept view
 
 -- what a refresh sends at the most: two commands for each session that was saved before, and one to free a place
-pub record RefreshCounts {D : Type 0} (seen : D → Seen) (old new : D) (items : List (Option Item)) : Type 0 where
+pub record RefreshCounts {D : Type 0} (seen : D → Seen) (old new : D) (view : SessionsView) : Type 0 where
   pub room : HasGapRoom (seen new).state
   pub counter : counter_of (seen new).state ≤ counter_of (seen old).state + SESSION_NUMBERS + 1
-  pub sent : sent_of (seen new) ≤ sent_of (seen old) + 2 * saved_items items + 1
-  pub few : saved_items items ≤ SESSION_NUMBERS
+  pub sent : sent_of (seen new) ≤ sent_of (seen old) + 2 * saved_items view.items + 1
+  pub few : saved_items view.items ≤ view.numbers.active
 
 -- so many contexts were renewed, and no renewal is due any more
 pub record Refreshes (state new_state : Option SlotState) (view new_view : SessionsView) (renewed : ℕ) : Type 0 where

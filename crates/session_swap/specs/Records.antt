@@ -1,5 +1,5 @@
 -- What the code keeps of the sessions, and what holds of it.
-use Rattle.std.specs.Prelude.{◌≡◌, ◌≤◌, ◌==◌, ℕ, Bool, true, ltb, List, [], ◌∷◌, ◌++◌, map, get_or, length, take, drop, vec_capacity, Option, Some, None, Ok, Err, IfSome, if◌then◌else◌}
+use Rattle.std.specs.Prelude.{◌≡◌, ◌≤◌, ◌==◌, ℕ, Bool, true, ltb, List, [], ◌∷◌, ◌++◌, map, get_or, length, take, drop, vec_capacity, Option, Some, None, is_some, Ok, Err, IfSome, if◌then◌else◌}
 use Rattle.std.specs.List.{All, count_by, sum_by}
 use Rattle.device_port.specs.Use.{first_unneeded, used_after, without_first, without_one}
 use Rattle.linked_records.specs.View.{record_count}
@@ -95,11 +95,12 @@ pub record ListsIn (numbers : Numbers) (records : List Record) (order : OrderVie
   pub most : length order.loaded ≤ numbers.loaded
   pub saved : ListsThose is_saved_item order.saved (items_of records)
 
--- what holds of all that is kept: so many sessions are clients'
+-- what holds of all that is kept: so many sessions are clients', and there are no more than may be active
 pub record AreListed (numbers : Numbers) (records : List Record) (order : OrderView) (owned : ℕ) : Type 0 where
   pub sound : AreRecords records
   pub listed : ListsIn numbers records order
   pub owned_is : owned ≡ count_by has_owner (items_of records)
+  pub few : count_by is_some (items_of records) ≤ numbers.active
 
 -- and of what is seen of it
 pub record IsSoundView (view : SessionsView) : Type 0 where
@@ -108,6 +109,7 @@ pub record IsSoundView (view : SessionsView) : Type 0 where
   pub lists : Lists view.order view.items
   pub most : loaded_items view.items ≤ view.numbers.loaded
   pub saved : ListsThose is_saved_item view.saved view.items
+  pub few : count_by is_some view.items ≤ view.numbers.active
 
 -- ---- the lists
 

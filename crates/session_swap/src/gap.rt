@@ -33,7 +33,7 @@ pub fn refresh<D: Device>(
     ensures recent { IfSome (D.seen device.new).state
         (λ slots. KeepsRecent slots sessions.old.items sessions.new.items) }
     ensures moved { Moved D.seen device.old device.new sessions.old sessions.new }
-    ensures counts { RefreshCounts D.seen device.old device.new sessions.old.items }
+    ensures counts { RefreshCounts D.seen device.old device.new sessions.old }
     ensures asks { AsksSome D.seen device.old device.new result }
 {
     refresh_by(sessions, device, scratch, &mut Uncounted)
@@ -58,7 +58,7 @@ pub fn refresh_counted<D: Device, L: Ledger>(
     ensures recent { IfSome (D.seen device.new).state
         (λ slots. KeepsRecent slots sessions.old.items sessions.new.items) }
     ensures moved { Moved D.seen device.old device.new sessions.old sessions.new }
-    ensures counts { RefreshCounts D.seen device.old device.new sessions.old.items
+    ensures counts { RefreshCounts D.seen device.old device.new sessions.old
         × Visited steps.old steps.new (saved_items sessions.old.items) result }
     ensures counted { IfOk result (λ renewed. steps.old + 5 * renewed ≤ steps.new) }
     ensures asks { AsksSome D.seen device.old device.new result }
@@ -82,7 +82,7 @@ fn refresh_by<D: Device, C: Visits>(
     ensures recent { IfSome (D.seen device.new).state
         (λ slots. KeepsRecent slots sessions.old.items sessions.new.items) }
     ensures moved { Moved D.seen device.old device.new sessions.old sessions.new }
-    ensures counts { RefreshCounts D.seen device.old device.new sessions.old.items
+    ensures counts { RefreshCounts D.seen device.old device.new sessions.old
         × Visited (C.count steps.old) (C.count steps.new) (saved_items sessions.old.items) result }
     ensures counted { IfOk result (λ renewed.
         C.count steps.old + renewed * (5 * C.weight) ≤ C.count steps.new) }

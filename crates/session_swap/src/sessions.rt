@@ -61,10 +61,10 @@ fn less_one(count: u8, one: bool) -> u8
 }
 
 /// The sessions of all clients, under at most 64 numbers: more of them than the device has places
-/// for loaded ones. Each is loaded, or saved in a context that the device made of it. It is seen as
-/// how much the device has room for, its items, by number, the number that the next context gets,
-/// the numbers of the loaded sessions, the least recently used first, and those of the saved ones,
-/// in the order in which they were saved.
+/// for loaded ones, and no more than may be active. Each is loaded, or saved in a context that the
+/// device made of it. It is seen as how much the device has room for, its items, by number, the
+/// number that the next context gets, the numbers of the loaded sessions, the least recently used
+/// first, and those of the saved ones, in the order in which they were saved.
 #[derive(Drop)]
 pub struct Sessions {
     records: Vec<Record>,
@@ -156,7 +156,7 @@ impl Sessions {
     /// How many sessions clients have, in use or saved by them. Those of nobody don't count.
     pub fn active(&self) -> u8
         ensures count { result ≡ count_by has_owner self.now.items }
-        ensures most { result ≤ SESSION_NUMBERS }
+        ensures most { result ≤ self.now.numbers.active }
         // There is an item for each number.
         ensures numbers { length self.now.items ≡ SESSION_NUMBERS }
     {
@@ -308,6 +308,7 @@ impl Sessions {
         requires number { number_of_session handle < SESSION_NUMBERS }
         requires unused { item_at self.old.items (number_of_session handle) ≡ None }
         requires place { loaded_items self.old.items < self.old.numbers.loaded }
+        requires few { count_by is_some self.old.items < self.old.numbers.active }
         ensures { self.new ≡ record self.old {
           items = set self.old.items (number_of_session handle) (Some (new_item client handle));
           order = self.old.order ++ number_of_session handle ∷ [];

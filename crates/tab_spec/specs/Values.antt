@@ -85,8 +85,7 @@ pub record Public : Type 0 where
   pub policy : List ℕ
   pub unique : List ℕ
 
--- the bits of TPMA_OBJECT that are there: fixedTPM 1, fixedParent 4, sensitiveDataOrigin 5, userWithAuth 6,
--- adminWithPolicy 7, noDA 10, restricted 16, decrypt 17, sign 18
+-- whether only attributes are set that this profile has (Part 2, "TPMA_OBJECT"); `OBJECT_KNOWN` has a bit for each of them
 abbrev pub has_known_bits : ℕ → Bool
 has_known_bits attributes = bit_and OBJECT_KNOWN attributes == attributes
 

@@ -52,12 +52,12 @@ returns-in_default-clause-ok g c =
 pub returns-in_default-clause-counts : goal.returns-in_default-clause-counts
 returns-in_default-clause-counts g c =
     let held = c.loop-renewed.invariant in
-    let few = few_saved c.args.sessions.now.items c.loop-renewed.sessions c.in_default.ensures.sound held.moved.sessions.holders in (
+    let few = few_saved c.args.sessions.now c.loop-renewed.sessions c.in_default.ensures.sound held.moved.sessions.holders held.moved.numbers in (
       record {
         room = held.room;
-        counter = omega (arith, held.counter, few, c.loop-renewed.auto.renewed-end, c.from-most.ensures, c.saved.ensures);
+        counter = omega (arith, held.counter, few.all, c.loop-renewed.auto.renewed-end, c.from-most.ensures, c.saved.ensures);
         sent = omega (arith, held.sent, c.loop-renewed.auto.renewed-end, c.from-most.ensures, c.saved.ensures);
-        few = few;
+        few = few.active;
       },
       steps_last (g.C.Visits.count c.args.steps.now) (g.C.Visits.count c.loop-renewed.steps) (g.C.Visits.count c.due.new.steps)
           c.loop-renewed.renewed held.steps c.in_default.ensures.steps,
@@ -123,7 +123,7 @@ loop-renewed-preserved g c =
           (g.C.Visits.count c.renew_by.new.steps) c.loop-renewed.renewed g.C.Visits.weight held.counted c.in-Some.ensures.counted next.counted;
       order = order_next c.args.sessions.now sessions new_sessions c.loop-renewed.renewed held.order (λ none. (held.first none).1)
           (λ one. kept_none sessions sound (held.places one)) next.ok.1.order;
-      few = λ one. few_saved c.args.sessions.now.items sessions sound moved.sessions.holders;
+      few = λ one. few_saved c.args.sessions.now sessions sound moved.sessions.holders moved.numbers;
       asks = asks_then seen c.args.device.now c.loop-renewed.device c.renew_by.new.device tt (Ok tt) held.asks next.asks;
     }
 
@@ -144,13 +144,13 @@ returns-clause-ok g c =
 pub returns-clause-counts : goal.returns-clause-counts
 returns-clause-counts g c =
     let held = c.loop-renewed.invariant in
-    let few = few_all c.from-most.result (saved_items c.args.sessions.now.items) c.loop-renewed.renewed (c.from-most.ensures ∙ c.saved.ensures)
+    let few = few_all c.from-most.result (saved_items c.args.sessions.now.items) c.loop-renewed.renewed c.args.sessions.now.numbers (c.from-most.ensures ∙ c.saved.ensures)
     c.loop-renewed-test.false held.few in (
       record {
         room = held.room;
-        counter = omega (arith, held.counter, few, c.loop-renewed.auto.renewed-end, c.from-most.ensures, c.saved.ensures);
+        counter = omega (arith, held.counter, few.all, c.loop-renewed.auto.renewed-end, c.from-most.ensures, c.saved.ensures);
         sent = omega (arith, held.sent, c.loop-renewed.auto.renewed-end, c.from-most.ensures, c.saved.ensures);
-        few = few;
+        few = few.active;
       },
       omega (arith, held.steps, c.loop-renewed.auto.renewed-end, c.loop-renewed-test.false),
     )
@@ -162,7 +162,7 @@ returns-in_err-renew_by-clause-counts g c =
     let next = c.renew_by.ensures.counts.0 in
     let sessions = c.loop-renewed.sessions in
     let sound = c.in-Some.ensures.sound in
-    let few = few_saved c.args.sessions.now.items sessions sound held.moved.sessions.holders in
+    let few = few_saved c.args.sessions.now sessions sound held.moved.sessions.holders held.moved.numbers in
     let counter = counter_next (counter_of (seen c.args.device.now).state) (counter_of (seen c.loop-renewed.device).state)
     (counter_of (seen c.renew_by.new.device).state) c.loop-renewed.renewed held.counter
     (λ none. ap (λ (device : g.row.D.Denot). counter_of (seen device).state) (held.first none).0)
@@ -175,9 +175,9 @@ returns-in_err-renew_by-clause-counts g c =
     c.renew_by.ensures.counts.1 (kept_most sessions) (λ one. kept_none sessions sound (held.places one)) in (
       record {
         room = next.room;
-        counter = omega (arith, counter, few, c.loop-renewed-test.true, c.from-most.ensures, c.saved.ensures);
+        counter = omega (arith, counter, few.all, c.loop-renewed-test.true, c.from-most.ensures, c.saved.ensures);
         sent = omega (arith, sent, c.loop-renewed-test.true, c.from-most.ensures, c.saved.ensures);
-        few = few;
+        few = few.active;
       },
       visited_failed (g.C.Visits.count c.args.steps.now) (g.C.Visits.count c.renew_by.new.steps) (saved_items c.args.sessions.now.items)
           c.from_residual.result _ (err_from_is_err_and c.from_residual.result c.from_residual.ensures.1).1

@@ -1,10 +1,9 @@
 use Rattle.std.proofs.Common.{◌≡◌, ◌+◌, ◌*◌, ◌<◌, ◌≤◌, drop, length}
 use Rattle.std.specs.Prelude.{IfSome, Ok, min}
-use Rattle.tab_spec.specs.declared.TheConstants.{SESSION_NUMBERS}
 use Rattle.device_port.specs.Device.{sent_of}
 use Rattle.device_port.specs.Own.{AsksSome}
 use Rattle.session_swap.specs.Items.{AreFree, HasGapRoom, KeepsRecent, Moved, counter_of, full_flag, full_kept, gap_kept, renewal_gap, saved_items}
-use Rattle.session_swap.proofs.Refreshed.{Progress}
+use Rattle.session_swap.proofs.Refreshed.{AreFew, Progress}
 use Rattle.session_swap.proofs.gap.refresh_by.Given as goal
 
 abbrev pub invariant-loop-renewed : goal.invariant-loop-renewed
@@ -27,6 +26,6 @@ invariant-loop-renewed g l =
       steps : C.count l.steps ≤ C.count l.fn.steps + 11 * l.renewed + 6 * min l.renewed 1;
       counted : C.count l.fn.steps + l.renewed * (5 * C.weight) ≤ C.count l.steps;
       order : l.sessions.order ≡ drop (min l.renewed (full_kept l.fn.sessions)) l.fn.sessions.order;
-      few : 1 ≤ l.renewed → saved_items l.fn.sessions.items ≤ SESSION_NUMBERS;
+      few : 1 ≤ l.renewed → AreFew (saved_items l.fn.sessions.items) l.fn.sessions.numbers;
       asks : AsksSome {A = Unit {0}} D.seen l.fn.device l.device (Ok tt);
     }

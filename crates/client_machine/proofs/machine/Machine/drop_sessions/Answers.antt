@@ -1,7 +1,8 @@
 use Rattle.std.proofs.Common.{arith, refl, ◌∙◌}
 use Rattle.std.specs.Prelude.{Ok}
+use Rattle.std.proofs.lemmas.List.Sums.{count_by-le-length}
 use Rattle.std.proofs.lemmas.Result.{err_from_is_err_and}
-use Rattle.session_swap.specs.Items.{is_owned}
+use Rattle.session_swap.specs.Items.{has_owner, is_owned}
 use Rattle.history_laws.proofs.Counts.{list_none}
 use Rattle.client_machine.proofs.Disowning.{ended_owned, others_more, others_same, own_at, owned_few}
 use Rattle.client_machine.proofs.Dropping.{disowns_failed, disowns_none, disowns_ok, disowns_then, drops_none, drops_then}
@@ -38,6 +39,28 @@ pub returns-clause-none : goal.returns-clause-none
 returns-clause-none g c =
     list_none (is_owned c.args.client) c.loop-number.self.held.sessions.items
     (omega (arith, c.loop-number.invariant.left, c.active-number-end.ensures, c.loop-number-test.false))
+
+pub returns-in_default-clause-few : goal.returns-in_default-clause-few
+returns-in_default-clause-few g c =
+    let so_far = c.loop-number.invariant in
+    omega (
+      arith,
+      so_far.few,
+      so_far.left,
+      c.active-number-end.ensures.numbers,
+      count_by-le-length has_owner c.args.self.now.held.sessions.items,
+    )
+
+pub returns-clause-few : goal.returns-clause-few
+returns-clause-few g c =
+    let so_far = c.loop-number.invariant in
+    omega (
+      arith,
+      so_far.few,
+      so_far.left,
+      c.active-number-end.ensures.numbers,
+      count_by-le-length has_owner c.args.self.now.held.sessions.items,
+    )
 
 pub returns-in_default-clause-disowns : goal.returns-in_default-clause-disowns
 returns-in_default-clause-disowns g c = disowns_ok _ _ _ _ _ 0 _ c.loop-number.invariant.disowns

@@ -1,10 +1,10 @@
 use Rattle.std.proofs.Common.{◌≡◌, ◌<◌, ◌∙◌, ◌∷◌, ◌++◌, [], ℕ, List, length, set, refl, ap, sym, subst, arith, true}
-use Rattle.std.specs.Prelude.{None, Some}
+use Rattle.std.specs.Prelude.{None, Option, Some, is_some}
 use Rattle.std.specs.List.{count_by}
 use Rattle.std.proofs.lemmas.List.{length-map, map-set}
 use Rattle.session_swap.specs.declared.record.Place.TheVariants as places
 use Rattle.session_swap.specs.declared.record.Record.{Record}
-use Rattle.session_swap.specs.Items.{SessionsView, flag, has_owner, is_loaded_item, is_saved_item, item_at, loaded_items, new_item}
+use Rattle.session_swap.specs.Items.{Item, SessionsView, flag, has_owner, is_loaded_item, is_saved_item, item_at, loaded_items, new_item}
 use Rattle.session_swap.specs.Records.{IsHandleOf, IsRecord, OrderView, item_of_record, items_of}
 use Rattle.session_swap.proofs.Counts.{count_set}
 use Rattle.session_swap.proofs.Listing.{listed_in, not_listed}
@@ -49,6 +49,15 @@ invariant_of-self c =
         ap (λ l. count_by has_owner l) same,
         count_set has_owner items number (item_of_record n) None (omega (arith, inside, length-map records item_of_record)),
         ap (λ o. flag (has_owner o)) none,
+      );
+      few = omega (
+        arith,
+        c.requires.few,
+        ap (λ (v : SessionsView). count_by is_some v.items) c.self.view_is,
+        ap (λ (v : SessionsView). v.numbers.active) c.self.view_is,
+        ap (λ (l : List (Option Item)). count_by is_some l) same,
+        count_set is_some items number (item_of_record n) None (omega (arith, inside, length-map records item_of_record)),
+        ap (λ (o : Option Item). flag (is_some o)) none,
       );
     }
 

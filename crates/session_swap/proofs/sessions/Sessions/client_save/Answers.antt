@@ -1,5 +1,5 @@
-use Rattle.std.proofs.Common.{◌≡◌, ◌∙◌, ◌++◌, ◌∷◌, [], true, ℕ, List, length, take, drop, set, ap, sym, subst, arith, refl}
-use Rattle.std.specs.Prelude.{Option}
+use Rattle.std.proofs.Common.{◌≡◌, ◌≤◌, ◌∙◌, ◌++◌, ◌∷◌, [], true, ℕ, List, length, take, drop, set, ap, sym, subst, arith, refl}
+use Rattle.std.specs.Prelude.{Option, is_some}
 use Rattle.std.specs.List.{count_by}
 use Rattle.std.proofs.lemmas.List.{take_at}
 use Rattle.std.proofs.lemmas.Result.{on_ok_weaker}
@@ -14,7 +14,7 @@ use Rattle.session_swap.proofs.Asking.{on_ok_both}
 use Rattle.session_swap.proofs.Bringing.{saved_apart}
 use Rattle.session_swap.proofs.Among.{loaded_whole}
 use Rattle.session_swap.proofs.Listing.{listed_once, listed_saved, on_err_both, on_err_weaker}
-use Rattle.session_swap.proofs.Owners.{Handed, count_unchanged, owner_saved, rise_handed, rise_kept}
+use Rattle.session_swap.proofs.Owners.{Handed, count_unchanged, owner_saved, rise_handed, rise_kept, some_saved}
 use Rattle.session_swap.proofs.Making.{either_way, ready_lent}
 use Rattle.session_swap.proofs.Moved.{stand_alike}
 use Rattle.session_swap.proofs.sessions.Sessions.client_save.Goals as goal
@@ -64,6 +64,7 @@ invariant_of-self g c =
     let bytes = drop HEADER_BYTES left.reply in
     let listed = subst (λ (l : List Record). ListsIn c.self.inside.numbers l order) (sym same) c.self.invariant.listed in
     let owned = c.self.invariant.owned_is ∙ ap (λ (l : List Record). count_by has_owner (items_of l)) (sym same) in
+    let few = ap (λ (l : List Record). count_by is_some (items_of l)) same in
     let there : is_loaded_item (item_at (items_of lent) number) ≡ true =
     ap (λ (l : List Record). is_loaded_item (item_at (items_of l) number)) same
     ∙ ap (λ (v : SessionsView). is_loaded_item (item_at v.items number)) c.self.view_is
@@ -82,6 +83,16 @@ invariant_of-self g c =
           (owner_saved bytes (item_at (items_of lent) n)))
           ∙ ap (λ (v : SessionsView). count_by has_owner v.items) (sym (saves.0 c.self.inside.numbers).view_is))
           (λ stays. owned ∙ ap (count_by has_owner) (sym stays.0));
+      few = either_way out.result _ _ (count_by is_some (items_of new) ≤ c.self.inside.numbers.active) out.ensures.ok out.ensures.err
+          (λ saves.
+          omega (
+            arith,
+            c.self.invariant.few,
+            few,
+            count_unchanged is_some (items_of lent) n (saved_by_client bytes (item_at (items_of lent) n)) (some_saved bytes (item_at (items_of lent) n)),
+            ap (λ (v : SessionsView). count_by is_some v.items) (saves.0 c.self.inside.numbers).view_is,
+          ))
+          (λ stays. omega (arith, c.self.invariant.few, few, ap (λ (l : List (Option Item)). count_by is_some l) stays.0));
     })
 
 pub returns-clause-ok : goal.returns-clause-ok

@@ -10,6 +10,7 @@ use Rattle.session_swap.specs.Records.{IsRecord, OrderView, item_of_record, item
 use Rattle.session_swap.proofs.Moved.{record_inside}
 use Rattle.session_swap.proofs.Making.{read_there, records_set}
 use Rattle.session_swap.proofs.Listing.{listed_gone}
+use Rattle.session_swap.proofs.Counts.{count_set}
 use Rattle.session_swap.proofs.Owners.{owned_less, owned_most, saved_else}
 use Rattle.session_swap.proofs.sessions.Sessions.forget.Goals as goal
 
@@ -69,6 +70,12 @@ invariant_of-self c =
         c.self.invariant.owned_is,
         ap (λ (l : List (Option Item)). count_by has_owner l) same,
         owned_less items number None c.has_owner-had_owner.result (omega (arith, inside, length-map records item_of_record)) was refl,
+      );
+      few = omega (
+        arith,
+        c.self.invariant.few,
+        ap (λ (l : List (Option Item)). count_by is_some l) same,
+        count_set is_some items number None None (omega (arith, inside, length-map records item_of_record)),
       );
     }
 

@@ -1,5 +1,5 @@
 use Rattle.std.proofs.Common.{◌∙◌, List, ap, refl, sym, arith}
-use Rattle.std.specs.Prelude.{Option}
+use Rattle.std.specs.Prelude.{Option, is_some}
 use Rattle.std.specs.List.{count_by}
 use Rattle.session_swap.specs.Items.{Item, has_owner, is_loaded_item, is_saved_item, no_items}
 use Rattle.session_swap.specs.Records.{no_order}
@@ -14,4 +14,9 @@ invariant_of-result c =
       listed = lists_then c.args.numbers records records no_order c.in_ok-order.order no_items c.in_ok-records.ensures.none c.in_ok-order.ensures
           (none_listed is_loaded_item refl) (none_listed is_saved_item refl) (omega arith) c.requires.range;
       owned_is = (none_listed has_owner refl).count ∙ ap (λ (l : List (Option Item)). count_by has_owner l) (sym c.in_ok-records.ensures.none);
+      few = omega (
+        arith,
+        (none_listed is_some refl).count,
+        ap (λ (l : List (Option Item)). count_by is_some l) c.in_ok-records.ensures.none,
+      );
     }

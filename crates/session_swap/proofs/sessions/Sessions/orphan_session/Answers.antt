@@ -1,5 +1,5 @@
 use Rattle.std.proofs.Common.{◌<◌, ◌∙◌, ℕ, List, length, set, ap, sym, subst, arith}
-use Rattle.std.specs.Prelude.{Option}
+use Rattle.std.specs.Prelude.{Option, is_some}
 use Rattle.std.specs.List.{count_by}
 use Rattle.std.proofs.lemmas.List.{length-map}
 use Rattle.session_swap.specs.Items.{Item, Names, SessionsView, disowned, has_owner, is_loaded_item, is_saved_item, item_at}
@@ -7,7 +7,7 @@ use Rattle.session_swap.specs.Records.{item_of_record, items_of}
 use Rattle.session_swap.proofs.Making.{named_record, read_there}
 use Rattle.session_swap.proofs.Orphans.{disowned_items, disowned_records, disowned_there, without_client}
 use Rattle.session_swap.proofs.Listing.{listed_set}
-use Rattle.session_swap.proofs.Owners.{disowned_loaded, disowned_saved, owned_less, owned_most, owner_disowned}
+use Rattle.session_swap.proofs.Owners.{count_unchanged, disowned_loaded, disowned_saved, owned_less, owned_most, owner_disowned, some_disowned}
 use Rattle.session_swap.proofs.sessions.Sessions.orphan_session.Goals as goal
 
 pub less_one-self-inside-requires : goal.less_one-self-inside-requires
@@ -51,6 +51,12 @@ invariant_of-self c =
         ap (λ (l : List (Option Item)). count_by has_owner l) (disowned_items records number d inside is),
         owned_less items number (disowned (item_at items number)) c.has_owner-had_owner.result
             (omega (arith, inside, length-map records item_of_record)) was (owner_disowned (item_at items number)),
+      );
+      few = omega (
+        arith,
+        c.self.invariant.few,
+        ap (λ (l : List (Option Item)). count_by is_some l) (disowned_items records number d inside is),
+        count_unchanged is_some items number (disowned (item_at items number)) (some_disowned (item_at items number)),
       );
     }
 
