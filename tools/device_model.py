@@ -4,9 +4,10 @@ It shares no code with the program. It is the other implementation that expected
 come from: what it answers to a command is compared with what the program's device
 answers.
 
-`Device(seed)` is a device that isn't started; `transmit(command)` gives the
-response. `World(seed)` is the machine as its clients see it: each has a table of objects,
-and the sessions of all of them have 64 numbers. `step(client, command, pick)` gives the
+`Device(seed, numbers)` is a device that isn't started; `transmit(command)` gives the
+response. `World(seed, most)` is the machine as its clients see it: each has a table of
+objects, and the sessions of all of them have 64 numbers, of which as many may be active as
+`most` says. Without them it is the profile's. `step(client, command, pick)` gives the
 reply where the free choice is that of a journal; `command(client, command)` chooses itself.
 
 `workload_lines(start, count)` gives the lines of the script that `tabrmd workload` plays.
@@ -48,10 +49,25 @@ WRITTEN = 1 << 29
 NV_ATTRIBUTES = OWNER_WRITE | AUTH_WRITE | 0xF0 | OWNER_READ | AUTH_READ | 1 << 25 | WRITTEN
 NV_INDEXES, NV_BYTES = 64, 2048
 
-SLOTS, LOADED_SESSIONS, ACTIVE_SESSIONS, GAP = 3, 3, 64, 255
+# The numbers of a device: what it has room for, and how far apart contexts may be. Those of the profile, the properties
+# by which a device tells them, and how many sessions have numbers at all.
+Numbers = namedtuple("Numbers", "slots loaded active gap")
+PROFILE = Numbers(3, 3, 64, 255)
+NUMBER_PROPERTIES = Numbers(0x10E, 0x110, 0x111, 0x114)
+SESSION_NUMBERS = 64
 CLIENT_OBJECTS = 4096
 FIRST_TRANSIENT = 0x80000000
 LAST_PLACE = 1 << 62
+
+
+def number_out(values):
+    """The first of a device's numbers that no broker can serve: its property, or None. `values` are the first ones, in
+    the order of the properties."""
+    least, most = PROFILE._replace(active=values[1] if len(values) > 1 else 0), (254, 64, 64, 2 ** 32 - 1)
+    for place, value in enumerate(values):
+        if not least[place] <= value <= most[place]:
+            return NUMBER_PROPERTIES[place]
+    return None
 
 
 class Refusal(Exception):
@@ -884,9 +900,10 @@ class Machine:
 
 class Device(Machine):
 
-    def __init__(self, seed):
+    def __init__(self, seed, numbers=PROFILE):
         super().__init__(seed)
-        self.slots = [None] * SLOTS
+        self.numbers = numbers
+        self.slots = [None] * numbers.slots
         self.object_context_id = 0
         # by number: a loaded session, or the octet and the sequence of a saved one
         self.loaded, self.saved = {}, {}
@@ -897,7 +914,7 @@ class Device(Machine):
 
     def _object(self, handle):
         slot = handle - FIRST_TRANSIENT
-        return self.slots[slot] if 0 <= slot < SLOTS else None
+        return self.slots[slot] if 0 <= slot < len(self.slots) else None
 
     def _session(self, handle):
         session = self.loaded.get(handle & 0xFFFFFF)
@@ -913,11 +930,11 @@ class Device(Machine):
         return uint32(FIRST_TRANSIENT + slot)
 
     def _has_session_room(self):
-        need(len(self.loaded) + len(self.saved) < ACTIVE_SESSIONS, SESSION_HANDLES)
-        need(len(self.loaded) < LOADED_SESSIONS, SESSION_MEMORY)
+        need(len(self.loaded) + len(self.saved) < min(self.numbers.active, SESSION_NUMBERS), SESSION_HANDLES)
+        need(len(self.loaded) < self.numbers.loaded, SESSION_MEMORY)
 
     def _keep_session(self, session):
-        number = min(set(range(ACTIVE_SESSIONS)) - set(self.loaded) - set(self.saved))
+        number = min(set(range(SESSION_NUMBERS)) - set(self.loaded) - set(self.saved))
         self.loaded[number] = session
         return uint32(session.octet() << 24 | number)
 
@@ -951,7 +968,7 @@ class Device(Machine):
         sequence = self.session_context_id
         need(sequence < LAST_PLACE, FAILURE)
         oldest = min((number for _, number in self.saved.values()), default=sequence)
-        need(sequence - oldest < GAP, CONTEXT_GAP)
+        need(sequence - oldest < self.numbers.gap, CONTEXT_GAP)
         self.session_context_id += 1
         session = self.loaded.pop(handle & 0xFFFFFF)
         self.saved[handle & 0xFFFFFF] = (handle >> 24, sequence)
@@ -966,7 +983,7 @@ class Device(Machine):
         session = unmarshal_session(plain)
         number = handle & 0xFFFFFF
         need(self.saved.get(number) == (handle >> 24, sequence), of_parameter(HANDLE, 1))
-        need(len(self.loaded) < LOADED_SESSIONS, SESSION_MEMORY)
+        need(len(self.loaded) < self.numbers.loaded, SESSION_MEMORY)
         del self.saved[number]
         self.loaded[number] = session
         return uint32(handle), b""
@@ -980,9 +997,9 @@ class Device(Machine):
 
     def _properties(self):
         loaded, active = len(self.loaded), len(self.loaded) + len(self.saved)
-        return {0x10E: SLOTS, 0x110: LOADED_SESSIONS, 0x111: ACTIVE_SESSIONS, 0x114: GAP,
-                0x203: loaded, 0x204: LOADED_SESSIONS - loaded, 0x205: active,
-                0x206: ACTIVE_SESSIONS - active, 0x207: self.slots.count(None)}
+        return {**dict(zip(NUMBER_PROPERTIES, self.numbers)),
+                0x203: loaded, 0x204: self.numbers.loaded - loaded, 0x205: active,
+                0x206: self.numbers.active - active, 0x207: self.slots.count(None)}
 
 
 class BadPick(Exception):
@@ -993,15 +1010,15 @@ Held = namedtuple("Held", "client session handed")
 
 
 class World(Machine):
-    """The machine as its clients see it. It has no slots and no places.
+    """The machine as its clients see it. It has no slots and no places. `most` says how many sessions may be active.
 
     A session is `Held` under its number; `handed` is the context that was handed out, or
     None while the session is in use.
     """
 
-    def __init__(self, seed):
+    def __init__(self, seed, most=PROFILE.active):
         super().__init__(seed)
-        self.started = True
+        self.started, self.most = True, most
         self.tables, self.sessions = {}, {}
         # the least sequences that may be handed out
         self.least_of_objects = self.least_of_sessions = 0
@@ -1065,10 +1082,10 @@ class World(Machine):
         return uint32(FIRST_TRANSIENT + number)
 
     def _has_session_room(self):
-        need(len(self.sessions) < ACTIVE_SESSIONS, SESSION_HANDLES)
+        need(len(self.sessions) < self.most, SESSION_HANDLES)
 
     def _keep_session(self, session):
-        number = self._choose("session", 0, ACTIVE_SESSIONS, self.sessions)
+        number = self._choose("session", 0, SESSION_NUMBERS, self.sessions)
         self.sessions[number] = Held(self.client, session, None)
         return uint32(session.octet() << 24 | number)
 
@@ -1117,8 +1134,8 @@ class World(Machine):
 
     def _properties(self):
         own = [held for held in self.sessions.values() if held.client == self.client]
-        free = ACTIVE_SESSIONS - len(self.sessions)
-        return {0x10E: CLIENT_OBJECTS, 0x110: ACTIVE_SESSIONS, 0x111: ACTIVE_SESSIONS, 0x114: 0xFFFFFFFF,
+        free = self.most - len(self.sessions)
+        return {**dict(zip(NUMBER_PROPERTIES, (CLIENT_OBJECTS, self.most, self.most, 0xFFFFFFFF))),
                 0x203: sum(held.handed is None for held in own), 0x204: free, 0x205: len(own), 0x206: free,
                 0x207: CLIENT_OBJECTS - len(self.tables[self.client])}
 

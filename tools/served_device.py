@@ -4,7 +4,7 @@
         ..                                              # a program runs over `unix:PATH`
     device.commands                                     # what it sent
 
-What it answers is a function of the command: `listed`, `of_profile` and `ending_after` make some. It gives the bytes of
+What it answers is a function of the command: `listed`, `of_model` and `ending_after` make some. It gives the bytes of
 the response, SILENCE where none is sent, END where the connection ends instead, or `Last` of them where it ends then.
 """
 
@@ -21,12 +21,14 @@ END, SILENCE = None, b""
 
 SUCCESS = bytes.fromhex("80010000000a00000000")
 
-# What a broker sends at its start: Startup, and GetCapability of the handles of objects, of loaded sessions and of
-# saved ones. And the answers of a device that has none of them.
+# What a broker sends at its start: Startup, GetCapability of each of the device's numbers, and of the handles of
+# objects, of loaded sessions and of saved ones.
 STARTUP = tpm.command("Startup", parameters=bytes(2))
+NUMBER_COMMANDS = [tpm.get_capability(6, property_asked, 1) for property_asked in model.NUMBER_PROPERTIES]
 LISTS = [tpm.get_capability(1, first, 254) for first in (0x80000000, 0x02000000, 0x03000000)]
+BEGUN = [STARTUP, *NUMBER_COMMANDS, *LISTS]
+
 EMPTY_LIST = bytes.fromhex("80010000001300000000000000000100000000")
-START = [SUCCESS, *3 * [EMPTY_LIST]]
 LIST_HEADER_BYTES = len(EMPTY_LIST)
 
 # What clients are told where a transmission failed, and where an answer is wrong.
@@ -65,9 +67,9 @@ def listed(answers, rest=END):
     return lambda command: next(left, rest)
 
 
-def of_profile(seed):
-    """Answers as a new device of the profile with this seed."""
-    return model.Device(seed).transmit
+def of_model(seed, numbers=model.PROFILE):
+    """Answers as a new device with this seed and these numbers."""
+    return model.Device(seed, numbers).transmit
 
 
 def ending_after(count, answer):
@@ -78,17 +80,43 @@ def ending_after(count, answer):
 
 # ---- what a broker sends at its start
 
+def property_answer(property_told, value):
+    """The answer that tells this property and nothing else."""
+    return bytes.fromhex("80010000001b00000000000000000600000001") + model.uint32(property_told) + model.uint32(value)
+
+
+def number_answers(numbers):
+    """The answers of a device that has these numbers."""
+    return list(map(property_answer, model.NUMBER_PROPERTIES, numbers))
+
+
+# The answers of a device of the profile that holds nothing.
+START = [SUCCESS, *number_answers(model.PROFILE), *3 * [EMPTY_LIST]]
+
+
+def number_in(command, answer):
+    """The number that an answer tells, where it is the right answer to a command that asks for one; else None."""
+    value = int.from_bytes(answer[-4:], "big")
+    right = property_answer(int.from_bytes(command[14:18], "big"), value)
+    # between them stands moreData, which may be anything
+    is_right = command in NUMBER_COMMANDS and (answer[:10], answer[11:]) == (right[:10], right[11:])
+    return value if is_right else None
+
+
 def handles_of(answer):
     """The handles of a list that a device answered."""
     return [int.from_bytes(answer[place:place + 4], "big") for place in range(LIST_HEADER_BYTES, len(answer), 4)]
 
 
+def numbers_in(commands, answers):
+    """The numbers that a device tells by these answers."""
+    return [value for value in map(number_in, commands, answers) if value is not None]
+
+
 def start_commands(answers):
-    """What a broker sends to a device that answers its start so: as many commands as there are answers, at most."""
-    commands = [STARTUP, *LISTS]
-    if len(answers) > len(commands):
-        commands += [tpm.flush(handle) for answer in answers[1:4] for handle in handles_of(answer)]
-    return commands[:len(answers)]
+    """What a broker sends to a device that answers its start so, if it takes all answers."""
+    lists = answers[len(BEGUN) - len(LISTS):len(BEGUN)]
+    return [*BEGUN, *(tpm.flush(handle) for answer in lists for handle in handles_of(answer))]
 
 
 # ---- the device

@@ -4,10 +4,9 @@ use Rattle.std.specs.Prelude.{◌⊎◌, IsErrAnd, MatchResult, OnErr, OnOk}
 use Rattle.std.specs.List.{AllZip}
 use Rattle.std.proofs.lemmas.Bool.{eqb-true}
 use Rattle.connection_core.specs.Turns.{GoesOn}
-use Rattle.tab_spec.specs.Persist.{Persist}
 use Rattle.tab_spec.specs.Count.{Rose}
 use Rattle.history_spec.specs.Entry.{Entry, clients_of, close_entry, own}
-use Rattle.broker_lock.specs.Known.{Fixed, knows, IsLegalOver}
+use Rattle.broker_lock.specs.Known.{Fixed, IsLegalOver, Origin, knows}
 use Rattle.broker_lock.specs.Pass.{PassView}
 use Rattle.broker_lock.specs.Pass.{Ends as EndsLock}
 use Rattle.broker_lock.proofs.Knowing.{own_none}
@@ -103,7 +102,7 @@ module _ {L M : Type 0} (g : L → Ends) (k : M → Ends) (client_of : M → Opt
       (subst (λ (h : List Entry). AreServed (is_link_of pass.fixed pass.wrong h) client_of history coming coming_new most links) (sym front)
       (subst (λ (h : List Entry). AreServed (is_link_of pass.fixed pass.wrong pass.front) client_of h coming coming_new most links) (sym known) served)))
 
-  pub served_at_end : {X E : Type 0} {legal : Persist → List Entry → Type 0} (first last : PassView) (fixed fixed_new : Fixed) (wrong : Bool) (history : List Entry) (coming coming_new coming_given : Option (List L)) (faults faults_new most : ℕ) (accepted : Result X E)
+  pub served_at_end : {X E : Type 0} {legal : Origin → List Entry → Type 0} (first last : PassView) (fixed fixed_new : Fixed) (wrong : Bool) (history : List Entry) (coming coming_new coming_given : Option (List L)) (faults faults_new most : ℕ) (accepted : Result X E)
       (links links_given : List M) → first.fixed ≡ fixed → coming_new ≡ coming_given → links_given ≡ links
       → ServesAll legal (is_linked g k client_of done_of ending_of word_of) client_of first last coming coming_new faults faults_new most accepted links → EndsLock last history fixed_new wrong
       → AreServed (is_link_of fixed wrong history) client_of history coming coming_given most links_given
@@ -113,7 +112,7 @@ module _ {L M : Type 0} (g : L → Ends) (k : M → Ends) (client_of : M → Opt
       (served_by last fixed wrong history coming coming_new most links (all.goes_on.fixed ∙ same) ends.told ends.front ends.known all.served))
 
 -- the history is legal at the end where it was so at the start
-pub legal_at_end : (legal : Persist → List Entry → Type 0) (first last : PassView) (fixed : Fixed) (before history : List Entry) → first.fixed ≡ fixed → first.front ≡ [] → before ≡ []
+pub legal_at_end : (legal : Origin → List Entry → Type 0) (first last : PassView) (fixed : Fixed) (before history : List Entry) → first.fixed ≡ fixed → first.front ≡ [] → before ≡ []
     → IsLegalOver legal fixed.base before → GoesOn legal first last → history ≡ last.front → IsLegalOver legal fixed.base history
 legal_at_end legal first last fixed before history same none empty was on front =
     subst (λ (f : Fixed). IsLegalOver legal f.base history) same

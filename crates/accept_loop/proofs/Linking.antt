@@ -7,12 +7,11 @@ use Rattle.std.proofs.lemmas.List.Sums.{sum_by-append, sum_by-cons}
 use mathlib.Core.List.{IsPrefix}
 use Rattle.tab_spec.specs.Count.{Rose}
 use Rattle.tab_spec.specs.Frame.{commands}
-use Rattle.tab_spec.specs.Persist.{Persist}
 use Rattle.link_port.specs.Port.{Accepted}
 use Rattle.history_spec.specs.declared.EntryKind.{EntryKind}
 use Rattle.history_spec.specs.declared.EntryKind.TheVariants.{Open, Command, Canceled, Fault, Close}
 use Rattle.history_spec.specs.Entry.{Clients, Entry, HasRoomForClient, clients_by, clients_from, clients_of, close_entry, kept_by, open_entry, opened_by, own}
-use Rattle.broker_lock.specs.Known.{Fixed, IsLegalOver, IsOwn, knows}
+use Rattle.broker_lock.specs.Known.{Fixed, IsLegalOver, IsOwn, Origin, knows}
 use Rattle.broker_lock.specs.Pass.{IsLonger, Joins, PassView}
 use Rattle.broker_lock.proofs.Knowing.{filter-weaker, knows-append, knows_its_own, knows_none, knows_same, none_of_known, own-append, own_rest}
 use Rattle.cancel_words.specs.View.{WordView}
@@ -40,7 +39,7 @@ pub prefix_other : (one other longer : List Entry) → IsLonger one other longer
 prefix_other one other longer (inl is) = subst (λ (l : List Entry). IsPrefix other l) (sym is.0) is.1
 prefix_other one other longer (inr is) = ([], append-nil other ∙ sym is.0)
 
-pub longer_legal : (legal : Persist → List Entry → Type 0) (base : Option Persist) (one other longer : List Entry) → IsLonger one other longer → IsLegalOver legal base one → IsLegalOver legal base other → IsLegalOver legal base longer
+pub longer_legal : (legal : Origin → List Entry → Type 0) (base : Option Origin) (one other longer : List Entry) → IsLonger one other longer → IsLegalOver legal base one → IsLegalOver legal base other → IsLegalOver legal base longer
 longer_legal legal base one other longer (inl is) first second = subst (IsLegalOver legal base) (sym is.0) first
 longer_legal legal base one other longer (inr is) first second = subst (IsLegalOver legal base) (sym is.0) second
 
@@ -172,7 +171,7 @@ knows_this client other pass entries known own_is false is =
     knows_none other pass.known (ap (λ (l : List Entry). own l other) (sym own_is)
     ∙ others_of client other pass.front (λ same. true≢false (sym (eq-eqb client other same) ∙ is)))
 
-pub knows_link : (legal : Persist → List Entry → Type 0) (other : ℕ) (client : Option ℕ) (pass : PassView) (given left : Ends) (done : ℕ) (ending : Ending) (word : Option WordView) → EndsWith legal client pass given left done ending word → knows pass.known other ≡ is_of other client
+pub knows_link : (legal : Origin → List Entry → Type 0) (other : ℕ) (client : Option ℕ) (pass : PassView) (given left : Ends) (done : ℕ) (ending : Ending) (word : Option WordView) → EndsWith legal client pass given left done ending word → knows pass.known other ≡ is_of other client
 knows_link legal other None pass given left done ending word is = ap (λ (l : List Entry). knows l other) is.0.nobody
 knows_link legal other (Some client) pass given left done ending word is = knows_this client other pass is.entries is.known is.own_is (client == other) refl
 
@@ -207,12 +206,12 @@ lacks_by endings.Memory pass is = is
 lacks_by (endings.JournalFull count limit) pass is = (is.0, omega (arith, is.1), is.2)
 lacks_by endings.Answer pass is = is
 
-pub ended_by : (legal : Persist → List Entry → Type 0) (client : Option ℕ) (pass : PassView) (given left : Ends) (done : ℕ) (ending : Ending) (word : Option WordView) → EndsWith legal client pass given left done ending word
+pub ended_by : (legal : Origin → List Entry → Type 0) (client : Option ℕ) (pass : PassView) (given left : Ends) (done : ℕ) (ending : Ending) (word : Option WordView) → EndsWith legal client pass given left done ending word
     → HasPerhapsClient client pass.fixed pass.wrong pass.front given left done ending word
 ended_by legal None pass given left done ending word is = record { done_is = is.0.done_is; same = is.1; no_word = is.2; cause = lacks_by ending pass is.0.refuses }
 ended_by legal (Some client) pass given left done ending word is = record { entries = is.entries; seat = is.seat; own_is = is.own_is ∙ is.known; opened = is.opened; word_is = is.word_is; ran = is.ran }
 
-pub own_link : (legal : Persist → List Entry → Type 0) (client : Option ℕ) (pass : PassView) (given left : Ends) (done : ℕ) (ending : Ending) (word : Option WordView) → EndsWith legal client pass given left done ending word → IsOwn pass.known pass.front
+pub own_link : (legal : Origin → List Entry → Type 0) (client : Option ℕ) (pass : PassView) (given left : Ends) (done : ℕ) (ending : Ending) (word : Option WordView) → EndsWith legal client pass given left done ending word → IsOwn pass.known pass.front
 own_link legal None pass given left done ending word is = λ other known. absurd (true≢false (sym known ∙ knows_link legal other None pass given left done ending word is))
 own_link legal (Some client) pass given left done ending word is = λ other known.
     let same : client ≡ other = eqb-true client other (sym (knows_link legal other (Some client) pass given left done ending word is) ∙ known) in
@@ -256,7 +255,7 @@ pub or_right : (a b : Bool) → b ≡ true → (a || b) ≡ true
 or_right true b is = refl
 or_right false b is = is
 
-joined_goes_on : {legal : Persist → List Entry → Type 0} (old rest ended new : PassView) → 0 < old.parts → GoesOn legal (part_left old) rest → GoesOn legal (one_part old) ended → Joins rest ended new → GoesOn legal old new
+joined_goes_on : {legal : Origin → List Entry → Type 0} (old rest ended new : PassView) → 0 < old.parts → GoesOn legal (part_left old) rest → GoesOn legal (one_part old) ended → Joins rest ended new → GoesOn legal old new
 joined_goes_on {legal = legal} old rest ended new some one other joins = record {
   lock = joins.lock ∙ one.lock;
   fixed = joins.fixed ∙ one.fixed;
@@ -276,7 +275,7 @@ module _ {L M : Type 0} (g : L → Ends) (k : M → Ends) (client_of : M → Opt
       subst (λ (f : Fixed). AllZip (λ given link. IsLink f new.wrong new.front (g given) (k link) (client_of link) (done_of link) (ending_of link) (word_of link)) accepted links) (sym same)
       (subst (λ (h : List Entry). AllZip (λ given link. IsLink old.fixed new.wrong h (g given) (k link) (client_of link) (done_of link) (ending_of link) (word_of link)) accepted links) there.1 stays)
 
-  pub served_more : {X E : Type 0} {legal : Persist → List Entry → Type 0} (old rest ended new : PassView) (coming between coming_new : Option (List L)) (faults faults_new most : ℕ) (accepted : Result X E) (given : L) (link : M) (links : List M)
+  pub served_more : {X E : Type 0} {legal : Origin → List Entry → Type 0} (old rest ended new : PassView) (coming between coming_new : Option (List L)) (faults faults_new most : ℕ) (accepted : Result X E) (given : L) (link : M) (links : List M)
       → 0 < most → 0 < old.parts → Accepted coming between (Some given)
       → ServesAll legal (is_linked g k client_of done_of ending_of word_of) client_of (part_left old) rest between coming_new faults faults_new (most - 1) accepted links
       → Comes legal (one_part old) ended (g given) (k link) (client_of link) (done_of link) (ending_of link) (word_of link) → Joins rest ended new
@@ -312,7 +311,7 @@ module _ {L M : Type 0} (g : L → Ends) (k : M → Ends) (client_of : M → Opt
       }
 
   -- the same where the passes, the connection's counts and the acceptor's are those that calls tell
-  pub served_on : {X E : Type 0} {legal : Persist → List Entry → Type 0} (old left rest given_pass ended new : PassView) (coming between coming_new : Option (List L)) (faults faults_between faults_new most : ℕ) (accepted : Result X E)
+  pub served_on : {X E : Type 0} {legal : Origin → List Entry → Type 0} (old left rest given_pass ended new : PassView) (coming between coming_new : Option (List L)) (faults faults_between faults_new most : ℕ) (accepted : Result X E)
       (found : Option L) (given : L) (link : M) (links pushed : List M) → pushed ≡ link ∷ links
       → (most ≡ 0 → ⊥) → most < old.parts → left ≡ part_left old → given_pass ≡ one_part old → found ≡ Some given → Accepted coming between found → faults_between ≡ faults
       → ServesAll legal (is_linked g k client_of done_of ending_of word_of) client_of left rest between coming_new faults_between faults_new (most - 1) accepted links
@@ -336,7 +335,7 @@ same_length R [] (y ∷ ys) all = absurd all
 same_length R (x ∷ xs) [] all = absurd all
 same_length R (x ∷ xs) (y ∷ ys) all = ap suc (same_length R xs ys all.1)
 
-pub served_within : {L M X E : Type 0} {legal : Persist → List Entry → Type 0} (is_link : PassView → L → M → Type 0) (client_of : M → Option ℕ) (old new : PassView) (coming coming_new : Option (List L)) (faults faults_new most : ℕ) (accepted : Result X E) (links : List M)
+pub served_within : {L M X E : Type 0} {legal : Origin → List Entry → Type 0} (is_link : PassView → L → M → Type 0) (client_of : M → Option ℕ) (old new : PassView) (coming coming_new : Option (List L)) (faults faults_new most : ℕ) (accepted : Result X E) (links : List M)
     → ServesAll legal is_link client_of old new coming coming_new faults faults_new most accepted links → length links ≤ most
 served_within is_link client_of old new coming coming_new faults faults_new most accepted links all =
     omega (arith, all.served.within, same_length (is_link new) all.served.accepted links all.served.each)
@@ -357,7 +356,7 @@ pub first_same : {L : Type 0} (coming coming_new : Option (List L)) → coming_n
 first_same None coming_new same = same
 first_same (Some links) coming_new same = (links, refl, same)
 
-served_none : {L M X E : Type 0} {legal : Persist → List Entry → Type 0} (is_link : PassView → L → M → Type 0) (client_of : M → Option ℕ) (pass : PassView) (coming coming_new : Option (List L)) (faults faults_new most : ℕ) (accepted : Result X E) (links : List M)
+served_none : {L M X E : Type 0} {legal : Origin → List Entry → Type 0} (is_link : PassView → L → M → Type 0) (client_of : M → Option ℕ) (pass : PassView) (coming coming_new : Option (List L)) (faults faults_new most : ℕ) (accepted : Result X E) (links : List M)
     → links ≡ [] → pass.known ≡ [] → AreFirst coming coming_new [] → OnOk accepted (AreEnough {L = L} {M = M} most coming_new []) → OnOk accepted (faults_new ≡ faults) → OnErr accepted (Rose faults faults_new)
     → ServesAll legal is_link client_of pass pass coming coming_new faults faults_new most accepted links
 served_none {L} {M} {legal = legal} is_link client_of pass coming coming_new faults faults_new most accepted links none nobody first enough quiet fault =
@@ -377,20 +376,20 @@ served_none {L} {M} {legal = legal} is_link client_of pass coming coming_new fau
     })
 
 -- nobody was asked for
-pub served_nobody : {L M X E : Type 0} {legal : Persist → List Entry → Type 0} (is_link : PassView → L → M → Type 0) (client_of : M → Option ℕ) (pass : PassView) (coming : Option (List L)) (faults most : ℕ) (x : X) (links : List M)
+pub served_nobody : {L M X E : Type 0} {legal : Origin → List Entry → Type 0} (is_link : PassView → L → M → Type 0) (client_of : M → Option ℕ) (pass : PassView) (coming : Option (List L)) (faults most : ℕ) (x : X) (links : List M)
     → links ≡ [] → pass.known ≡ [] → most ≡ 0 → ServesAll {E = E} legal is_link client_of pass pass coming coming faults faults most (Ok x) links
 served_nobody {L} {M} is_link client_of pass coming faults most x links none nobody zero =
     served_none is_link client_of pass coming coming faults faults most (Ok x) links none nobody (first_same coming coming refl) (inl (sym zero)) refl tt
 
 -- no connection is left
-pub served_all : {L M X E : Type 0} {legal : Persist → List Entry → Type 0} (is_link : PassView → L → M → Type 0) (client_of : M → Option ℕ) (pass : PassView) (coming coming_new : Option (List L)) (found : Option L) (faults faults_new most : ℕ) (x : X) (links : List M)
+pub served_all : {L M X E : Type 0} {legal : Origin → List Entry → Type 0} (is_link : PassView → L → M → Type 0) (client_of : M → Option ℕ) (pass : PassView) (coming coming_new : Option (List L)) (found : Option L) (faults faults_new most : ℕ) (x : X) (links : List M)
     → links ≡ [] → pass.known ≡ [] → found ≡ None → Accepted coming coming_new found → faults_new ≡ faults → ServesAll {E = E} legal is_link client_of pass pass coming coming_new faults faults_new most (Ok x) links
 served_all {L} {M} is_link client_of pass coming coming_new found faults faults_new most x links none nobody nothing handed same =
     let is = subst (λ (o : Option L). Accepted coming coming_new o) nothing handed in
     served_none is_link client_of pass coming coming_new faults faults_new most (Ok x) links none nobody (first_none coming coming_new is) (inr (none_left coming coming_new is)) same tt
 
 -- the acceptor failed
-pub served_failed : {L M X E : Type 0} {legal : Persist → List Entry → Type 0} (is_link : PassView → L → M → Type 0) (client_of : M → Option ℕ) (pass : PassView) (coming coming_new : Option (List L)) (faults faults_new most : ℕ) (e : E) (links : List M)
+pub served_failed : {L M X E : Type 0} {legal : Origin → List Entry → Type 0} (is_link : PassView → L → M → Type 0) (client_of : M → Option ℕ) (pass : PassView) (coming coming_new : Option (List L)) (faults faults_new most : ℕ) (e : E) (links : List M)
     → links ≡ [] → pass.known ≡ [] → coming_new ≡ coming → Rose faults faults_new → ServesAll {X = X} legal is_link client_of pass pass coming coming_new faults faults_new most (Err e) links
 served_failed {L} {M} is_link client_of pass coming coming_new faults faults_new most e links none nobody same rose =
     served_none is_link client_of pass coming coming_new faults faults_new most (Err e) links none nobody (first_same coming coming_new same) tt tt rose

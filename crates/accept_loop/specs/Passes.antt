@@ -1,9 +1,8 @@
 -- What a connection's end tells, and what the ends of all tell, by their passes.
 use Rattle.std.specs.Prelude.{◌≡◌, ℕ, List, Option, Some, None, Result, OnOk, OnErr}
 use Rattle.tab_spec.specs.Count.{Rose}
-use Rattle.tab_spec.specs.Persist.{Persist}
 use Rattle.history_spec.specs.Entry.{Entry}
-use Rattle.broker_lock.specs.Known.{IsOwn}
+use Rattle.broker_lock.specs.Known.{IsOwn, Origin}
 use Rattle.broker_lock.specs.Pass.{PassView}
 use Rattle.cancel_words.specs.View.{WordView}
 use Rattle.connection_core.specs.declared.ends.Ending.{Ending}
@@ -12,18 +11,18 @@ use Rattle.connection_core.specs.Turns.{GoesOn}
 use Rattle.accept_loop.specs.Connections.{AreEnough, AreServed, Ends}
 
 -- with a client, or without one
-abbrev pub EndsWith : (legal : Persist → List Entry → Type 0) → Option ℕ → PassView → (given left : Ends) (done : ℕ) → Ending → Option WordView → Type 0
+abbrev pub EndsWith : (legal : Origin → List Entry → Type 0) → Option ℕ → PassView → (given left : Ends) (done : ℕ) → Ending → Option WordView → Type 0
 EndsWith legal (Some client) pass given left done ending word = IsClosed legal ending pass client done given.left left.left given.written left.written word
 EndsWith legal None pass given left done ending word = IsRefused ending pass done × (left ≡ given) × (word ≡ None)
 
 -- a connection that was served with this pass
-pub record Comes (legal : Persist → List Entry → Type 0) (old new : PassView) (given left : Ends) (client : Option ℕ) (done : ℕ) (ending : Ending) (word : Option WordView) : Type 0 where
+pub record Comes (legal : Origin → List Entry → Type 0) (old new : PassView) (given left : Ends) (client : Option ℕ) (done : ℕ) (ending : Ending) (word : Option WordView) : Type 0 where
   pub goes_on : GoesOn legal old new
   pub ended : EndsWith legal client new given left done ending word
   pub cause : HasCause ending given.source_faults left.source_faults given.sink_faults left.sink_faults
 
 -- what serving all connections that come makes of a pass, and what it answers
-pub record ServesAll {L M X E : Type 0} (legal : Persist → List Entry → Type 0) (is_link : PassView → L → M → Type 0) (client_of : M → Option ℕ) (old new : PassView) (coming coming_new : Option (List L)) (faults faults_new most : ℕ)
+pub record ServesAll {L M X E : Type 0} (legal : Origin → List Entry → Type 0) (is_link : PassView → L → M → Type 0) (client_of : M → Option ℕ) (old new : PassView) (coming coming_new : Option (List L)) (faults faults_new most : ℕ)
     (accepted : Result X E) (links : List M) : Type 0 where
   pub goes_on : GoesOn legal old new
   pub own : IsOwn new.known new.front

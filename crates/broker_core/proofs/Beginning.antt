@@ -6,7 +6,7 @@ use Rattle.std.specs.Prelude.{◌==◌, replicate, get_or, is_some, IfSome}
 use Rattle.std.specs.List.{count_by, list_any}
 use Rattle.std.proofs.lemmas.List.{length-replicate}
 use Rattle.tab_spec.specs.declared.numbers.Numbers.{Numbers}
-use Rattle.tab_spec.specs.Numbers.{profile_numbers}
+use Rattle.tab_spec.specs.Numbers.{AreInRange}
 use Rattle.tab_spec.specs.Object.{Object}
 use Rattle.tab_spec.specs.Persist.{Persist}
 use Rattle.device_spec.specs.Answers.{IsRight}
@@ -16,8 +16,9 @@ use Rattle.session_swap.specs.Items as sessions
 use Rattle.session_swap.specs.Items.{no_items, place_at}
 use Rattle.client_machine.specs.declared.held.Held.{Held}
 use Rattle.device_port.specs.Device.{Seen, asked_of, last_of}
-use Rattle.device_start.specs.Start.{ClearedIf, IsCleared}
+use Rattle.device_start.specs.Start.{Attempts, ClearedIf, HoldsNoMoreIf, IsCleared}
 use Rattle.broker_core.specs.Broker.{Holds, IsAtBase, StandsFor}
+use Rattle.client_machine.specs.Moves.{Keeps}
 use Rattle.client_machine.specs.Settled.{IsSettled, sessions_in}
 use Rattle.client_machine.specs.Tables.{AreOpenOwners}
 use Rattle.client_machine.proofs.Settling.{some_same}
@@ -110,21 +111,20 @@ settled_empty slots numbers next started sound are empty =
 
 -- ---- the start
 
-stands_begun : (base : Option Persist) (old new : Option SlotState) (next : ℕ) → is_some old ≡ is_some new → IsAtBase base old → ClearedIf old new
-    → StandsFor base new [] [] (held_nothing profile_numbers next)
-stands_begun base None new next same at_base clears b slots is_base is_state = absurd (let some : is_some new ≡ true = ap is_some is_state in cc)
-stands_begun base (Some s) new next same at_base clears b slots is_base is_state =
+stands_begun : (base : Option Persist) (old new : Option SlotState) (numbers : Numbers) (next : ℕ) → is_some old ≡ is_some new → IsAtBase base old → ClearedIf old new
+    → IfSome old (λ slots. slots.numbers ≡ numbers) → StandsFor base new [] [] (held_nothing numbers next)
+stands_begun base None new numbers next same at_base clears own b slots is_base is_state = absurd (let some : is_some new ≡ true = ap is_some is_state in cc)
+stands_begun base (Some s) new numbers next same at_base clears own b slots is_base is_state =
     let (after, after_is, begun) = clears s refl in
     let is : after ≡ slots = some_same (sym after_is ∙ is_state) in
     let cleared : IsCleared s slots = subst (IsCleared s) is begun in
-    let profile : slots.numbers ≡ profile_numbers = ap (λ (t : SlotState). t.numbers) cleared.kept ∙ at_base.profile in
+    let are : slots.numbers ≡ numbers = ap (λ (t : SlotState). t.numbers) cleared.kept ∙ own in
     record {
       legal = tt;
       stands = record {
         persist = ap (λ (t : SlotState). t.persist) cleared.kept ∙ at_base.kept b s is_base refl;
         most = refl;
-        profile = profile;
-        settled = settled_empty slots profile_numbers next cleared.started cleared.sound profile cleared.empty;
+        settled = settled_empty slots numbers next cleared.started cleared.sound are cleared.empty;
         clients = λ client. refl;
         sessions = sym (none_owned slots 64);
         handed = record { of_objects = omega arith; of_sessions = omega arith };
@@ -140,11 +140,11 @@ nothing_held held numbers next objects sessions = λ i. record { objects = sym o
 not_own : {client : ℕ} → ◌≡◌ {A = Option ℕ} None (Some client) → ⊥
 not_own own = absurd cc
 
-holds_nothing : (began : ℕ) (base : Option Persist) (old : Option SlotState) (new : Seen) (limit next : ℕ)
+holds_nothing : (began : ℕ) (base : Option Persist) (old : Option SlotState) (new : Seen) (limit : ℕ) (numbers : Numbers) (next : ℕ)
     → is_some old ≡ is_some new.state → IsAtBase base old → ClearedIf old new.state → new.base ≡ base → began ≤ new.faults → IsRight (asked_of new) (last_of new)
-    → limit ≤ SILENT_LIMIT → Holds began new [] limit [] [] (held_nothing profile_numbers next) 0 None
-holds_nothing began base old new limit next same at_base clears base_same risen right most = record {
-  stands = subst (λ (b : Option Persist). StandsFor b new.state [] [] (held_nothing profile_numbers next)) (sym base_same) (stands_begun base old new.state next same at_base clears);
+    → limit ≤ SILENT_LIMIT → AreInRange numbers → IfSome old (λ slots. slots.numbers ≡ numbers) → Holds began new [] limit [] [] (held_nothing numbers next) 0 None
+holds_nothing began base old new limit numbers next same at_base clears base_same risen right most range own = record {
+  stands = subst (λ (b : Option Persist). StandsFor b new.state [] [] (held_nothing numbers next)) (sym base_same) (stands_begun base old new.state numbers next same at_base clears own);
   journal = record {
     counts = tt;
     whole = tt;
@@ -168,19 +168,24 @@ holds_nothing began base old new limit next same at_base clears base_same risen 
   answers = record { answer = tt; right = λ none. right; taken = λ told. refl };
   faulted = inl (omega (arith, risen));
   slots_are = refl;
-  numbers_are = refl;
+  range = range;
   few = omega arith;
   placed = omega arith;
 }
 
 pub holds_begun : (began : ℕ) (base : Option Persist) (old : Option SlotState) (new : Seen) (limit : ℕ) (held : Held) (numbers : Numbers)
     → is_some old ≡ is_some new.state → IsAtBase base old → ClearedIf old new.state → new.base ≡ base → began ≤ new.faults → IsRight (asked_of new) (last_of new)
-    → limit ≤ SILENT_LIMIT → numbers ≡ profile_numbers → held.objects ≡ record { items = []; slots = numbers.slots; order = []; owners = []; left = [] }
+    → limit ≤ SILENT_LIMIT → AreInRange numbers → IfSome old (λ slots. slots.numbers ≡ numbers) → held.objects ≡ record { items = []; slots = numbers.slots; order = []; owners = []; left = [] }
     → held.sessions ≡ record { numbers = numbers; items = no_items; next = 0; order = []; saved = [] } → Holds began new [] limit [] [] held 0 None
-holds_begun began base old new limit held numbers same at_base clears base_same risen right most are objects sessions =
+holds_begun began base old new limit held numbers same at_base clears base_same risen right most range own objects sessions =
     subst (λ (h : Held). Holds began new [] limit [] [] h 0 None) (nothing_held held numbers 0 objects sessions)
-    (subst (λ (n : Numbers). Holds began new [] limit [] [] (held_nothing n 0) 0 None) (sym are)
-    (holds_nothing began base old new limit 0 same at_base clears base_same risen right most))
+    (holds_nothing began base old new limit numbers 0 same at_base clears base_same risen right most range own)
+
+-- what a start leaves, whatever came of it
+pub attempted : {D : Type 0} (seen : D → Seen) (old new : D) → is_some (seen old).state ≡ is_some (seen old).base → is_some (seen new).state ≡ is_some (seen new).base → Attempts seen old new
+    → Keeps seen old new × HoldsNoMoreIf (seen old).state (seen new).state
+attempted seen old new told told_new attempts =
+    (record { base_is = attempts.base; tells = told_new ∙ ap is_some attempts.base ∙ sym told; count = attempts.count }, attempts.few)
 
 pub limit_most : (limit : ℕ) → IsLimit limit → limit ≤ SILENT_LIMIT
 limit_most limit (inl is) = omega (arith, is.1)

@@ -3,7 +3,7 @@ use Rattle.std.proofs.Common.{◌≡◌, ◌<◌, ◌≤◌, ◌+◌, ◌-◌, �
 use Rattle.std.specs.Prelude.{is_some, set}
 use Rattle.std.specs.List.{list_any}
 use Rattle.std.proofs.lemmas.List.{length-set}
-use Rattle.tab_spec.specs.declared.TheConstants.{ACTIVE_SESSIONS}
+use Rattle.tab_spec.specs.Numbers.{AreInRange}
 use Rattle.device_spec.specs.Answers.{IsWrongAnswer}
 use Rattle.device_spec.specs.Slots.{SlotState}
 use Rattle.device_port.specs.Device.{Seen, asked_of, last_of}
@@ -46,9 +46,9 @@ stands_closed seen {device = device} {new = new} history tables {held} {new_held
     let slots = before.0 in
     let so_far = stands b slots (sym drops.keeps.base_is ∙ is_base) before.1 in
     let e : Entry = close_entry client in
-    after-push b slots history e tables held (closed_world (world_of b ACTIVE_SESSIONS history) client) so_far (record { form = refl; is_open = opened })
-    after (set tables client []) new_held (world_of-push b ACTIVE_SESSIONS history e)
-    (stands-close (world_of b ACTIVE_SESSIONS history) slots after tables held new_held client (length history) so_far.stands (subst (λ (n : ℕ). n ≤ 1) (sym (once b ACTIVE_SESSIONS history client)) one) inside (clients_of history).present tables_stand
+    after-push b slots history e tables held (closed_world (world_of b slots.numbers.active history) client) so_far (record { form = refl; is_open = opened })
+    after (set tables client []) new_held (world_of-push b slots.numbers.active history e) drops.numbers
+    (stands-close (world_of b slots.numbers.active history) slots after tables held new_held client (length history) so_far.stands (subst (λ (n : ℕ). n ≤ 1) (sym (once b slots.numbers.active history client)) one) inside (clients_of history).present tables_stand
     (settled_at (seen new).state after new_held drops.settled is_after) drops.numbers (counters_in (seen device).state (seen new).state slots after (counts_on (seen device).state (seen new).state drops.counts) before.1 is_after)
     (others_in client (seen device).state (seen new).state slots after held.objects.items new_held.objects.items drops.other_objects before.1 is_after) (drops.persist slots after before.1 is_after)
     (drops.other_sessions slots after before.1 is_after) none)
@@ -104,7 +104,7 @@ holds_closed seen {device = device} {new = new} {began = began} {history = histo
       };
       faulted = counted-push began history (close_entry client) 0 h.faulted drops.keeps.count refl;
       slots_are = slots_still drops.slots drops.numbers h.slots_are;
-      numbers_are = drops.numbers ∙ h.numbers_are;
+      range = subst AreInRange (sym drops.numbers) h.range;
       few = omega (arith, h.few, drops.length_is, longer history (close_entry client));
       placed = omega (arith, h.placed, drops.length_is);
     }
@@ -135,7 +135,7 @@ holds_closed_wrong {began = began} {new_seen = new_seen} {history = history} cli
   answers = record { answer = answer.0; right = λ none. absurd cc; taken = λ told. absurd (not_told new_seen.state answer.1 told) };
   faulted = counted-push began history (close_entry client) 0 h.faulted count refl;
   slots_are = slots_still same_slots same_numbers h.slots_are;
-  numbers_are = same_numbers ∙ h.numbers_are;
+  range = subst AreInRange (sym same_numbers) h.range;
   few = omega (arith, h.few, same_length, longer history (close_entry client));
   placed = omega (arith, h.placed, same_length);
 }
@@ -155,7 +155,7 @@ holds_closed_after {began = began} {seen = seen} {history = history} {wrong_code
   answers = h.answers;
   faulted = counted-push began history (close_entry client) 0 h.faulted (omega arith) refl;
   slots_are = h.slots_are;
-  numbers_are = h.numbers_are;
+  range = h.range;
   few = omega (arith, h.few, longer history (close_entry client));
   placed = h.placed;
 }

@@ -4,12 +4,12 @@ use Rattle.std.specs.Prelude.{◌⊎◌, is_some, IsSome, IfSome, set}
 use Rattle.std.specs.List.{AllByRecursion, list_any}
 use Rattle.std.proofs.lemmas.Bool.{and_parts, leb-true}
 use Rattle.std.proofs.lemmas.List.{length-set}
-use Rattle.tab_spec.specs.declared.TheConstants.{ACTIVE_SESSIONS, CONTEXT_LIMIT, RC_CANCELED, RC_DEVICE_FAULT}
+use Rattle.tab_spec.specs.declared.TheConstants.{CONTEXT_LIMIT, RC_CANCELED, RC_DEVICE_FAULT}
 use Rattle.tab_spec.specs.declared.numbers.Numbers.{Numbers}
 use Rattle.tab_spec.specs.Admission.{client_admitted}
 use Rattle.tab_spec.specs.Count.{Rose}
 use Rattle.tab_spec.specs.Frame.{is_frame, is_size}
-use Rattle.tab_spec.specs.Numbers.{AreInRange, profile_numbers}
+use Rattle.tab_spec.specs.Numbers.{AreInRange}
 use Rattle.tab_spec.specs.Persist.{Persist}
 use Rattle.tab_spec.specs.Reply.{error_reply}
 use Rattle.device_spec.specs.Answers.{IsRight, IsWrongAnswer}
@@ -23,7 +23,7 @@ use Rattle.session_swap.specs.Items as sessions
 use Rattle.history_spec.specs.declared.Pick.{Pick}
 use Rattle.history_spec.specs.declared.Pick.TheVariants.{Nothing}
 use Rattle.history_spec.specs.Entry.{Entry, HasRoom, HasRoomForClient, canceled_entry, clients_of, command_entry, fault_entry, is_fault, open_entry, present_by, IsNextNumber, IsOpen}
-use Rattle.world_spec.specs.Legal.{MayFollow}
+use Rattle.world_spec.specs.Legal.{Legal, MayFollow}
 use Rattle.world_spec.specs.World.{World, after_step, client_step, opened_world, state_in, world_of, world_with_state}
 use Rattle.world_laws.proofs.Clients.{is_open}
 use Rattle.world_laws.proofs.Histories.{clients_of-push, legal-push, next_count, world_of-push}
@@ -41,7 +41,7 @@ use Rattle.client_machine.proofs.Keeping.{right_none}
 use Rattle.broker_core.proofs.Placing.{present_same, tables_same}
 use Rattle.client_machine.proofs.Settling.{settled_at}
 use Rattle.broker_core.proofs.Tabling.{AreNowhere, none_rests, open_inside, open_none, owners-open, tables-more, tables-open, tables-step}
-use Rattle.broker_core.proofs.WorldStands.{RoseBoth, Stepped, held_slots, stands-longer, stands-more, stands-open, stands-stay, stands-step, steps-refused, with_items}
+use Rattle.broker_core.proofs.WorldStands.{RoseBoth, Stepped, held_slots, numbers_stay, stands-longer, stands-more, stands-open, stands-stay, stands-step, steps-refused, with_items}
 
 -- ---- what a device tells
 
@@ -94,7 +94,7 @@ stands_with : (base : Option Persist) (state : Option SlotState) (history : Entr
     → StandsFor base state history tables held → StandsFor base state history tables (with_items held more)
 stands_with base state history tables held more are stands = λ b slots is_base is_state.
     let so_far = stands b slots is_base is_state in
-    record { legal = so_far.legal; stands = more_stands (world_of b ACTIVE_SESSIONS history) slots tables held more (length history) are so_far.stands }
+    record { legal = so_far.legal; stands = more_stands (world_of b slots.numbers.active history) slots tables held more (length history) are so_far.stands }
 
 -- so a call may begin
 stands_settled : (base : Option Persist) (state : Option SlotState) (history : Entries) (tables : List (List (Option ℕ))) (held : Held) → is_some state ≡ is_some base
@@ -115,49 +115,41 @@ stands_sessions base None history tables held same stands few = omega arith
 stands_sessions (Some b) (Some slots) history tables held same stands few = omega (arith, (stands b slots refl refl).stands.counter, few)
 stands_sessions None (Some slots) history tables held same stands few = absurd cc
 
--- how much a device of this profile has room for, a broker can serve
-profile_range : AreInRange profile_numbers
-profile_range = record {
-  slots_least = omega arith;
-  slots_most = omega arith;
-  loaded_least = omega arith;
-  loaded_most = omega arith;
-  active_most = omega arith;
-  gap_least = omega arith;
-}
-
 -- how much the device has room for doesn't change
 pub slots_still : {slots new_slots : ℕ} {numbers new_numbers : Numbers} → new_slots ≡ slots → new_numbers ≡ numbers → slots ≡ numbers.slots → new_slots ≡ new_numbers.slots
 slots_still same_slots same_numbers are = same_slots ∙ are ∙ ap (λ (n : Numbers). n.slots) (sym same_numbers)
 
 may_move : {D : Type 0} (seen : D → Seen) (device : D) (history : Entries) (tables : List (List (Option ℕ))) (held : Held) (more : List Item)
     → is_some (seen device).state ≡ is_some (seen device).base → StandsFor (seen device).base (seen device).state history tables held → AreMore held.objects.items more
-    → length history ≤ 2 ^ 52 → held.objects.slots ≡ held.sessions.numbers.slots → held.sessions.numbers ≡ profile_numbers → MayMove 2000 seen device (with_items held more)
-may_move seen device history tables held more same stands are few slots_are numbers_are = record {
+    → length history ≤ 2 ^ 52 → held.objects.slots ≡ held.sessions.numbers.slots → AreInRange held.sessions.numbers → MayMove 2000 seen device (with_items held more)
+may_move seen device history tables held more same stands are few slots_are range = record {
   slots = slots_are;
-  range = subst AreInRange (sym numbers_are) profile_range;
+  range = range;
   settled = stands_settled (seen device).base (seen device).state history tables (with_items held more) same (stands_with (seen device).base (seen device).state history tables held more are stands);
   object_counter = stands_objects (seen device).base (seen device).state history tables held same stands few;
   counter = stands_sessions (seen device).base (seen device).state history tables held same stands few;
 }
 
 -- one more entry that may follow, after which the device stands for the world
-pub after-push : (base : Persist) (slots : SlotState) (history : Entries) (e : Entry) (tables : List (List (Option ℕ))) (held : Held) (world : World) → StandsAfter base slots history tables held → MayFollow base ACTIVE_SESSIONS history e
-    → (after : SlotState) (new_tables : List (List (Option ℕ))) (new_held : Held) → world_of base ACTIVE_SESSIONS (history ++ e ∷ []) ≡ world → Stands world after new_tables new_held (length history + 1)
-    → StandsAfter base after (history ++ e ∷ []) new_tables new_held
-after-push base slots history e tables held world so_far follows after new_tables new_held is_world stands = record {
-  legal = legal-push base ACTIVE_SESSIONS history e so_far.legal follows;
-  stands = subst (λ (n : ℕ). Stands (world_of base ACTIVE_SESSIONS (history ++ e ∷ [])) after new_tables new_held n) (sym (length-append history (e ∷ [])))
-      (subst (λ (w : World). Stands w after new_tables new_held (length history + 1)) (sym is_world) stands);
-}
+pub after-push : (base : Persist) (slots : SlotState) (history : Entries) (e : Entry) (tables : List (List (Option ℕ))) (held : Held) (world : World) → StandsAfter base slots history tables held → MayFollow base slots.numbers.active history e
+    → (after : SlotState) (new_tables : List (List (Option ℕ))) (new_held : Held) → world_of base slots.numbers.active (history ++ e ∷ []) ≡ world → new_held.sessions.numbers ≡ held.sessions.numbers
+    → Stands world after new_tables new_held (length history + 1) → StandsAfter base after (history ++ e ∷ []) new_tables new_held
+after-push base slots history e tables held world so_far follows after new_tables new_held is_world numbers stands =
+    let same : slots.numbers ≡ after.numbers = sym (numbers_stay slots after held new_held so_far.stands.settled stands.settled numbers) in
+    record {
+      legal = subst (λ (n : Numbers). Legal base n.active (history ++ e ∷ [])) same (legal-push base slots.numbers.active history e so_far.legal follows);
+      stands = subst (λ (n : Numbers). Stands (world_of base n.active (history ++ e ∷ [])) after new_tables new_held (length (history ++ e ∷ []))) same
+          (subst (λ (n : ℕ). Stands (world_of base slots.numbers.active (history ++ e ∷ [])) after new_tables new_held n) (sym (length-append history (e ∷ [])))
+          (subst (λ (w : World). Stands w after new_tables new_held (length history + 1)) (sym is_world) stands));
+    }
 
 stepped_by : (base : Persist) (history : Entries) (client number : ℕ) (pick : Pick) (bytes reply : List ℕ) (world : World) (slots new : SlotState) (tables new_tables : List (List (Option ℕ))) (held new_held : Held)
-    → StandsAfter base slots history tables held → IsOpen history client → IsNextNumber history client number → Stepped (world_of base ACTIVE_SESSIONS history) client bytes reply pick world new new_tables new_held (length history + 1)
-    → StandsAfter base new (history ++ command_entry client number pick bytes reply ∷ []) new_tables new_held
-stepped_by base history client number pick bytes reply world slots new tables new_tables held new_held so_far opened next s =
+    → StandsAfter base slots history tables held → IsOpen history client → IsNextNumber history client number → Stepped (world_of base slots.numbers.active history) client bytes reply pick world new new_tables new_held (length history + 1)
+    → new_held.sessions.numbers ≡ held.sessions.numbers → StandsAfter base new (history ++ command_entry client number pick bytes reply ∷ []) new_tables new_held
+stepped_by base history client number pick bytes reply world slots new tables new_tables held new_held so_far opened next s numbers =
     let e : Entry = command_entry client number pick bytes reply in
     after-push base slots history e tables held world so_far (record { form = refl; is_open = opened; number = next; after = world; stepped = s.stepped })
-    new new_tables new_held (world_of-push base ACTIVE_SESSIONS history e ∙ ap (after_step (world_of base ACTIVE_SESSIONS history)) s.stepped) s.stands
+    new new_tables new_held (world_of-push base slots.numbers.active history e ∙ ap (after_step (world_of base slots.numbers.active history)) s.stepped) numbers s.stands
 
 stands_carried : {D : Type 0} {seen : D → Seen} {device new : D} (history : Entries) (tables : List (List (Option ℕ))) {held new_held : Held}
     (client number : ℕ) (pick : Pick) {new_table : List (Option ℕ)} (bytes reply : List ℕ) → StandsFor (seen device).base (seen device).state history tables held → TablesStand (clients_of history).present tables held.objects.items
@@ -168,11 +160,11 @@ stands_carried {seen = seen} {device = device} {new = new} history tables {held}
     let before = told_before (seen device).state (seen new).state after moves.keeps.tells is_after in
     let slots = before.0 in
     let so_far = stands b slots (sym moves.keeps.base_is ∙ is_base) before.1 in
-    let ran = steps slots after (sequences_of (world_of b ACTIVE_SESSIONS history)) before.1 is_after so_far.stands.handed in
-    stepped_by b history client number pick bytes reply (world_with_state (world_of b ACTIVE_SESSIONS history) client (client_state after new_held new_table ran.0)) slots after tables (set tables client new_table) held new_held so_far opened next
-    (stands-step (world_of b ACTIVE_SESSIONS history) slots after tables held new_held client new_table ran.0 bytes reply pick (length history) so_far.stands (is_open b ACTIVE_SESSIONS history client ∙ opened) inside (clients_of history).present tables_stand
+    let ran = steps slots after (sequences_of (world_of b slots.numbers.active history)) before.1 is_after so_far.stands.handed in
+    stepped_by b history client number pick bytes reply (world_with_state (world_of b slots.numbers.active history) client (client_state after new_held new_table ran.0)) slots after tables (set tables client new_table) held new_held so_far opened next
+    (stands-step (world_of b slots.numbers.active history) slots after tables held new_held client new_table ran.0 bytes reply pick (length history) so_far.stands (is_open b slots.numbers.active history client ∙ opened) inside (clients_of history).present tables_stand
     (settled_at (seen new).state after new_held moves.settled is_after) moves.numbers (counters_in (seen device).state (seen new).state slots after moves.counts before.1 is_after)
-    (others_in client (seen device).state (seen new).state slots after held.objects.items new_held.objects.items moves.other_objects before.1 is_after) ran.1 ran.2)
+    (others_in client (seen device).state (seen new).state slots after held.objects.items new_held.objects.items moves.other_objects before.1 is_after) ran.1 ran.2) moves.numbers
 
 stands_refused : (base : Option Persist) (state : Option SlotState) (history : Entries) (tables : List (List (Option ℕ))) (held : Held) (client number : ℕ) (bytes : List ℕ) (code : ℕ)
     → StandsFor base state history tables held → TablesStand (clients_of history).present tables held.objects.items → IsOpen history client → IsNextNumber history client number
@@ -180,8 +172,8 @@ stands_refused : (base : Option Persist) (state : Option SlotState) (history : E
     → StandsFor base state (history ++ command_entry client number Nothing bytes (error_reply code) ∷ []) tables held
 stands_refused base state history tables held client number bytes code stands tables_stand opened next refused = λ b slots is_base is_state.
     let so_far = stands b slots is_base is_state in
-    stepped_by b history client number Nothing bytes (error_reply code) (world_with_state (world_of b ACTIVE_SESSIONS history) client (state_in (world_of b ACTIVE_SESSIONS history) client)) slots slots tables tables held held so_far opened next
-    (steps-refused (world_of b ACTIVE_SESSIONS history) slots tables held client bytes code (length history) so_far.stands (clients_of history).present tables_stand refused)
+    stepped_by b history client number Nothing bytes (error_reply code) (world_with_state (world_of b slots.numbers.active history) client (state_in (world_of b slots.numbers.active history) client)) slots slots tables tables held held so_far opened next
+    (steps-refused (world_of b slots.numbers.active history) slots tables held client bytes code (length history) so_far.stands (clients_of history).present tables_stand refused) refl
 
 stands_canceled : (base : Option Persist) (state : Option SlotState) (history : Entries) (tables : List (List (Option ℕ))) (held : Held) (client number upto : ℕ) (bytes : List ℕ)
     → StandsFor base state history tables held → IsOpen history client → IsNextNumber history client number → number ≤ upto
@@ -189,8 +181,8 @@ stands_canceled : (base : Option Persist) (state : Option SlotState) (history : 
 stands_canceled base state history tables held client number upto bytes stands opened next covers = λ b slots is_base is_state.
     let so_far = stands b slots is_base is_state in
     let e : Entry = canceled_entry client number upto bytes (error_reply RC_CANCELED) in
-    after-push b slots history e tables held (world_of b ACTIVE_SESSIONS history) so_far (record { upto = upto; form = refl; is_open = opened; number = next; covers = covers })
-    slots tables held (world_of-push b ACTIVE_SESSIONS history e) (stands-longer (world_of b ACTIVE_SESSIONS history) slots tables held (length history) so_far.stands)
+    after-push b slots history e tables held (world_of b slots.numbers.active history) so_far (record { upto = upto; form = refl; is_open = opened; number = next; covers = covers })
+    slots tables held (world_of-push b slots.numbers.active history e) refl (stands-longer (world_of b slots.numbers.active history) slots tables held (length history) so_far.stands)
 
 stands_faulted : {D : Type 0} {seen : D → Seen} {device new : D} (history : Entries) (tables : List (List (Option ℕ))) {held new_held : Held}
     (client number : ℕ) {new_table : List (Option ℕ)} (bytes : List ℕ) → StandsFor (seen device).base (seen device).state history tables held → TablesStand (clients_of history).present tables held.objects.items
@@ -202,13 +194,13 @@ stands_faulted {seen = seen} {device = device} {new = new} history tables {held}
     let slots = before.0 in
     let so_far = stands b slots (sym moves.keeps.base_is ∙ is_base) before.1 in
     let e : Entry = fault_entry client number (seen new).faults bytes (error_reply RC_DEVICE_FAULT) in
-    after-push b slots history e tables held (world_of b ACTIVE_SESSIONS history) so_far
+    after-push b slots history e tables held (world_of b slots.numbers.active history) so_far
     (record { form = refl; is_open = opened; number = next; count = next_count history (seen device).faults (seen new).faults counts rose })
-    after tables new_held (world_of-push b ACTIVE_SESSIONS history e)
-    (stands-stay (world_of b ACTIVE_SESSIONS history) slots after tables held new_held client (length history) so_far.stands (clients_of history).present tables_stand
+    after tables new_held (world_of-push b slots.numbers.active history e) moves.numbers
+    (stands-stay (world_of b slots.numbers.active history) slots after tables held new_held client (length history) so_far.stands (clients_of history).present tables_stand
     (settled_at (seen new).state after new_held moves.settled is_after) moves.numbers (counters_in (seen device).state (seen new).state slots after moves.counts before.1 is_after)
     (others_in client (seen device).state (seen new).state slots after held.objects.items new_held.objects.items moves.other_objects before.1 is_after)
-    (stays slots after (sequences_of (world_of b ACTIVE_SESSIONS history)) before.1 is_after))
+    (stays slots after (sequences_of (world_of b slots.numbers.active history)) before.1 is_after))
 
 stands_opened : (base : Option Persist) (state : Option SlotState) (history : Entries) (tables : List (List (Option ℕ))) (held : Held) (owners : List (Option ℕ)) (number : ℕ)
     → number ≡ (clients_of history).opened → StandsFor base state history tables held
@@ -216,8 +208,8 @@ stands_opened : (base : Option Persist) (state : Option SlotState) (history : En
 stands_opened base state history tables held owners number is_next stands = λ b slots is_base is_state.
     let so_far = stands b slots is_base is_state in
     let e : Entry = open_entry number in
-    after-push b slots history e tables held (opened_world (world_of b ACTIVE_SESSIONS history) number) so_far (ap open_entry is_next) slots (tables ++ [] ∷ []) (with_owners held owners) (world_of-push b ACTIVE_SESSIONS history e)
-    (stands-open (world_of b ACTIVE_SESSIONS history) slots tables held owners (length history) number so_far.stands)
+    after-push b slots history e tables held (opened_world (world_of b slots.numbers.active history) number) so_far (ap open_entry is_next) slots (tables ++ [] ∷ []) (with_owners held owners) (world_of-push b slots.numbers.active history e) refl
+    (stands-open (world_of b slots.numbers.active history) slots tables held owners (length history) number so_far.stands)
 
 -- ---- the objects and the sessions
 
@@ -310,7 +302,7 @@ holds_opened {began = began} {seen = seen} {history = history} {limit = limit} {
       answers = h.answers;
       faulted = counted-push began history e 0 h.faulted (omega arith) refl;
       slots_are = h.slots_are;
-      numbers_are = h.numbers_are;
+      range = h.range;
       few = omega (arith, h.few, longer history e);
       placed = h.placed;
     }
@@ -385,7 +377,7 @@ holds_refused {began = began} {seen = seen} {history = history} {tables = tables
       answers = h.answers;
       faulted = counted-push began history e 0 h.faulted (omega arith) refl;
       slots_are = h.slots_are;
-      numbers_are = h.numbers_are;
+      range = h.range;
       few = omega (arith, h.few, longer history e);
       placed = h.placed;
     }
@@ -405,7 +397,7 @@ holds_canceled {began = began} {seen = seen} {history = history} {tables = table
       answers = h.answers;
       faulted = counted-push began history e 0 h.faulted (omega arith) refl;
       slots_are = h.slots_are;
-      numbers_are = h.numbers_are;
+      range = h.range;
       few = omega (arith, h.few, longer history e);
       placed = h.placed;
     }
@@ -438,7 +430,7 @@ holds_carried seen {device = device} {new = new} {began = began} {history = hist
       };
       faulted = counted-push began history e 0 h.faulted moves.keeps.count refl;
       slots_are = slots_still moves.slots moves.numbers h.slots_are;
-      numbers_are = moves.numbers ∙ h.numbers_are;
+      range = subst AreInRange (sym moves.numbers) h.range;
       few = omega (arith, holds.short, more_length held.objects.items more are, moves.length_is, longer history e);
       placed = omega (arith, most, moves.length_is);
     }
@@ -469,7 +461,7 @@ holds_faulted seen {device = device} {new = new} {began = began} {history = hist
       answers = record { answer = no_answer (asked_of (seen new)) (last_of (seen new)) wrong_code none; right = λ _. right_none (asked_of (seen new)) (last_of (seen new)) failed.1; taken = λ _. none };
       faulted = counted-fault began history e 0 h.faulted moves.keeps.count failed.0 refl;
       slots_are = slots_still moves.slots moves.numbers h.slots_are;
-      numbers_are = moves.numbers ∙ h.numbers_are;
+      range = subst AreInRange (sym moves.numbers) h.range;
       few = omega (arith, holds.short, more_length held.objects.items more are, moves.length_is, longer history e);
       placed = omega (arith, most, moves.length_is);
     }
@@ -492,7 +484,7 @@ holds_wrong {began = began} {new_seen = new_seen} {history = history} {limit = l
   };
   faulted = counted-later began history 0 h.faulted count;
   slots_are = slots_still same_slots same_numbers h.slots_are;
-  numbers_are = same_numbers ∙ h.numbers_are;
+  range = subst AreInRange (sym same_numbers) h.range;
   few = few;
   placed = placed;
 }
@@ -564,7 +556,7 @@ pub moves_now : {D : Type 0} (seen : D → Seen) (device : D) {began : ℕ} {his
     {present : ℕ} {wrong_code : Option ℕ} (more : List Item) → is_some (seen device).state ≡ is_some (seen device).base → Holds began (seen device) history limit tables lists held present wrong_code
     → AreMore held.objects.items more → with_items held more ≡ roomier → MayMove 2000 seen device roomier
 moves_now seen device {history = history} {tables = tables} {held = held} more same h are is_held =
-    subst (λ (r : Held). MayMove 2000 seen device r) is_held (may_move seen device history tables held more same h.stands are (few-entries h.journal) h.slots_are h.numbers_are)
+    subst (λ (r : Held). MayMove 2000 seen device r) is_held (may_move seen device history tables held more same h.stands are (few-entries h.journal) h.slots_are h.range)
 
 -- an item more, or none
 pub are_more : (items more : List Item) → (more ≡ items) ⊎ ((list_any is_vacant items ≡ false) × (more ≡ items ++ no_item ∷ [])) → AreMore items more

@@ -3,6 +3,7 @@ use Rattle.std.proofs.Common.{◌≡◌, ◌≤◌, ◌∙◌, ℕ, Bool, true, 
 use Rattle.std.specs.Prelude.{◌⊎◌, ◌↔◌, is_some, IsSome, IfOk, OnErr}
 use Rattle.tab_spec.specs.declared.TheConstants.{RC_DEVICE_FAULT}
 use Rattle.tab_spec.specs.Count.{Rose, largest_count}
+use Rattle.tab_spec.specs.declared.numbers.Numbers.{Numbers}
 use Rattle.tab_spec.specs.Persist.{Persist}
 use Rattle.tab_spec.specs.Reply.{error_reply}
 use Rattle.device_port.specs.Device.{Seen}
@@ -16,11 +17,13 @@ use Rattle.broker_lock.specs.declared.calls.OpenClientError.{OpenClientError}
 use Rattle.broker_lock.specs.declared.calls.OpenClientError.TheVariants as open_errors
 use Rattle.broker_lock.specs.declared.calls.Told.{Told}
 use Rattle.broker_lock.specs.declared.calls.Told.TheVariants as tolds
-use Rattle.broker_lock.specs.Known.{Fixed, IsLegalOver}
+use Rattle.broker_lock.specs.Known.{Fixed, IsLegalOver, Origin, origin_of}
 use Rattle.broker_lock.specs.Serves as lock
+use Rattle.world_spec.specs.Legal.{Legal}
 use Rattle.client_machine.specs.declared.held.Held.{Held}
+use Rattle.client_machine.proofs.Settling.{some_same}
 use Rattle.broker_core.specs.Tables.{with_owners}
-use Rattle.broker_core.specs.Broker.{BrokerView, FaultsCounted, IsCarriedOut, IsFaulted, IsRefused, ProfileLegal, StandsFor, Tells, TellsLeft}
+use Rattle.broker_core.specs.Broker.{BrokerView, FaultsCounted, IsCarriedOut, IsFaulted, IsRefused, LegalOver, StandsFor, Tells, TellsLeft}
 
 -- ---- what a device tells
 
@@ -29,12 +32,19 @@ told_state (Some slots) base b same is = (slots, refl)
 told_state None base b same is = absurd (let yes : is_some base ≡ true = ap is_some is in cc)
 
 pub legal_over : (base : Option Persist) (state : Option SlotState) (history : List Entry) (tables : List (List (Option ℕ))) (held : Held) → is_some state ≡ is_some base → StandsFor base state history tables held
-    → IsLegalOver ProfileLegal base history
-legal_over base state history tables held same stands = λ b is. let told = told_state state base b same is in (stands b told.0 is told.1).legal
+    → IsLegalOver LegalOver (origin_of base held.sessions.numbers) history
+legal_over None state history tables held same stands = λ origin is. absurd cc
+legal_over (Some b) state history tables held same stands = λ origin is.
+    let told = told_state state (Some b) b same refl in
+    let after = stands b told.0 refl told.1 in
+    subst (λ (o : Origin). LegalOver o history) (some_same is) (subst (λ (n : Numbers). Legal b n.active history) after.stands.settled.sessions.numbers after.legal)
 
 pub untold : (base : Option Persist) (state : Option SlotState) (wrong_code : Option ℕ) → is_some state ≡ is_some base → (IsSome state → wrong_code ≡ None) → IsSome wrong_code → base ≡ None
 untold None state wrong_code same taken some = refl
 untold (Some b) state wrong_code same taken some = absurd (not_some wrong_code (taken same) some)
+
+pub unknown : (base : Option Persist) (numbers : Numbers) → base ≡ None → origin_of base numbers ≡ None
+unknown base numbers is = ap (λ (b : Option Persist). origin_of b numbers) is
 
 -- ---- a failed transmission
 
@@ -53,10 +63,10 @@ answered client number pick bytes reply e is = subst (λ (x : Entry). lock.IsAns
 
 -- ---- the calls
 
-abbrev pub fixed_of : {D : Type 0} → Option Persist → BrokerView D → Fixed
+abbrev pub fixed_of : {D : Type 0} → Option Origin → BrokerView D → Fixed
 fixed_of base b = record { base = base; limit = b.limit; began = b.began }
 
-pub opens : {D : Type 0} (base : Option Persist) (old new : BrokerView D) (result : Result ℕ OpenClientError)
+pub opens : {D : Type 0} (base : Option Origin) (old new : BrokerView D) (result : Result ℕ OpenClientError)
     → IfOk result (λ client. (client ≡ (clients_of old.journal).opened) × HasRoomForClient old.limit old.journal
     × (new ≡ record old { journal = old.journal ++ open_entry client ∷ []; tables = old.tables ++ [] ∷ []; held = with_owners old.held new.held.objects.owners }))
     → OnErr result (new ≡ old)
@@ -79,7 +89,7 @@ caused seen old new client number bytes e low counted (inr (inl faulted)) =
     inr (failed old.began (seen new.device).faults client number bytes e faulted.entry (rose_since old.began (seen old.device).faults (seen new.device).faults old.journal low counted faulted.rose))
 caused seen old new client number bytes e low counted (inr (inr carried)) = inl (answered client number _ bytes _ e carried.entry)
 
-pub tells : {D : Type 0} (seen : D → Seen) (base : Option Persist) (told : Told) (old new : BrokerView D) (client number : ℕ) (bytes reply : List ℕ)
+pub tells : {D : Type 0} (seen : D → Seen) (base : Option Origin) (told : Told) (old new : BrokerView D) (client number : ℕ) (bytes reply : List ℕ)
     → old.began ≤ largest_count → FaultsCounted old.began (seen old.device).faults old.journal 0 → (told ≡ tolds.Answer → base ≡ None)
     → Tells seen told old new client number bytes reply → lock.Tells (fixed_of base old) old.journal new.journal client number bytes reply told
 tells {D} seen base tolds.Entered old new client number bytes reply low counted none is = record {

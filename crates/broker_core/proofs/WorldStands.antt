@@ -6,7 +6,6 @@ use Rattle.std.proofs.lemmas.Bool.{eq-eqb, eqb-false, eqb-true, ne_eqb, or_parts
 use Rattle.std.proofs.lemmas.List.Sums.{sum_by_push}
 use Rattle.tab_spec.specs.declared.numbers.Numbers.{Numbers}
 use Rattle.tab_spec.specs.Admission.{client_admitted}
-use Rattle.tab_spec.specs.Numbers.{profile_numbers}
 use Rattle.tab_spec.specs.Object.{Object}
 use Rattle.tab_spec.specs.Reply.{error_reply}
 use Rattle.tab_spec.specs.Session.{Session}
@@ -36,9 +35,14 @@ use Rattle.broker_core.proofs.Tabling.{is_other, item_pushed, nobodys_sessions, 
 
 -- ---- how much the device has room for
 
--- what is held is held for a device of this profile
-held_profile : (world : World) (slots : SlotState) (tables : List (List (Option ℕ))) (held : Held) (n : ℕ) → Stands world slots tables held n → held.sessions.numbers ≡ profile_numbers
-held_profile world slots tables held n stands = sym stands.settled.sessions.numbers ∙ stands.profile
+-- how much that is doesn't change
+pub numbers_stay : (slots new : SlotState) (held new_held : Held) → IsSettled slots held → IsSettled new new_held → new_held.sessions.numbers ≡ held.sessions.numbers → new.numbers ≡ slots.numbers
+numbers_stay slots new held new_held before settled same = settled.sessions.numbers ∙ same ∙ sym before.sessions.numbers
+
+active_stays : (world : World) (slots new : SlotState) (tables : List (List (Option ℕ))) (held new_held : Held) (n : ℕ) → Stands world slots tables held n → IsSettled new new_held → new_held.sessions.numbers ≡ held.sessions.numbers
+    → world.most ≡ new.numbers.active
+active_stays world slots new tables held new_held n stands settled same =
+    stands.most ∙ ap (λ (numbers : Numbers). numbers.active) (sym (numbers_stay slots new held new_held stands.settled settled same))
 
 -- ---- the numbers of contexts
 
@@ -97,7 +101,6 @@ pub stands-open : (world : World) (slots : SlotState) (tables : List (List (Opti
 stands-open world slots tables held owners n number stands = record {
   persist = stands.persist;
   most = stands.most;
-  profile = stands.profile;
   settled = settled_owners slots held owners stands.settled;
   clients = λ client.
       opened_table world.clients number client ∙ stands.clients client
@@ -113,7 +116,6 @@ pub stands-longer : (world : World) (slots : SlotState) (tables : List (List (Op
 stands-longer world slots tables held n stands = record {
   persist = stands.persist;
   most = stands.most;
-  profile = stands.profile;
   settled = stands.settled;
   clients = stands.clients;
   sessions = stands.sessions;
@@ -134,7 +136,7 @@ state_stands : (world : World) (slots : SlotState) (tables : List (List (Option 
 state_stands world slots tables held n client stands =
     λ i. record {
       persist = sym stands.persist i;
-      most = (stands.most ∙ ap (λ (numbers : Numbers). numbers.active) (sym (held_profile world slots tables held n stands))) i;
+      most = (stands.most ∙ ap (λ (numbers : Numbers). numbers.active) stands.settled.sessions.numbers) i;
       objects = stands.clients client i;
       sessions = stands.sessions i;
       object_sequence = world.object_sequence;
@@ -172,8 +174,7 @@ stands-step world slots new tables held new_held client new_table handed bytes r
       (ap (λ (state : ClientState). client_step client state bytes pick) (state_stands world slots tables held n client stands) ∙ ran);
   stands = record {
     persist = refl;
-    most = ap (λ (numbers : Numbers). numbers.active) (numbers ∙ held_profile world slots tables held n stands);
-    profile = settled.sessions.numbers ∙ numbers ∙ held_profile world slots tables held n stands;
+    most = ap (λ (numbers : Numbers). numbers.active) (sym settled.sessions.numbers);
     settled = settled;
     clients = λ other.
         clients_stepped (client == other) world slots new tables held.objects.items new_held.objects.items client other new_table refl (stands.clients other) some inside
@@ -203,8 +204,7 @@ pub stands-stay : (world : World) (slots new : SlotState) (tables : List (List (
     → Stands world new tables new_held (n + 1)
 stands-stay world slots new tables held new_held client n stands present tabled settled numbers rose keeps own = record {
   persist = ap (λ (s : ClientState). s.persist) own ∙ stands.persist;
-  most = stands.most;
-  profile = settled.sessions.numbers ∙ numbers ∙ held_profile world slots tables held n stands;
+  most = active_stays world slots new tables held new_held n stands settled numbers;
   settled = settled;
   clients = λ other.
       stands.clients other
@@ -259,8 +259,7 @@ pub stands-close : (world : World) (slots new : SlotState) (tables : List (List 
     → Stands (closed_world world client) new (set tables client []) new_held (n + 1)
 stands-close world slots new tables held new_held client n stands once inside present tabled settled numbers rose keeps persist others none = record {
   persist = persist ∙ stands.persist;
-  most = stands.most;
-  profile = settled.sessions.numbers ∙ numbers ∙ held_profile world slots tables held n stands;
+  most = active_stays world slots new tables held new_held n stands settled numbers;
   settled = settled;
   clients = λ other.
       clients_closed (client == other) world slots new tables held.objects.items new_held.objects.items client other refl (stands.clients other) once inside (tabled.each other) keeps;
@@ -308,7 +307,6 @@ pub stands-more : (world : World) (slots : SlotState) (tables : List (List (Opti
 stands-more world slots tables held n stands = record {
   persist = stands.persist;
   most = stands.most;
-  profile = stands.profile;
   settled = settled_pushed slots held stands.settled;
   clients = λ client. stands.clients client ∙ sym (objects_pushed slots held.objects.items (table_of tables client));
   sessions = stands.sessions;
@@ -438,7 +436,6 @@ steps-refused world slots tables held client bytes code n stands present tabled 
   stands = record {
     persist = stands.persist;
     most = stands.most;
-    profile = stands.profile;
     settled = stands.settled;
     clients = λ other. ap (λ (clients : List Client). table_in clients other) (same_clients world.clients client) ∙ stands.clients other;
     sessions = stands.sessions;

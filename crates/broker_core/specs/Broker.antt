@@ -1,18 +1,19 @@
 -- What is seen of a broker, and what holds of each one.
 use Rattle.std.specs.Prelude.{◌≡◌, ◌<◌, ◌≤◌, ◌⊎◌, ℕ, ◌+◌, ◌^◌, ◌==◌, true, List, [], ◌∷◌, ◌++◌, length, set, Option, Some, None, IsSome, IfSome, Result, Ok, Err}
 use Rattle.std.specs.List.{AllByRecursion, count_by}
-use Rattle.tab_spec.specs.declared.TheConstants.{ACTIVE_SESSIONS, MOST_BYTES, RC_CANCELED, RC_DEVICE_ANSWER, RC_DEVICE_FAULT, RC_JOURNAL_FULL}
+use Rattle.tab_spec.specs.declared.TheConstants.{MOST_BYTES, RC_CANCELED, RC_DEVICE_ANSWER, RC_DEVICE_FAULT, RC_JOURNAL_FULL}
 use Rattle.tab_spec.specs.declared.Admitted.{Admitted}
 use Rattle.tab_spec.specs.Count.{Rose, largest_count}
 use Rattle.tab_spec.specs.Admission.{Tables, client_admitted}
 use Rattle.tab_spec.specs.Frame.{is_frame}
-use Rattle.tab_spec.specs.Numbers.{profile_numbers}
+use Rattle.tab_spec.specs.declared.numbers.Numbers.{Numbers}
+use Rattle.tab_spec.specs.Numbers.{AreInRange}
 use Rattle.tab_spec.specs.Persist.{Persist}
 use Rattle.tab_spec.specs.Reply.{error_reply}
 use Rattle.device_spec.specs.Answers.{IsRight, IsWrongAnswer}
-use Rattle.device_spec.specs.Slots.{SlotState, IsSlots, held}
+use Rattle.device_spec.specs.Slots.{SlotState}
 use Rattle.device_port.specs.Device.{Seen, asked_of, last_of}
-use Rattle.device_start.specs.Start.{SendsStart}
+use Rattle.device_start.specs.Start.{ClearedIf, IsStartable, IsStarted, SendsStart, StopsAtNumber}
 use Rattle.session_swap.specs.Items.{gap_kept, renewal_gap}
 use Rattle.history_spec.specs.declared.EntryKind.{EntryKind}
 use Rattle.history_spec.specs.declared.EntryKind.TheVariants.{Open, Command, Fault, Close, Canceled}
@@ -34,6 +35,7 @@ use Rattle.client_machine.specs.Tables.{AreOpenOwners, owned_handles, tables_see
 use Rattle.broker_core.specs.Tables.{ListsStand, TablesStand, table_of}
 use Rattle.broker_core.specs.declared.broker.BeginError.{BeginError}
 use Rattle.broker_core.specs.declared.broker.BeginError.TheVariants as begin_errors
+use Rattle.broker_lock.specs.Known.{Origin, origin_of}
 use Rattle.broker_lock.specs.declared.calls.Closed.{Closed}
 use Rattle.broker_lock.specs.declared.calls.Closed.TheVariants as closes
 use Rattle.broker_lock.specs.declared.calls.Told.{Told}
@@ -52,27 +54,26 @@ pub record BrokerView (D : Type 0) : Type 0 where
   -- the device's fault count before Startup was sent
   pub began : ℕ
 
--- it is in a state that a device may be in whose numbers are in range
-abbrev pub IsSound : Option SlotState → Type 0
-IsSound state = IfSome state (λ slots. IsSlots slots)
-
 -- a device that a broker may begin on: it keeps what its history begins from, and has numbers for many contexts
 pub record IsAtBase (base : Option Persist) (state : Option SlotState) : Type 0 where
   pub kept : (b : Persist) (slots : SlotState) → base ≡ Some b → state ≡ Some slots → slots.persist ≡ b
-  pub sound : IsSound state
-  -- it is a device of this profile
-  pub profile : IfSome state (λ slots. slots.numbers ≡ profile_numbers)
+  pub startable : IfSome state IsStartable
   pub object_counter : IfSome state (λ slots. slots.object_counter ≤ 2 ^ 61)
   pub counter : IfSome state (λ slots. slots.counter ≤ 2 ^ 61)
 
--- a legal history over a device of this profile, with this base
-abbrev pub ProfileLegal : Persist → List Entry → Type 0
-ProfileLegal base history = Legal base ACTIVE_SESSIONS history
+-- what the history of a device begins from, where this tells it: what it keeps, and its numbers
+abbrev pub told_origin : Option Persist → Option SlotState → Option Origin
+told_origin base None = None
+told_origin base (Some slots) = origin_of base slots.numbers
+
+-- a legal history, by what it begins from
+abbrev pub LegalOver : Origin → List Entry → Type 0
+LegalOver origin history = Legal origin.persist origin.numbers.active history
 
 -- the journal is a legal history, and the device stands for the world after it, with these tables, objects and sessions
 pub record StandsAfter (base : Persist) (slots : SlotState) (history : List Entry) (tables : List (List (Option ℕ))) (held : Held) : Type 0 where
-  pub legal : ProfileLegal base history
-  pub stands : Stands (world_of base ACTIVE_SESSIONS history) slots tables held (length history)
+  pub legal : Legal base slots.numbers.active history
+  pub stands : Stands (world_of base slots.numbers.active history) slots tables held (length history)
 
 -- the same, where the device tells what it is in
 abbrev pub StandsFor : Option Persist → Option SlotState → List Entry → List (List (Option ℕ)) → Held → Type 0
@@ -138,9 +139,9 @@ pub record Holds (began : ℕ) (seen : Seen) (history : List Entry) (limit : ℕ
   pub objects : wrong_code ≡ None → HeldHolds began seen.faults history tables lists held
   pub answers : AnswersHold seen wrong_code
   pub faulted : FaultsCounted began seen.faults history 0
-  -- it is held for a device of this profile
+  -- it is held for a device of these numbers
   pub slots_are : held.objects.slots ≡ held.sessions.numbers.slots
-  pub numbers_are : held.sessions.numbers ≡ profile_numbers
+  pub range : AreInRange held.sessions.numbers
   -- a command that met a wrong answer may have made an item, and has no entry
   pub few : length held.objects.items ≤ length history + 1
   pub placed : length held.objects.items ≤ PLACES_MOST
@@ -259,11 +260,18 @@ TellsLeft (closes.Orphans count) held new_held =
     (count ≡ orphan_count new_held) × (orphan_count held < orphan_count new_held) × HasLeft held new_held
 TellsLeft closes.Answer held new_held = Unit {0}
 
+-- the device was started and flushed, and memory lacked for what is kept of its objects and sessions
+abbrev pub LackedMemory : (old new : Seen) → Type 0
+LackedMemory old new = (numbers : Numbers) × IsStarted old.trace new.trace numbers × ClearedIf old.state new.state
+
 -- why a broker didn't begin: a transmission failed, or the response to it is a wrong answer, and that was the last one; or memory
--- lacked before anything was sent
+-- lacked; or a number of the device is out of range, and nothing was sent after the response that tells it
 abbrev pub HasCause : {D : Type 0} (seen : D → Seen) → BeginError → (old new : D) → Type 0
 HasCause seen (begin_errors.Device count) old new =
     SendsStart (seen old).trace (seen new).trace × (last_of (seen new) ≡ None) × Rose (seen old).faults (seen new).faults × (count ≡ (seen new).faults)
 HasCause seen (begin_errors.Answer code) old new =
     SendsStart (seen old).trace (seen new).trace × IsWrongAnswer (asked_of (seen new)) (last_of (seen new)) code × ((seen new).state ≡ None)
-HasCause seen begin_errors.Memory old new = new ≡ old
+HasCause seen begin_errors.Memory old new = (new ≡ old) ⊎ LackedMemory (seen old) (seen new)
+HasCause seen (begin_errors.Numbers property value) old new =
+    StopsAtNumber (seen old).trace (seen new).trace property value
+    × IfSome (seen old).state (λ slots. AreInRange slots.numbers → ⊥)

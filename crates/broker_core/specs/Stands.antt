@@ -1,7 +1,5 @@
 -- The broker's device, and the tables, the objects and the sessions beside it, stand for the world of its journal.
 use Rattle.std.specs.Prelude.{◌≡◌, ◌≤◌, ℕ, ◌+◌, ◌*◌, ◌^◌, List, Option}
-use Rattle.tab_spec.specs.declared.TheConstants.{ACTIVE_SESSIONS}
-use Rattle.tab_spec.specs.Numbers.{profile_numbers}
 use Rattle.device_spec.specs.Slots.{SlotState}
 use Rattle.world_spec.specs.World.{World, table_in}
 use Rattle.client_machine.specs.declared.held.Held.{Held}
@@ -18,9 +16,7 @@ pub record Stands (world : World) (slots : SlotState) (tables : List (List (Opti
   -- it keeps what the world keeps
   pub persist : slots.persist ≡ world.persist
   -- the world's limit of active sessions is the device's
-  pub most : world.most ≡ ACTIVE_SESSIONS
-  -- it is a device of this profile
-  pub profile : slots.numbers ≡ profile_numbers
+  pub most : world.most ≡ slots.numbers.active
   pub settled : IsSettled slots held
   -- each client has the objects that it has in the world, under the same handles
   pub clients : (client : ℕ) → table_in world.clients client ≡ objects_in slots held.objects.items (table_of tables client)

@@ -3,7 +3,7 @@ ghost use Rattle.std.specs.Prelude.{◌≡◌, true, false, ◌≤◌, ◌<◌, 
 ghost use Rattle.std.specs.Prelude.{Some, None, Ok, Err, length, set};
 ghost use Rattle.std.specs.Prelude.{IsSome, IfOk, IfErr, OnOk, OnErr, IfSome};
 ghost use Rattle.tab_spec.specs.declared.TheConstants.{RC_CANCELED, RC_DEVICE_FAULT};
-ghost use Rattle.tab_spec.specs.Numbers.{profile_numbers};
+ghost use Rattle.tab_spec.specs.Numbers.{AreInRange};
 ghost use Rattle.tab_spec.specs.Reply.{error_reply};
 ghost use Rattle.device_spec.specs.Answers.{IsWrongAnswer};
 ghost use Rattle.device_port.specs.Device.{asked_of, last_of, sent_of};
@@ -36,7 +36,7 @@ use broker_lock::{Closed, OpenClientError, Told};
 use client_machine::{ClientView, Held, Machine, pick_of};
 use client_tables::ClientTables;
 use device_port::{Device, SwapError};
-use device_start::{Lists, start};
+use device_start::{Lists, StartError, start};
 use history_spec::{EntryKind, MOST_CLIENTS, Pick};
 use linked_records::Steps;
 use object_swap::{Objects, Uncounted, Visits};
@@ -46,7 +46,7 @@ use std::marker::Model;
 use std::sync::ledger::Ledger;
 use tab_bytes::Buffer;
 use tab_spec::{
-    Admitted, Numbers, RC_CANCELED, RC_DEVICE_ANSWER, RC_DEVICE_FAULT, RC_JOURNAL_FULL, RC_MEMORY,
+    Admitted, RC_CANCELED, RC_DEVICE_ANSWER, RC_DEVICE_FAULT, RC_JOURNAL_FULL, RC_MEMORY,
 };
 
 /// Why a broker didn't begin.
@@ -56,8 +56,10 @@ pub enum BeginError {
     Device(u64),
     /// The device gave a wrong answer; its code.
     Answer(u32),
-    /// Memory lacked, before anything was sent.
+    /// Memory lacked: before anything was sent, or when the device was started and flushed.
     Memory,
+    /// One of the device's numbers is out of range: the property (Part 2, "TPM_PT") and its value.
+    Numbers { property: u32, value: u32 },
 }
 
 /// The broker over a device: it runs the commands of many clients one at a time, holds their
@@ -263,21 +265,23 @@ fn enter_close(journal: &mut Journal, client: u32)
 }
 
 impl<D: Device> Broker<D> {
-    /// Starts the device, flushes what an earlier broker left in it, and keeps an empty journal of at
-    /// most so many bytes, 8,192 to 1,073,741,824, or one that only counts its entries, with the limit
-    /// 2^58. The memory of the journal and of the sessions is taken here, before anything is sent. An
-    /// error hands the device back.
+    /// Starts the device, asks for its numbers, flushes what an earlier broker left in it, and keeps
+    /// an empty journal of at most so many bytes, 8,192 to 1,073,741,824, or one that only counts
+    /// its entries, with the limit 2^58. The journal's memory is taken before anything is sent, and
+    /// that for objects and sessions when the device was started and flushed. An error hands the
+    /// device back.
     pub fn begin(alloc: Global, device: D, limit: u64) -> Result<Broker<D>, (BeginError, D)>
         requires at_base { IsAtBase (D.seen device).base (D.seen device).state }
         requires limit { IsLimit limit }
         ensures empty { IfOk result
             (λ b. (b.journal ≡ []) × (b.tables ≡ []) × (b.held.objects.items ≡ [])
             × (b.held.sessions.items ≡ no_items) × (b.wrong_code ≡ None)) }
-        ensures fixed { IfOk result (λ b. (b.began ≡ (D.seen device).faults) × (b.limit ≡ limit)
-            × (b.held.sessions.numbers ≡ profile_numbers)) }
-        // The device was started, and flushed of all that it listed.
-        ensures started { IfOk result
-            (λ b. IsStarted (D.seen device).trace (D.seen b.device).trace) }
+        ensures fixed { IfOk result (λ b. (b.began ≡ (D.seen device).faults) × (b.limit ≡ limit)) }
+        // The device was asked for its numbers, and flushed of all that it listed.
+        ensures started { IfOk result (λ b. IsStarted (D.seen device).trace (D.seen b.device).trace
+            b.held.sessions.numbers × AreInRange b.held.sessions.numbers) }
+        ensures numbers { IfOk result (λ b. IfSome (D.seen device).state
+            (λ slots. slots.numbers ≡ b.held.sessions.numbers)) }
         ensures cleared { IfOk result
             (λ b. ClearedIf (D.seen device).state (D.seen b.device).state) }
         ensures keeps { IfOk result (λ b. Keeps D.seen device b.device) }
@@ -291,13 +295,6 @@ impl<D: Device> Broker<D> {
         let Ok(journal) = Journal::new(alloc, limit) else {
             return Err((BeginError::Memory, device));
         };
-        let numbers = Numbers::of_the_profile();
-        let Ok(objects) = Objects::new(alloc, numbers.slots) else {
-            return Err((BeginError::Memory, device));
-        };
-        let Ok(sessions) = Sessions::new(alloc, numbers) else {
-            return Err((BeginError::Memory, device));
-        };
         let Ok(mut scratch) = Buffer::new(alloc) else {
             return Err((BeginError::Memory, device));
         };
@@ -307,14 +304,25 @@ impl<D: Device> Broker<D> {
         let Ok(mut lists) = Lists::new(alloc) else {
             return Err((BeginError::Memory, device));
         };
-        match start(&mut device, &mut lists, &mut scratch) {
-            Ok(()) => {}
-            Err(SwapError::Failed(_)) => {
+        let numbers = match start(&mut device, &mut lists, &mut scratch) {
+            Ok(numbers) => numbers,
+            Err(StartError::Unanswered(SwapError::Failed(_))) => {
                 let count = device.fault_count();
                 return Err((BeginError::Device(count), device));
             }
-            Err(SwapError::Answer(code)) => return Err((BeginError::Answer(code), device)),
-        }
+            Err(StartError::Unanswered(SwapError::Answer(code))) => {
+                return Err((BeginError::Answer(code), device));
+            }
+            Err(StartError::Numbers { property, value }) => {
+                return Err((BeginError::Numbers { property, value }, device));
+            }
+        };
+        let Ok(objects) = Objects::new(alloc, numbers.slots) else {
+            return Err((BeginError::Memory, device));
+        };
+        let Ok(sessions) = Sessions::new(alloc, numbers) else {
+            return Err((BeginError::Memory, device));
+        };
         Ok(Broker {
             machine: Machine {
                 device,

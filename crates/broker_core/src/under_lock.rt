@@ -1,8 +1,8 @@
 //! A broker under a lock: its history is its journal's.
 ghost use Rattle.std.specs.Prelude.{◌≡◌, ◌≤◌, None, IsSome, is_some};
 ghost use Rattle.tab_spec.specs.Count.{largest_count};
-ghost use Rattle.broker_lock.specs.Known.{IsLegalOver};
-ghost use Rattle.broker_core.specs.Broker.{FaultsCounted, ProfileLegal};
+ghost use Rattle.broker_lock.specs.Known.{IsLegalOver, origin_of};
+ghost use Rattle.broker_core.specs.Broker.{FaultsCounted, LegalOver};
 
 use crate::broker::Broker;
 use broker_lock::{Closed, OpenClientError, Recorded, Serves, Told};
@@ -12,7 +12,9 @@ use tab_bytes::Buffer;
 impl<D: Device> Broker<D> {
     // What holds of each broker: a law, which does nothing when it runs.
     fn show_sound(&self)
-        ensures legal { IsLegalOver ProfileLegal (D.seen self.now.device).base self.now.journal }
+        ensures legal { IsLegalOver LegalOver
+            (origin_of (D.seen self.now.device).base self.now.held.sessions.numbers)
+            self.now.journal }
         // Where the device tells what it kept, no wrong answer came.
         ensures untold { IsSome self.now.wrong_code → (D.seen self.now.device).base ≡ None }
         ensures began { self.now.began ≤ largest_count }
@@ -26,10 +28,13 @@ impl<D: Device> Broker<D> {
 impl<D: Device> Recorded for Broker<D> {
     ghost history = { λ b. b.journal };
 
-    ghost legal = { ProfileLegal };
+    ghost legal = { LegalOver };
 
-    ghost fixed = { λ b.
-        record { base = (D.seen b.device).base; limit = b.limit; began = b.began } };
+    ghost fixed = { λ b. record {
+      base = origin_of (D.seen b.device).base b.held.sessions.numbers;
+      limit = b.limit;
+      began = b.began;
+    } };
 
     ghost wrong = { λ b. is_some b.wrong_code };
 
@@ -74,7 +79,9 @@ impl<D: Device> Serves for Broker<D> {
 
 // Which histories the lock calls legal: those of worlds.
 fn legal_histories_are_of_worlds<D: Device>(broker: &Broker<D>)
-    ensures { IsLegalOver ProfileLegal (D.seen broker.now.device).base broker.now.journal }
+    ensures { IsLegalOver LegalOver
+        (origin_of (D.seen broker.now.device).base broker.now.held.sessions.numbers)
+        broker.now.journal }
 {
     broker.show_legal();
 }

@@ -1,7 +1,6 @@
 -- What a pass knows after its turn.
 use Rattle.std.proofs.Common.{◌≡◌, ◌⊎◌, ℕ, ◌<◌, Bool, true, false, List, [], ◌∷◌, ◌++◌, length, drop, Option, Ok, Err, refl, sym, ap, ◌∙◌, subst, ⊎_elim, arith}
 use Rattle.std.proofs.lemmas.List.{append-nil, append_cancel_left}
-use Rattle.tab_spec.specs.Persist.{Persist}
 use Rattle.atomic_table.specs.Seated.{TableId}
 use Rattle.atomic_table.specs.Table.{Me}
 use Rattle.history_spec.specs.Entry.{Entry, canceled_entry, clients_of, close_entry, open_entry}
@@ -11,7 +10,7 @@ use Rattle.broker_lock.specs.declared.calls.Job.{Job}
 use Rattle.broker_lock.specs.declared.calls.Job.TheVariants as jobs
 use Rattle.broker_lock.specs.declared.calls.OpenClientError.TheVariants as open_errors
 use Rattle.broker_lock.specs.declared.calls.Told.TheVariants as tolds
-use Rattle.broker_lock.specs.Known.{Fixed, IsLegalOver, IsOwn, knows, of_known}
+use Rattle.broker_lock.specs.Known.{Fixed, IsLegalOver, IsOwn, Origin, knows, of_known}
 use Rattle.broker_lock.specs.Pass.{Acts, Does, MayAsk, MayCall, PassView, done_wrong, pass_view}
 use Rattle.broker_lock.specs.Serves.{IsAnswered, IsFailed, IsOpened, TellsWrong}
 use Rattle.broker_lock.specs.Turn.{HasTurn, IsIdle, IsOrderly, MayAdd, MayEnterAs, MayGiveBack, no_entry, one_entry, raised, rested}
@@ -113,7 +112,7 @@ module _ {B : Type 0} (history : B → List Entry) (fixed : B → Fixed) (wrong 
         told = tells.1;
       }
 
-  pub acted : (legal : Persist → List Entry → Type 0) (lock at : TableId) (value after : B) (v now : SeatView) (me : Me (Option B) SeatView) (old : PassView) (job : Job) (bytes : List ℕ) (done : Done) (reply : List ℕ) → IsIdle v → HasTurn history fixed wrong value v now
+  pub acted : (legal : Origin → List Entry → Type 0) (lock at : TableId) (value after : B) (v now : SeatView) (me : Me (Option B) SeatView) (old : PassView) (job : Job) (bytes : List ℕ) (done : Done) (reply : List ℕ) → IsIdle v → HasTurn history fixed wrong value v now
       → Does (fixed value) (history value) job bytes (history after) done reply → fixed after ≡ fixed value → TellsWrong (wrong value) (wrong after) (done_wrong done) → IsLegalOver legal (fixed after).base (history after) → MayAsk v.known job
       → me ≡ (rested (raised now (history after) (wrong after)), []) → pass_view lock v ≡ old → at ≡ lock → Acts legal old job bytes done reply (pass_view at me.0)
   acted legal lock at value after v now me old job bytes done reply idle turn does same tells shown may back old_is same_lock =

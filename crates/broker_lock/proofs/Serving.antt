@@ -4,7 +4,6 @@ use Rattle.std.specs.Prelude.{◌||◌}
 use Rattle.std.specs.List.{AllByRecursion, list_any}
 use Rattle.std.proofs.lemmas.List.{append-nil, append_cancel_left}
 use Rattle.std.proofs.lemmas.List.Folds.{list_any-append}
-use Rattle.tab_spec.specs.Persist.{Persist}
 use Rattle.tab_spec.specs.declared.TheConstants.{RC_DEVICE_FAULT}
 use Rattle.tab_spec.specs.Reply.{error_reply}
 use Rattle.history_spec.specs.Entry.{Entry, command_entry, fault_entry, is_close_kind, open_entry, own}
@@ -14,7 +13,7 @@ use Rattle.broker_lock.specs.declared.calls.Job.TheVariants as jobs
 use Rattle.broker_lock.specs.declared.calls.Told.{Told}
 use Rattle.broker_lock.specs.declared.calls.Told.TheVariants as tolds
 use Rattle.broker_lock.specs.Examples.{IsServed}
-use Rattle.broker_lock.specs.Known.{Fixed}
+use Rattle.broker_lock.specs.Known.{Fixed, Origin}
 use Rattle.broker_lock.specs.Pass.{Acts, MayAsk, PassView}
 use Rattle.broker_lock.specs.Serves.{IsAnswered, IsFailed, Tells}
 use Rattle.broker_lock.proofs.Knowing.{knows_its_own, knows_left, nothing_more, own-append, own_here}
@@ -44,7 +43,7 @@ at_first client = let here = own_here client (open_entry client) [] refl in reco
 }
 
 -- a client was opened by a pass that knew nobody
-pub served_at_first : {legal : Persist → List Entry → Type 0} (old new : PassView) (bytes reply : List ℕ) (client : ℕ) → old.known ≡ [] → Acts legal old jobs.Open bytes (dones.Opened (Ok client)) reply new → IsServed new.known client 0
+pub served_at_first : {legal : Origin → List Entry → Type 0} (old new : PassView) (bytes reply : List ℕ) (client : ℕ) → old.known ≡ [] → Acts legal old jobs.Open bytes (dones.Opened (Ok client)) reply new → IsServed new.known client 0
 served_at_first old new bytes reply client nobody acts =
     let one : acts.added ≡ open_entry client ∷ [] = append_cancel_left acts.before acts.added (open_entry client ∷ []) (sym acts.front ∙ acts.does.entered) in
     subst (λ (l : List Entry). IsServed l client 0) (sym (acts.known ∙ ap (λ (l : List Entry). l ++ acts.added) nobody ∙ one)) (at_first client)
@@ -99,7 +98,7 @@ served_as known added before after fixed client done bytes reply (tolds.JournalF
 served_as known added before after fixed client done bytes reply tolds.Answer served front tells = still_served known added before client done served (sym front ∙ tells.0)
 
 -- its next command was told, whatever it was told
-pub served_next : {legal : Persist → List Entry → Type 0} (old new : PassView) (bytes reply : List ℕ) (client done : ℕ) (d : Done) → IsServed old.known client done → Acts legal old (jobs.Command client (done + 1)) bytes d reply new
+pub served_next : {legal : Origin → List Entry → Type 0} (old new : PassView) (bytes reply : List ℕ) (client done : ℕ) (d : Done) → IsServed old.known client done → Acts legal old (jobs.Command client (done + 1)) bytes d reply new
     → IsServed new.known client (done + 1)
 served_next old new bytes reply client done (dones.Told told) served acts =
     subst (λ (l : List Entry). IsServed l client (done + 1)) (sym acts.known) (served_as old.known acts.added acts.before new.front old.fixed client done bytes reply told served acts.front acts.does)

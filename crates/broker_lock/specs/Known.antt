@@ -1,21 +1,32 @@
 -- What is known of a history: what it stands on, and the entries of some clients.
 use Rattle.std.specs.Prelude.{◌≡◌, ℕ, ◌==◌, Bool, true, List, Option, Some, None}
 use Rattle.std.specs.List.{list_any, filter}
+use Rattle.tab_spec.specs.declared.numbers.Numbers.{Numbers}
 use Rattle.tab_spec.specs.Persist.{Persist}
 use Rattle.history_spec.specs.Entry.{Entry, is_close_kind, own}
+
+-- what a history begins from: what its device keeps, and the numbers that this has
+pub record Origin : Type 0 where
+  pub persist : Persist
+  pub numbers : Numbers
+
+-- the same, where the device tells what it keeps
+abbrev pub origin_of : Option Persist → Numbers → Option Origin
+origin_of None numbers = None
+origin_of (Some persist) numbers = Some (record { persist = persist; numbers = numbers })
 
 -- what stays as it is while a value keeps its history
 pub record Fixed : Type 0 where
   -- what the history begins from, where that is told
-  pub base : Option Persist
+  pub base : Option Origin
   -- the most bytes that the history may keep
   pub limit : ℕ
   -- the device's fault count at the start
   pub began : ℕ
 
 -- legal over what it begins from, where that is told. Which histories are legal is said by what keeps the history
-abbrev pub IsLegalOver : (legal : Persist → List Entry → Type 0) → Option Persist → List Entry → Type 0
-IsLegalOver legal base history = (b : Persist) → base ≡ Some b → legal b history
+abbrev pub IsLegalOver : (legal : Origin → List Entry → Type 0) → Option Origin → List Entry → Type 0
+IsLegalOver legal base history = (o : Origin) → base ≡ Some o → legal o history
 
 -- what it begins from isn't told
 abbrev pub IsUntold : Fixed → Type 0

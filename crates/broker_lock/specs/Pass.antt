@@ -2,13 +2,12 @@
 use Rattle.std.specs.Prelude.{◌≡◌, ◌≤◌, ◌⊎◌, ℕ, ◌+◌, ◌||◌, Bool, true, false, List, ◌++◌, Ok}
 use mathlib.Core.List.{IsPrefix}
 use Rattle.atomic_table.specs.Seated.{TableId}
-use Rattle.tab_spec.specs.Persist.{Persist}
 use Rattle.history_spec.specs.Entry.{Entry, own, IsNextNumber, IsOpen}
 use Rattle.broker_lock.specs.declared.calls.Done.{Done}
 use Rattle.broker_lock.specs.declared.calls.Done.TheVariants as dones
 use Rattle.broker_lock.specs.declared.calls.Job.{Job}
 use Rattle.broker_lock.specs.declared.calls.Job.TheVariants as jobs
-use Rattle.broker_lock.specs.Known.{Fixed, IsLegalOver, IsOwn, has_closed, knows, of_known}
+use Rattle.broker_lock.specs.Known.{Fixed, IsLegalOver, IsOwn, Origin, has_closed, knows, of_known}
 use Rattle.broker_lock.specs.Serves.{IsClosed, Opens, Tells, TellsCanceled, closes_wrong, opens_wrong, tells_wrong}
 use Rattle.broker_lock.specs.View.{SeatView}
 
@@ -71,7 +70,7 @@ done_wrong (dones.Told told) = tells_wrong told
 done_wrong (dones.Closed closed) = closes_wrong closed
 
 -- one turn at the value
-pub record Acts (legal : Persist → List Entry → Type 0) (old : PassView) (job : Job) (bytes : List ℕ) (done : Done) (reply : List ℕ) (new : PassView) : Type 0 where
+pub record Acts (legal : Origin → List Entry → Type 0) (old : PassView) (job : Job) (bytes : List ℕ) (done : Done) (reply : List ℕ) (new : PassView) : Type 0 where
   -- the history that the call found, and its entry, where it has one
   pub before : List Entry
   pub added : List Entry

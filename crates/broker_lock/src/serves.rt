@@ -1,7 +1,6 @@
 ghost use Rattle.std.specs.Prelude.{◌≡◌, ◌≤◌, Bool, List, length};
-ghost use Rattle.tab_spec.specs.Persist.{Persist};
 ghost use Rattle.history_spec.specs.Entry.{Entry, IsOpen, IsNextNumber};
-ghost use Rattle.broker_lock.specs.Known.{Fixed, IsLegalOver};
+ghost use Rattle.broker_lock.specs.Known.{Fixed, IsLegalOver, Origin};
 ghost use Rattle.broker_lock.specs.Serves.{IsClosed, Opens, Tells, TellsCanceled, TellsWrong};
 ghost use Rattle.broker_lock.specs.Serves.{closes_wrong, opens_wrong, tells_wrong};
 
@@ -14,7 +13,7 @@ pub trait Recorded {
     ghost history: { Self → List Entry };
 
     /// Which histories are legal over what they begin from.
-    ghost legal: { Persist → List Entry → Type 0 };
+    ghost legal: { Origin → List Entry → Type 0 };
 
     /// What the history stands on. No call changes it.
     ghost fixed: { Self → Fixed };

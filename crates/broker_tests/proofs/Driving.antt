@@ -15,6 +15,19 @@ use Rattle.broker_lock.specs.declared.calls.Told.TheVariants as tolds
 use Rattle.broker_core.specs.Broker.{BrokerView, IsCarriedOut, IsFaulted, IsRefused, Tells, TellsCanceled}
 use Rattle.broker_tests.specs.Driven.{IsDriven}
 
+-- a broker that has opened nobody
+pub driven_at_first : (history : List Entry) → history ≡ [] → IsDriven history 0 0 1
+driven_at_first history empty =
+    let first : IsDriven [] 0 0 1 = record {
+      opened_is = refl;
+      behind = omega arith;
+      few = omega arith;
+      are_open = λ client from below. absurd (omega (arith, below));
+      positive = omega arith;
+      above = tt;
+    } in
+    subst (λ (h : List Entry). IsDriven h 0 0 1) (sym empty) first
+
 abbrev is_in : ℕ → List ℕ → Bool
 is_in client present = list_any (λ other. other == client) present
 

@@ -102,9 +102,9 @@ fn answers(clients: &mut Clients, client: u32, command: &[u8], begin: &[u8]) -> 
 }
 
 // A broker with so many clients, the first of which made an object and is closed. The object
-// couldn't be flushed: that is the sixth transmission, behind the four of the start.
+// couldn't be flushed: that is the tenth transmission, behind the eight of the start.
 fn leave_object(alloc: Global, count: u32) -> Result<Clients, Fail> {
-    let mut clients = start(alloc, vec![in alloc; 5]?)?;
+    let mut clients = start(alloc, vec![in alloc; 9]?)?;
     let made = open(&mut clients, count) && answers(&mut clients, 0, &create(0), &CREATED);
     let left = clients.close() == Some(Closed::Orphans(1)) && clients.orphans() == 1;
     if made && left {
@@ -288,7 +288,7 @@ fn is_told_once(alloc: Global, failing: u64) -> Result<bool, Fail> {
 
 // Whether that holds for each transmission after those of the start of a run without failures.
 fn each_is_told_once(alloc: Global, sent: u64) -> Result<bool, Fail> {
-    for failing in 4..sent {
+    for failing in 8..sent {
         if !is_told_once(alloc, failing)? {
             return Ok(false);
         }

@@ -30,119 +30,119 @@ enum Act {
     Close,
 }
 
-// What a client does one after the other, and how many commands the device was sent by then,
-// The four of the start are among them.
+// What a client does one after the other, and how many commands the device was sent by then.
+// The eight of the start are among them.
 type Acts = &'static [(Act, u64)];
 
 // What is in a slot or in a place stays there.
 const RESIDENT: Acts = &[
-    (Act::Make(0), 5),
-    (Act::Make(1), 6),
-    (Act::Read(1), 7),
-    (Act::Read(0), 8),
-    (Act::Read(0), 9),
-    (Act::Start, 10),
-    (Act::Start, 11),
-    (Act::Ask(1), 12),
-    (Act::Ask(0), 13),
-    (Act::Save(1), 14),
+    (Act::Make(0), 9),
+    (Act::Make(1), 10),
+    (Act::Read(1), 11),
+    (Act::Read(0), 12),
+    (Act::Read(0), 13),
+    (Act::Start, 14),
+    (Act::Start, 15),
+    (Act::Ask(1), 16),
+    (Act::Ask(0), 17),
+    (Act::Save(1), 18),
     // What isn't there, and what is neither an object nor a session.
-    (Act::Flush(0x8000_0005), 14),
-    (Act::Flush(0x0200_0007), 14),
-    (Act::Flush(0x4000_0001), 14),
-    (Act::Cancel, 14),
+    (Act::Flush(0x8000_0005), 18),
+    (Act::Flush(0x0200_0007), 18),
+    (Act::Flush(0x4000_0001), 18),
+    (Act::Cancel, 18),
     // An object that is in a slot, and a session that is saved.
-    (Act::Flush(0x8000_0001), 15),
-    (Act::Flush(0x0300_0001), 16),
+    (Act::Flush(0x8000_0001), 19),
+    (Act::Flush(0x0300_0001), 20),
     // The other object and the other session.
-    (Act::Close, 18),
+    (Act::Close, 22),
 ];
 
 // Four objects on three slots. The one that was used least recently leaves: it is saved the first
 // time, and flushed. The one that is read is loaded.
 const FOUR_OBJECTS: Acts = &[
-    (Act::Make(0), 5),
-    (Act::Make(1), 6),
-    (Act::Make(2), 7),
-    (Act::Make(3), 10),
-    (Act::Read(0), 14),
-    (Act::Read(1), 18),
-    (Act::Read(2), 22),
-    (Act::Read(3), 25),
-    (Act::Read(0), 28),
-    (Act::Read(1), 31),
-    (Act::Read(2), 34),
-    (Act::Read(3), 37),
-    (Act::Read(3), 38),
+    (Act::Make(0), 9),
+    (Act::Make(1), 10),
+    (Act::Make(2), 11),
+    (Act::Make(3), 14),
+    (Act::Read(0), 18),
+    (Act::Read(1), 22),
+    (Act::Read(2), 26),
+    (Act::Read(3), 29),
+    (Act::Read(0), 32),
+    (Act::Read(1), 35),
+    (Act::Read(2), 38),
+    (Act::Read(3), 41),
+    (Act::Read(3), 42),
     // In no slot: it is forgotten, and nothing is sent.
-    (Act::Flush(0x8000_0000), 38),
-    (Act::Close, 41),
+    (Act::Flush(0x8000_0000), 42),
+    (Act::Close, 45),
 ];
 
 // Five of them.
 const FIVE_OBJECTS: Acts = &[
-    (Act::Make(0), 5),
-    (Act::Make(1), 6),
-    (Act::Make(2), 7),
-    (Act::Make(3), 10),
-    (Act::Make(4), 13),
-    (Act::Read(4), 14),
-    (Act::Read(2), 15),
-    (Act::Read(3), 16),
+    (Act::Make(0), 9),
+    (Act::Make(1), 10),
+    (Act::Make(2), 11),
+    (Act::Make(3), 14),
+    (Act::Make(4), 17),
+    (Act::Read(4), 18),
+    (Act::Read(2), 19),
+    (Act::Read(3), 20),
 ];
 
 // The first one was read again before the fourth is made, so the second leaves. The two others that
 // are in slots stay there.
 const READ_AGAIN: Acts = &[
-    (Act::Make(0), 5),
-    (Act::Make(1), 6),
-    (Act::Make(2), 7),
-    (Act::Read(0), 8),
-    (Act::Make(3), 11),
+    (Act::Make(0), 9),
+    (Act::Make(1), 10),
+    (Act::Make(2), 11),
     (Act::Read(0), 12),
-    (Act::Read(1), 16),
-    (Act::Read(3), 17),
-    (Act::Read(0), 18),
-    (Act::Read(1), 19),
+    (Act::Make(3), 15),
+    (Act::Read(0), 16),
+    (Act::Read(1), 20),
+    (Act::Read(3), 21),
+    (Act::Read(0), 22),
+    (Act::Read(1), 23),
 ];
 
 // Four sessions on three places. The one that was used least recently is saved, each time.
 const FOUR_SESSIONS: Acts = &[
-    (Act::Start, 5),
-    (Act::Start, 6),
-    (Act::Start, 7),
     (Act::Start, 9),
-    (Act::Ask(0), 12),
-    (Act::Ask(0), 13),
-    (Act::Ask(1), 16),
+    (Act::Start, 10),
+    (Act::Start, 11),
+    (Act::Start, 13),
+    (Act::Ask(0), 16),
     (Act::Ask(0), 17),
-    (Act::Ask(1), 18),
+    (Act::Ask(1), 20),
+    (Act::Ask(0), 21),
+    (Act::Ask(1), 22),
 ];
 
 // The first one was asked again before the fourth is started, so the second leaves.
 const ASKED_AGAIN: Acts = &[
-    (Act::Start, 5),
-    (Act::Start, 6),
-    (Act::Start, 7),
-    (Act::Ask(0), 8),
+    (Act::Start, 9),
     (Act::Start, 10),
-    (Act::Ask(0), 11),
-    (Act::Ask(1), 14),
-    (Act::Ask(3), 15),
+    (Act::Start, 11),
+    (Act::Ask(0), 12),
+    (Act::Start, 14),
+    (Act::Ask(0), 15),
+    (Act::Ask(1), 18),
+    (Act::Ask(3), 19),
     // Nothing leaves for a session that its client saves.
-    (Act::Save(3), 16),
-    (Act::Ask(0), 17),
-    (Act::Ask(2), 19),
+    (Act::Save(3), 20),
+    (Act::Ask(0), 21),
+    (Act::Ask(2), 23),
 ];
 
 // The same where the journal may keep 8,192 bytes. Behind the third one there is no room for a
 // command, so the object isn't read. The close has room, and flushes the session and the object.
 const FULL: Acts = &[
-    (Act::Make(0), 5),
-    (Act::Start, 6),
-    (Act::Fill, 6),
-    (Act::Read(0), 6),
-    (Act::Close, 8),
+    (Act::Make(0), 9),
+    (Act::Start, 10),
+    (Act::Fill, 10),
+    (Act::Read(0), 10),
+    (Act::Close, 12),
 ];
 
 // Lets the first client do it.

@@ -29,9 +29,9 @@ fn sent_after(alloc: Global, starts: u8, digests: u16) -> Result<u64, Fail> {
 // two commands each, and then loads the session that it names.
 #[test]
 fn old_contexts_are_renewed_in_one_command(rt: HostRuntime) -> Result<(), Fail> {
-    assert_eq!(rt; sent_after(rt.alloc(), 60, 189)?, 688);
-    assert_eq!(rt; sent_after(rt.alloc(), 60, 190)?, 691);
-    assert_eq!(rt; sent_after(rt.alloc(), 60, 191)?, 806);
+    assert_eq!(rt; sent_after(rt.alloc(), 60, 189)?, 692);
+    assert_eq!(rt; sent_after(rt.alloc(), 60, 190)?, 695);
+    assert_eq!(rt; sent_after(rt.alloc(), 60, 191)?, 810);
     Ok(())
 }
 
@@ -39,7 +39,7 @@ fn old_contexts_are_renewed_in_one_command(rt: HostRuntime) -> Result<(), Fail> 
 // for it.
 #[test]
 fn no_place_is_freed_for_a_start_that_is_refused(rt: HostRuntime) -> Result<(), Fail> {
-    assert_eq!(rt; sent_after(rt.alloc(), 64, 0)?, 129);
-    assert_eq!(rt; sent_after(rt.alloc(), 66, 0)?, 131);
+    assert_eq!(rt; sent_after(rt.alloc(), 64, 0)?, 133);
+    assert_eq!(rt; sent_after(rt.alloc(), 66, 0)?, 135);
     Ok(())
 }

@@ -22,7 +22,7 @@ use Rattle.tab_laws.proofs.Handled.{client_is, handled_is}
 use Rattle.tab_laws.proofs.Objects.{length-sized, object_small}
 use Rattle.tab_laws.proofs.OneSpelling.{Fronts, bytes_back, left_so}
 use Rattle.tab_laws.proofs.ReadBack.{Gives}
-use Rattle.device_laws.proofs.AnswerForms.{handle_of_response, no_handles_asked, refusal_taken, success_taken, transient_octet}
+use Rattle.device_laws.proofs.AnswerForms.{handle_of_response, no_list_asked, refusal_taken, success_taken, transient_octet}
 use Rattle.device_laws.proofs.Answering.{free_few}
 use Rattle.device_laws.proofs.Contexts.{HoldsObject, context_fronts, context_length, context_written, opened_is, opened_spelling}
 use Rattle.device_laws.proofs.ContextSteps.{load_row}
@@ -210,7 +210,7 @@ object_taken is_kept is_taken slots sent o sound asks =
       authorized = or_left (not (tag_of sent == ST_SESSIONS)) _
           (not_from_false (tag_of sent == ST_SESSIONS) (ap (λ (t : ℕ). t == ST_SESSIONS) asks.tag));
     })
-    (ap (λ (c : ℕ). c == CC_CONTEXT_SAVE) asks.code) (no_handles_asked sent (ap (λ (c : ℕ). c == CC_GET_CAPABILITY) asks.code))
+    (ap (λ (c : ℕ). c == CC_CONTEXT_SAVE) asks.code) (no_list_asked sent (ap (λ (c : ℕ). c == CC_GET_CAPABILITY) asks.code))
 
 opened_taken : (is_taken : Bool) (slots : SlotState) (sent : List ℕ) (opened : Option Object) → IsSlots slots → Asks sent
     → takes false is_taken sent (step_by slots (object_loaded slots opened)).1 ≡ true

@@ -28,7 +28,7 @@ use Rattle.device_spec.specs.Answers.{fits_handle, has_response_handle, is_own, 
 use Rattle.device_spec.specs.Slots.{SlotState, SessionPlace, IsSlots, Step, active_count, effect_by, free_number, in_slot, is_active, loaded_count, loaded_session, loaded_under, made_by, room_for, session_too_many, sessions_left, slot_operands, slot_step, slot_tables}
 use Rattle.tab_laws.proofs.Admissions.{kinds_hold}
 use Rattle.tab_laws.proofs.Handled.{code_found, passed}
-use Rattle.device_laws.proofs.AnswerForms.{command_tag_fits, error_taken, handle_of_response, no_handles_asked, success_taken, tag_of_response}
+use Rattle.device_laws.proofs.AnswerForms.{command_tag_fits, error_taken, handle_of_response, no_list_asked, success_taken, tag_of_response}
 use Rattle.device_laws.proofs.FaultRows.{outcome_plain}
 use Rattle.device_laws.proofs.Faults.{Fails, IsPlain}
 use Rattle.device_laws.proofs.Frames.{code_of_response}
@@ -203,7 +203,7 @@ session_told bytes a number kind b body asks checked same few frame =
       authorized = or_left (not (tag_of bytes == ST_SESSIONS)) _
           (not_from_false (tag_of bytes == ST_SESSIONS) (ap (λ (t : ℕ). t == ST_SESSIONS) (sym asks.tag) ∙ asks.none.sessions));
     })
-    (another (code_of bytes) CC_CONTEXT_SAVE asks.code refl) (no_handles_asked bytes (another (code_of bytes) CC_GET_CAPABILITY asks.code refl))
+    (another (code_of bytes) CC_CONTEXT_SAVE asks.code refl) (no_list_asked bytes (another (code_of bytes) CC_GET_CAPABILITY asks.code refl))
 
 made_told : (slots : SlotState) (created : Created) (named : Bool) (params answer : List ℕ) (bytes : List ℕ) (a : Admitted) → Asks bytes a → named ≡ true
     → IsStarted (drop a.auths.params bytes) created → free_number slots.sessions < SESSION_NUMBERS

@@ -7,7 +7,7 @@ use Rattle.tab_spec.specs.Frame.{code_of, is_frame, reported_code, tag_of}
 use Rattle.tab_spec.specs.Session.{is_kind_number, kind_of, kind_octet}
 use Rattle.tab_spec.specs.Shape.{number_of_session, octet_of}
 use Rattle.tab_spec.specs.Values.{Reading}
-use Rattle.device_spec.specs.Answers.{IsRight, IsWrongAnswer, asks_of_tables, fits_handle, has_response_handle, is_error_form, is_hidden, is_started_handle, is_success_form, is_word, lists_handles, loads_object, loads_session, may_refuse, saved_handle_place, session_type_of, takes, word_at, wrong}
+use Rattle.device_spec.specs.Answers.{IsRight, IsWrongAnswer, asks_of_tables, fits_handle, has_response_handle, is_error_form, is_hidden, is_started_handle, is_success_form, is_word, lists_asked, loads_object, loads_session, may_refuse, saved_handle_place, session_type_of, takes, word_at, wrong}
 use Rattle.device_spec.specs.Slots.{SlotState, slot_step}
 use Rattle.device_port.specs.Device.{Answered}
 use Rattle.std.proofs.lemmas.Bool.{le-ltb}
@@ -97,7 +97,7 @@ pub taken_more : (kept_one kept_other one other : Bool) (asked last : List ℕ) 
 taken_more kept_one kept_other one other asked last kept more is =
     let has = has_response_handle (row_of (code_of asked)) in
     takes_by (is_frame last) (code_of last == RC_SUCCESS) _ _ (is_error_form last) (may_refuse kept_one asked (code_of last)) (may_refuse kept_other asked (code_of last))
-    (form_more (lists_handles asked last && tag_of last == tag_of asked) (not has || is_word (fits_handle one asked) (word_at 10 last)) (not has || is_word (fits_handle other asked) (word_at 10 last)) _ _
+    (form_more (lists_asked asked last && tag_of last == tag_of asked) (not has || is_word (fits_handle one asked) (word_at 10 last)) (not has || is_word (fits_handle other asked) (word_at 10 last)) _ _
     (named_more has (is_word (fits_handle one asked) (word_at 10 last)) (is_word (fits_handle other asked) (word_at 10 last)) (fits_more one other asked (word_at 10 last) more)))
     (refuse_more kept_one kept_other asked (code_of last) kept) is
 

@@ -10,7 +10,7 @@ use Rattle.tab_spec.specs.Persist.{Persist, fresh_persist}
 use Rattle.tab_spec.specs.Shape.{loads_object, makes_object_by}
 use Rattle.tab_spec.specs.Values.{Reading, then_read}
 use Rattle.effect_spec.specs.Contexts.{Context, context_of}
-use Rattle.device_spec.specs.Answers.{answer_area, fits_handle, has_response_handle, is_context, is_context_of, is_error_form, is_success_form, is_whole, is_word, lists_handles, may_refuse, takes, word_at}
+use Rattle.device_spec.specs.Answers.{answer_area, fits_handle, has_response_handle, is_context, is_context_of, is_error_form, is_success_form, is_whole, is_word, lists_asked, may_refuse, takes, word_at}
 use Rattle.client_laws.specs.Ready.{is_sent, starts_session}
 use Rattle.session_swap.specs.Items.{SessionsView}
 use Rattle.world_spec.specs.World.{save_parameters}
@@ -149,6 +149,6 @@ context_there asked last taken success save =
     let is_area = not (tag_of asked == ST_SESSIONS) || is_whole (answer_area (drop (if has_handle then HEADER_BYTES + 4 else HEADER_BYTES) last)) in
     let is_handle = not has_handle || is_word (fits_handle false asked) (word_at HEADER_BYTES last) in
     let form = success_by (is_frame last) (code_of last == RC_SUCCESS) (is_success_form false asked last) (is_error_form last && may_refuse false asked (code_of last)) taken success in
-    let saved = (and_parts (lists_handles asked last && (tag_of last == tag_of asked) && is_handle && is_area) is_saved form).1 in
+    let saved = (and_parts (lists_asked asked last && (tag_of last == tag_of asked) && is_handle && is_area) is_saved form).1 in
     let is = implied (code_of asked == CC_CONTEXT_SAVE) (is_context asked context) save saved in
     omega (arith, begun_context context (nat_lt (length context) 8) refl (word_read context (word_at HEADER_BYTES asked) is), length-drop HEADER_BYTES last)

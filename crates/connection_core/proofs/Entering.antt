@@ -8,7 +8,6 @@ use Rattle.std.proofs.lemmas.List.Folds.{list_any-append}
 use Rattle.tab_spec.specs.declared.TheConstants.{RC_CANCELED, RC_DEVICE_FAULT}
 use Rattle.tab_spec.specs.Reply.{error_reply}
 use mathlib.Core.List.{IsPrefix}
-use Rattle.tab_spec.specs.Persist.{Persist}
 use Rattle.history_spec.specs.Cancels.{cover}
 use Rattle.history_spec.specs.Entry.{Entry, HasRoomForClient, canceled_entry, close_entry, command_entry, fault_entry, is_close_kind, kept, open_entry, own, part_before}
 use Rattle.history_spec.specs.Told.{ToldBy, entry_of}
@@ -21,7 +20,7 @@ use Rattle.broker_lock.specs.declared.calls.OpenClientError.TheVariants as open_
 use Rattle.broker_lock.specs.declared.calls.Told.{Told}
 use Rattle.broker_lock.specs.declared.calls.Told.TheVariants as tolds
 use Rattle.broker_lock.specs.Examples.{IsServed}
-use Rattle.broker_lock.specs.Known.{Fixed, IsLegalOver, knows}
+use Rattle.broker_lock.specs.Known.{Fixed, IsLegalOver, Origin, knows}
 use Rattle.broker_lock.specs.Pass.{Acts, Does, MayAsk, PassView, done_wrong}
 use Rattle.broker_lock.specs.Serves.{IsAnswered, IsCanceled, IsFailed, Tells, TellsCanceled, tells_wrong}
 use Rattle.broker_lock.proofs.Knowing.{filter-weaker, knows_left, nothing_more, own-append, own_here, own_rest}
@@ -33,10 +32,10 @@ use Rattle.connection_core.proofs.Telling.{AddsNone, IsBefore, before_all, decid
 
 -- ---- any turn
 
-pub goes_on_none : {legal : Persist → List Entry → Type 0} (pass : PassView) → GoesOn legal pass pass
+pub goes_on_none : {legal : Origin → List Entry → Type 0} (pass : PassView) → GoesOn legal pass pass
 goes_on_none {legal = legal} pass = record { lock = refl; fixed = refl; parts = refl; seen = ([], append-nil pass.front); still = λ knew. knew; stays_legal = λ was. was }
 
-pub goes_on_more : {legal : Persist → List Entry → Type 0} (old between new : PassView) → GoesOn legal old between → GoesOn legal between new → GoesOn legal old new
+pub goes_on_more : {legal : Origin → List Entry → Type 0} (old between new : PassView) → GoesOn legal old between → GoesOn legal between new → GoesOn legal old new
 goes_on_more {legal = legal} old between new first second = record {
   lock = second.lock ∙ first.lock;
   fixed = second.fixed ∙ first.fixed;
@@ -50,7 +49,7 @@ goes_on_more {legal = legal} old between new first second = record {
       (second.stays_legal (subst (λ (f : Fixed). IsLegalOver legal f.base between.front) (sym first.fixed) (first.stays_legal was)));
 }
 
-pub goes_on_act : {legal : Persist → List Entry → Type 0} (old new : PassView) (job : Job) (bytes reply : List ℕ) (done : Done) → Acts legal old job bytes done reply new → GoesOn legal old new
+pub goes_on_act : {legal : Origin → List Entry → Type 0} (old new : PassView) (job : Job) (bytes reply : List ℕ) (done : Done) → Acts legal old job bytes done reply new → GoesOn legal old new
 goes_on_act {legal = legal} old new job bytes reply done acts = record {
   lock = acts.lock;
   fixed = acts.fixed;
@@ -63,27 +62,27 @@ goes_on_act {legal = legal} old new job bytes reply done acts = record {
 -- ---- a refused opening
 
 -- nothing was entered, so the pass knows nobody still
-unentered : {legal : Persist → List Entry → Type 0} (old new : PassView) (bytes reply : List ℕ) (done : Done) → old.known ≡ [] → (acts : Acts legal old jobs.Open bytes done reply new) → new.front ≡ acts.before → new.known ≡ []
+unentered : {legal : Origin → List Entry → Type 0} (old new : PassView) (bytes reply : List ℕ) (done : Done) → old.known ≡ [] → (acts : Acts legal old jobs.Open bytes done reply new) → new.front ≡ acts.before → new.known ≡ []
 unentered old new bytes reply done nobody acts same =
     acts.known ∙ ap (λ (l : List Entry). l ++ acts.added) nobody ∙ nothing_more acts.before acts.added (sym acts.front ∙ same)
 
-pub refused_memory : {legal : Persist → List Entry → Type 0} (old new : PassView) (bytes reply : List ℕ) → old.known ≡ [] → Acts legal old jobs.Open bytes (dones.Opened (Err open_errors.Memory)) reply new → IsRefused endings.Memory new 0
+pub refused_memory : {legal : Origin → List Entry → Type 0} (old new : PassView) (bytes reply : List ℕ) → old.known ≡ [] → Acts legal old jobs.Open bytes (dones.Opened (Err open_errors.Memory)) reply new → IsRefused endings.Memory new 0
 refused_memory old new bytes reply nobody acts = record { done_is = refl; nobody = unentered old new bytes reply _ nobody acts acts.does.0; refuses = tt }
 
 -- where memory lacked, the journal had room
-pub memory_had_room : {legal : Persist → List Entry → Type 0} (old new : PassView) (bytes reply : List ℕ) → Acts legal old jobs.Open bytes (dones.Opened (Err open_errors.Memory)) reply new → HasRoomForClient new.fixed.limit new.front
+pub memory_had_room : {legal : Origin → List Entry → Type 0} (old new : PassView) (bytes reply : List ℕ) → Acts legal old jobs.Open bytes (dones.Opened (Err open_errors.Memory)) reply new → HasRoomForClient new.fixed.limit new.front
 memory_had_room old new bytes reply acts =
     subst (λ (f : Fixed). HasRoomForClient f.limit new.front) (sym acts.fixed)
     (subst (λ (h : List Entry). HasRoomForClient old.fixed.limit h) (sym acts.does.0) acts.does.1)
 
-pub refused_answer : {legal : Persist → List Entry → Type 0} (old new : PassView) (bytes reply : List ℕ) → old.known ≡ [] → Acts legal old jobs.Open bytes (dones.Opened (Err open_errors.Answer)) reply new → IsRefused endings.Answer new 0
+pub refused_answer : {legal : Origin → List Entry → Type 0} (old new : PassView) (bytes reply : List ℕ) → old.known ≡ [] → Acts legal old jobs.Open bytes (dones.Opened (Err open_errors.Answer)) reply new → IsRefused endings.Answer new 0
 refused_answer old new bytes reply nobody acts = record {
   done_is = refl;
   nobody = unentered old new bytes reply _ nobody acts acts.does.0;
   refuses = (ap (λ (f : Fixed). f.base) acts.fixed ∙ acts.does.1, acts.wrong);
 }
 
-pub refused_full : {legal : Persist → List Entry → Type 0} (old new : PassView) (bytes reply : List ℕ) (count limit : ℕ) → old.known ≡ [] → Acts legal old jobs.Open bytes (dones.Opened (Err (open_errors.JournalFull count limit))) reply new
+pub refused_full : {legal : Origin → List Entry → Type 0} (old new : PassView) (bytes reply : List ℕ) (count limit : ℕ) → old.known ≡ [] → Acts legal old jobs.Open bytes (dones.Opened (Err (open_errors.JournalFull count limit))) reply new
     → IsRefused (endings.JournalFull count limit) new 0
 refused_full old new bytes reply count limit nobody acts = record {
   done_is = refl;
@@ -96,18 +95,18 @@ refused_full old new bytes reply count limit nobody acts = record {
 }
 
 -- the opening's answer, by another form of it
-pub opened_as : {legal : Persist → List Entry → Type 0} (old new : PassView) (bytes reply : List ℕ) (result : Result ℕ OpenClientError) (error error_new : OpenClientError) → result ≡ Err error → error ≡ error_new
+pub opened_as : {legal : Origin → List Entry → Type 0} (old new : PassView) (bytes reply : List ℕ) (result : Result ℕ OpenClientError) (error error_new : OpenClientError) → result ≡ Err error → error ≡ error_new
     → Acts legal old jobs.Open bytes (dones.Opened result) reply new → Acts legal old jobs.Open bytes (dones.Opened (Err error_new)) reply new
 opened_as {legal = legal} old new bytes reply result error error_new is same acts =
     subst (λ (r : Result ℕ OpenClientError). Acts legal old jobs.Open bytes (dones.Opened r) reply new) (is ∙ ap (λ (e : OpenClientError). Err e) same) acts
 
 -- ---- an opening
 
-pub opened_ok : {legal : Persist → List Entry → Type 0} (old new : PassView) (bytes reply : List ℕ) (result : Result ℕ OpenClientError) (client : ℕ) → result ≡ Ok client
+pub opened_ok : {legal : Origin → List Entry → Type 0} (old new : PassView) (bytes reply : List ℕ) (result : Result ℕ OpenClientError) (client : ℕ) → result ≡ Ok client
     → Acts legal old jobs.Open bytes (dones.Opened result) reply new → Acts legal old jobs.Open bytes (dones.Opened (Ok client)) reply new
 opened_ok {legal = legal} old new bytes reply result client is acts = subst (λ (r : Result ℕ OpenClientError). Acts legal old jobs.Open bytes (dones.Opened r) reply new) is acts
 
-pub serves_first : {legal : Persist → List Entry → Type 0} (old new : PassView) (bytes reply : List ℕ) (client : ℕ) → old.known ≡ [] → Acts legal old jobs.Open bytes (dones.Opened (Ok client)) reply new → KnowsClient new client 0 []
+pub serves_first : {legal : Origin → List Entry → Type 0} (old new : PassView) (bytes reply : List ℕ) (client : ℕ) → old.known ≡ [] → Acts legal old jobs.Open bytes (dones.Opened (Ok client)) reply new → KnowsClient new client 0 []
 serves_first {legal = legal} old new bytes reply client nobody acts =
     let one : acts.added ≡ open_entry client ∷ [] = append_cancel_left acts.before acts.added (open_entry client ∷ []) (sym acts.front ∙ acts.does.entered) in
     let known : new.known ≡ open_entry client ∷ [] = acts.known ∙ ap (λ (l : List Entry). l ++ acts.added) nobody ∙ one in
@@ -140,7 +139,7 @@ pub record Turn (old new : PassView) (client : ℕ) (before added : List Entry) 
   pub known : new.known ≡ old.known ++ added
   pub own_is : own new.front client ≡ new.known
 
-pub turn_of : {legal : Persist → List Entry → Type 0} (old new : PassView) (client done : ℕ) (entries : List Entry) (job : Job) (bytes reply : List ℕ) (d : Done) → KnowsClient old client done entries
+pub turn_of : {legal : Origin → List Entry → Type 0} (old new : PassView) (client done : ℕ) (entries : List Entry) (job : Job) (bytes reply : List ℕ) (d : Done) → KnowsClient old client done entries
     → (acts : Acts legal old job bytes d reply new) → own acts.added client ≡ acts.added → Turn old new client acts.before acts.added
 turn_of old new client done entries job bytes reply d serves acts own_added =
     let there = all_own old client done entries serves in
@@ -522,7 +521,7 @@ pub record Answered (fixed : Fixed) (new : PassView) (client done word : ℕ) (l
   pub told : IsTold fixed new.wrong new.front client (done + 1) command reply
   pub decide : DecideFrom new.front client 1 (loaded ++ word ∷ [])
 
-pub answered : {legal : Persist → List Entry → Type 0} (old new : PassView) (client done word : ℕ) (list : List (List ℕ)) (loaded : List ℕ) (output : List ℕ) (entries : List Entry) (command reply : List ℕ) → KnowsClient old client done entries
+pub answered : {legal : Origin → List Entry → Type 0} (old new : PassView) (client done word : ℕ) (list : List (List ℕ)) (loaded : List ℕ) (output : List ℕ) (entries : List Entry) (command reply : List ℕ) → KnowsClient old client done entries
     → length list ≡ done → length loaded ≡ done → AreEntriesFrom old.fixed old.front client 1 list entries → AreRepliesFrom old.fixed old.wrong old.front client 1 list output → DecideFrom old.front client 1 loaded
     → Asks legal old (job_of client (done + 1) word) command reply new → Answered old.fixed new client done word list loaded output entries command reply
 answered {legal = legal} old new client done word list loaded output entries command reply serves count loads are replies decide (d, acts) =
@@ -557,7 +556,7 @@ answered {legal = legal} old new client done word list loaded output entries com
 -- ---- a close
 
 -- the client is closed, and what it was told stays told
-pub record ClosedAs (legal : Persist → List Entry → Type 0) (old new : PassView) (client done : ℕ) (entries : List Entry) : Type 0 where
+pub record ClosedAs (legal : Origin → List Entry → Type 0) (old new : PassView) (client done : ℕ) (entries : List Entry) : Type 0 where
   pub more : List Entry
   pub front : new.front ≡ old.front ++ more
   pub none : (upto : ℕ) → AddsNone more client upto
@@ -566,7 +565,7 @@ pub record ClosedAs (legal : Persist → List Entry → Type 0) (old new : PassV
   pub own_is : own new.front client ≡ new.known
   pub is_legal : IsLegalOver legal new.fixed.base new.front
 
-pub closed_as : {legal : Persist → List Entry → Type 0} (old new : PassView) (client done : ℕ) (entries : List Entry) (bytes reply : List ℕ) → KnowsClient old client done entries → Asks legal old (jobs.Close client) bytes reply new → ClosedAs legal old new client done entries
+pub closed_as : {legal : Origin → List Entry → Type 0} (old new : PassView) (client done : ℕ) (entries : List Entry) (bytes reply : List ℕ) → KnowsClient old client done entries → Asks legal old (jobs.Close client) bytes reply new → ClosedAs legal old new client done entries
 closed_as {legal = legal} old new client done entries bytes reply serves (dones.Closed closed, acts) =
     let one : acts.added ≡ close_entry client ∷ [] = append_cancel_left acts.before acts.added (close_entry client ∷ []) (sym acts.front ∙ acts.does.entered) in
     let own_added : own acts.added client ≡ acts.added = ap (λ (l : List Entry). own l client) one ∙ own_here client (close_entry client) [] refl ∙ sym one in

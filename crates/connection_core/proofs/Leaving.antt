@@ -1,7 +1,7 @@
 -- What both threads of a connection leave, put together.
 use Rattle.std.proofs.Common.{◌≡◌, ℕ, Bool, List, [], Option, Some, None, refl, sym, ap, ◌∙◌}
 use Rattle.history_spec.specs.Entry.{Entry}
-use Rattle.tab_spec.specs.Persist.{Persist}
+use Rattle.broker_lock.specs.Known.{Origin}
 use Rattle.crossbeam_channel.specs.Claims.{view}
 use Rattle.link_port.specs.Port.{at_end}
 use Rattle.broker_lock.specs.Pass.{PassView}
@@ -15,7 +15,7 @@ use Rattle.connection_core.specs.Links.{HasCause, IsClosed}
 use Rattle.connection_core.specs.Works.{ended_by}
 use Rattle.connection_core.proofs.Serving.{cause_both, closed_link, stopped_both}
 
-pub closed_both : {legal : Persist → List Entry → Type 0} (between : Between) (reader worker : Side) (seat : WordView) (ending : Ending) (old new : PassView) (client done : ℕ) (given left written written_new : Option (List ℕ)) (faults faults_new sink_faults sink_faults_new : ℕ)
+pub closed_both : {legal : Origin → List Entry → Type 0} (between : Between) (reader worker : Side) (seat : WordView) (ending : Ending) (old new : PassView) (client done : ℕ) (given left written written_new : Option (List ℕ)) (faults faults_new sink_faults sink_faults_new : ℕ)
     → ReaderLeaves between reader given left faults faults_new → WorkerLeaves legal between worker ending old new client done written written_new sink_faults sink_faults_new → IsFinished reader worker seat
     → IsClosed legal ending new client done given left written written_new (Some seat)
 closed_both between reader worker seat ending old new client done given left written written_new faults faults_new sink_faults sink_faults_new reads works finished =
@@ -24,7 +24,7 @@ closed_both between reader worker seat ending old new client done given left wri
     (ap (λ (v : WordView). v.role) finished.seat_is) (ap (λ (v : WordView). v.raised) finished.seat_is) (ap (λ (v : WordView). v.loaded) finished.seat_is) finished.each)
     works.closes
 
-pub caused_both : {legal : Persist → List Entry → Type 0} (between : Between) (reader worker : Side) (seat : WordView) (ending : Ending) (old new : PassView) (client done : ℕ) (given left written written_new : Option (List ℕ)) (faults faults_new sink_faults sink_faults_new : ℕ)
+pub caused_both : {legal : Origin → List Entry → Type 0} (between : Between) (reader worker : Side) (seat : WordView) (ending : Ending) (old new : PassView) (client done : ℕ) (given left written written_new : Option (List ℕ)) (faults faults_new sink_faults sink_faults_new : ℕ)
     → ReaderLeaves between reader given left faults faults_new → WorkerLeaves legal between worker ending old new client done written written_new sink_faults sink_faults_new → IsFinished reader worker seat
     → HasCause ending faults faults_new sink_faults sink_faults_new
 caused_both between reader worker seat ending old new client done given left written written_new faults faults_new sink_faults sink_faults_new reads works finished =

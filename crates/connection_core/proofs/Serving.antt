@@ -2,7 +2,6 @@
 use Rattle.std.proofs.Common.{◌≡◌, ◌≤◌, ◌+◌, ℕ, zero, suc, Bool, true, List, [], ◌∷◌, ◌++◌, length, take, All, Option, Some, None, refl, sym, ap, subst, ◌∙◌, append_assoc, arith, length-append, inl, inr}
 use Rattle.std.proofs.lemmas.List.{append-nil, map_push, take_all}
 use Rattle.std.proofs.Math.Seq.{take-append_seam}
-use Rattle.tab_spec.specs.Persist.{Persist}
 use Rattle.crossbeam_channel.specs.Claims.{Pass, view}
 use Rattle.link_port.specs.Port.{with_more}
 use Rattle.tab_spec.specs.declared.TheConstants.{RC_COMMAND_SIZE}
@@ -10,7 +9,7 @@ use Rattle.tab_spec.specs.Frame.{commands, is_bad}
 use Rattle.tab_spec.specs.Reply.{error_reply}
 use Rattle.history_spec.specs.Entry.{Entry}
 use Rattle.broker_lock.specs.declared.calls.Job.TheVariants as jobs
-use Rattle.broker_lock.specs.Known.{Fixed}
+use Rattle.broker_lock.specs.Known.{Fixed, Origin}
 use Rattle.broker_lock.specs.Pass.{PassView}
 use Rattle.cancel_words.specs.View.{IsZeroOrRaised, WordView, of_both}
 use Rattle.connection_core.specs.declared.ends.Ending.{Ending}
@@ -83,7 +82,7 @@ taken_command taken taken_new list command is more =
     more ∙ ap (λ (l : List Message). l ++ messages.Command command ∷ []) (is ∙ append-nil (messages_of list)) ∙ sym (map_push messages.Command list command)
 
 -- a command was taken, and its reply was written
-pub so_far_run : {legal : Persist → List Entry → Type 0} (old new : PassView) (client done : ℕ) (taken taken_new : List Message) (seat seat_new : WordView) (written between written_new : Option (List ℕ)) (command reply : List ℕ)
+pub so_far_run : {legal : Origin → List Entry → Type 0} (old new : PassView) (client done : ℕ) (taken taken_new : List Message) (seat seat_new : WordView) (written between written_new : Option (List ℕ)) (command reply : List ℕ)
     → SoFar old client done taken [] seat.loaded written between → taken_new ≡ taken ++ messages.Command command ∷ [] → AsksNext legal old client (done + 1) seat seat_new command reply new
     → written_new ≡ with_more between reply → SoFar new client (done + 1) taken_new [] seat_new.loaded written written_new
 so_far_run old new client done taken taken_new seat seat_new written between written_new command reply so more asks wrote =
@@ -107,7 +106,7 @@ so_far_run old new client done taken taken_new seat seat_new written between wri
     }
 
 -- a command was taken, and its reply wasn't written to its end
-pub so_far_cut : {legal : Persist → List Entry → Type 0} (old new : PassView) (client done : ℕ) (taken taken_new : List Message) (seat seat_new : WordView) (written between written_new : Option (List ℕ)) (command reply : List ℕ)
+pub so_far_cut : {legal : Origin → List Entry → Type 0} (old new : PassView) (client done : ℕ) (taken taken_new : List Message) (seat seat_new : WordView) (written between written_new : Option (List ℕ)) (command reply : List ℕ)
     → SoFar old client done taken [] seat.loaded written between → taken_new ≡ taken ++ messages.Command command ∷ [] → AsksNext legal old client (done + 1) seat seat_new command reply new
     → WroteFront reply between written_new → CutsShort new client (done + 1) taken_new seat_new.loaded written written_new
 so_far_cut old new client done taken taken_new seat seat_new written between written_new command reply so more asks front =
@@ -435,7 +434,7 @@ ends_stay (endings.JournalFull count limit) fixed wrong new_wrong history more c
 ends_stay endings.Answer fixed wrong new_wrong history more client done given taken output rises none ends = absurd ends
 
 -- the client is closed at the end of its connection
-pub closed_link : {legal : Persist → List Entry → Type 0} (ending : Ending) (old new : PassView) (client done : ℕ) (given left written written_new : Option (List ℕ)) (seat : WordView) (bytes reply : List ℕ) → IsStopped ending old client done given left written written_new seat
+pub closed_link : {legal : Origin → List Entry → Type 0} (ending : Ending) (old new : PassView) (client done : ℕ) (given left written written_new : Option (List ℕ)) (seat : WordView) (bytes reply : List ℕ) → IsStopped ending old client done given left written written_new seat
     → Asks legal old (jobs.Close client) bytes reply new → IsClosed legal ending new client done given left written written_new (Some seat)
 closed_link {legal = legal} ending old new client done given left written written_new seat bytes reply stopped asks =
     let closed = closed_as old new client done stopped.entries bytes reply stopped.serves asks in

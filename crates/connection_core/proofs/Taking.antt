@@ -5,8 +5,8 @@ use Rattle.atomic_table.specs.Seated.{TableId}
 use Rattle.crossbeam_channel.specs.Claims.{IsSeatAt, view}
 use Rattle.crossbeam_channel.specs.Ends.{sends_on}
 use Rattle.tab_spec.specs.Count.{largest_count}
-use Rattle.tab_spec.specs.Persist.{Persist}
 use Rattle.history_spec.specs.Entry.{Entry}
+use Rattle.broker_lock.specs.Known.{Origin}
 use Rattle.broker_lock.specs.Pass.{PassView}
 use Rattle.cancel_words.specs.View.{WordView}
 use Rattle.connection_core.specs.declared.between.Between.{Between}
@@ -37,12 +37,12 @@ some_same a b e = cc
 pub between_of : (begun : Option Start) (lock : TableId) (between : Between) (start : Start) → IsBegun begun lock between → begun ≡ Some start → start.between ≡ between
 between_of begun lock between start b is = ap (λ (s : Start). s.between) (some_same start b.start (sym is ∙ b.is)) ∙ b.between_is
 
-pub workers_of : {B K : Type 0} {legal : Persist → List Entry → Type 0} (written : K → Option (List ℕ)) (ended : K → Option Bool) (faults : K → ℕ) (begun : Option Start) (lock : TableId) (between : Between) (duty : Duty B K)
+pub workers_of : {B K : Type 0} {legal : Origin → List Entry → Type 0} (written : K → Option (List ℕ)) (ended : K → Option Bool) (faults : K → ℕ) (begun : Option Start) (lock : TableId) (between : Between) (duty : Duty B K)
     → IsBegun begun lock between → KeepsTo legal written ended faults begun duty → IsWorkers between duty.worker.side
 workers_of written ended faults begun lock between duty b k = subst (λ (x : Between). IsWorkers x duty.worker.side) b.between_is (k b.start b.is).side
 
 -- the client was just opened
-pub keeps_first : {B K : Type 0} {legal : Persist → List Entry → Type 0} (written : K → Option (List ℕ)) (ended : K → Option Bool) (faults : K → ℕ) (begun : Option Start) (between : Between) (first : PassView) (duty : Duty B K)
+pub keeps_first : {B K : Type 0} {legal : Origin → List Entry → Type 0} (written : K → Option (List ℕ)) (ended : K → Option Bool) (faults : K → ℕ) (begun : Option Start) (between : Between) (first : PassView) (duty : Duty B K)
     → begun ≡ Some (start_of between first (written duty.worker.sink) (ended duty.worker.sink) (faults duty.worker.sink)) → duty.stage ≡ stages.Going → duty.worker.done ≡ 0 → IsFreshWorkers between duty.worker.side
     → KnowsClient duty.worker.pass duty.worker.client 0 [] → GoesOn legal first duty.worker.pass → KeepsTo legal written ended faults begun duty
 keeps_first {legal = legal} written ended faults begun between first duty begins going none fresh serves goes_on start is =
@@ -85,7 +85,7 @@ below pass client done taken taken_new message loaded written written_new so mor
 -- ---- the end
 
 -- what is left of a duty, over what both hands share
-pub leaves_at : {B K : Type 0} {legal : Persist → List Entry → Type 0} (written : K → Option (List ℕ)) (ended : K → Option Bool) (faults : K → ℕ) (ending : Ending) (start : Start) (between : Between) (worker : Worker B K)
+pub leaves_at : {B K : Type 0} {legal : Origin → List Entry → Type 0} (written : K → Option (List ℕ)) (ended : K → Option Bool) (faults : K → ℕ) (ending : Ending) (start : Start) (between : Between) (worker : Worker B K)
     → start.between ≡ between → Closes legal written ended faults ending start worker
     → WorkerLeaves legal between worker.side ending start.pass worker.pass worker.client worker.done start.written (written worker.sink) start.faults (faults worker.sink)
 leaves_at {legal = legal} written ended faults ending start between worker same closes =

@@ -7,12 +7,11 @@ use Rattle.std.proofs.lemmas.Bool.{le-ltb}
 use Rattle.std.proofs.lemmas.List.{append-nil}
 use Rattle.std.proofs.lemmas.List.Folds.{find-append}
 use Rattle.std.proofs.lemmas.List.Sums.{sum_by_push}
-use Rattle.tab_spec.specs.Persist.{Persist}
 use Rattle.history_spec.specs.declared.EntryKind.{EntryKind}
 use Rattle.history_spec.specs.declared.EntryKind.TheVariants.{Open, Command, Canceled, Fault, Close}
 use Rattle.history_spec.specs.Entry.{Clients, Entry, clients_of, is_after, is_close_kind, kept_by, own, part_before, present_by, reserved, without}
 use Rattle.history_spec.specs.Told.{AnswersFrom, IsToldFull, Told, ToldBy, entry_of}
-use Rattle.broker_lock.specs.Known.{Fixed}
+use Rattle.broker_lock.specs.Known.{Fixed, Origin}
 use Rattle.broker_lock.proofs.Knowing.{own-append}
 use Rattle.broker_lock.proofs.Orderly.{clients_of-push}
 use Rattle.connection_core.specs.Links.{AreRepliesFrom, DecideFrom, Decides, IsTold}
@@ -182,15 +181,15 @@ decide_push history client number (first ∷ loaded) word decide decides = (
 -- ---- a device that tells its state
 
 -- no wrong answer is told then
-told_of : (fixed : Fixed) (wrong : Bool) (base : Persist) (history : List Entry) (client number : ℕ) (command reply : List ℕ) → fixed.base ≡ Some base → IsTold fixed wrong history client number command reply
+told_of : (fixed : Fixed) (wrong : Bool) (base : Origin) (history : List Entry) (client number : ℕ) (command reply : List ℕ) → fixed.base ≡ Some base → IsTold fixed wrong history client number command reply
     → Told history fixed.limit client number command reply
 told_of fixed wrong base history client number command reply is (inl told) = told
 told_of fixed wrong base history client number command reply is (inr answer) = absurd (some_none base (sym is ∙ answer.2))
   where
-    some_none : (b : Persist) → Some b ≡ None → ⊥
+    some_none : (b : Origin) → Some b ≡ None → ⊥
     some_none b e = cc e
 
-pub answers_of : (fixed : Fixed) (wrong : Bool) (base : Persist) (history : List Entry) (client number : ℕ) (list : List (List ℕ)) (bytes : List ℕ) → fixed.base ≡ Some base
+pub answers_of : (fixed : Fixed) (wrong : Bool) (base : Origin) (history : List Entry) (client number : ℕ) (list : List (List ℕ)) (bytes : List ℕ) → fixed.base ≡ Some base
     → AreRepliesFrom fixed wrong history client number list bytes → AnswersFrom history fixed.limit client number list bytes
 answers_of fixed wrong base history client number [] bytes is replies = replies
 answers_of fixed wrong base history client number (command ∷ list) bytes is replies = (

@@ -2,8 +2,8 @@
 use Rattle.std.specs.Prelude.{◌≡◌, ℕ, Bool, List, Option, Some, IfSome}
 use Rattle.crossbeam_channel.specs.Claims.{IsSeatAt}
 use Rattle.crossbeam_channel.specs.Ends.{sends_on}
-use Rattle.tab_spec.specs.Persist.{Persist}
 use Rattle.history_spec.specs.Entry.{Entry}
+use Rattle.broker_lock.specs.Known.{Origin}
 use Rattle.link_port.specs.Port.{at_end}
 use Rattle.cancel_words.specs.View.{WordView}
 use Rattle.connection_core.specs.declared.ends.Ending.{Ending}
@@ -25,20 +25,20 @@ pub record IsHandOf {B K J : Type 0} (link : Link B K J) (hand : Hand B K) : Typ
   pub home : IsSeatAt (sends_on link.home.sender) hand.home
 
 -- and the duty, where the reader has it, was done as it should be
-pub record IsKeeper {B K J : Type 0} (legal : Persist → List Entry → Type 0) (written : K → Option (List ℕ)) (ended : K → Option Bool) (faults : K → ℕ) (begun : Option Start) (link : Link B K J) (keeper : Keeper B K) : Type 0 where
+pub record IsKeeper {B K J : Type 0} (legal : Origin → List Entry → Type 0) (written : K → Option (List ℕ)) (ended : K → Option Bool) (faults : K → ℕ) (begun : Option Start) (link : Link B K J) (keeper : Keeper B K) : Type 0 where
   pub hand : IsHandOf link keeper.hand
   pub duty : IfSome keeper.duty (λ duty. KeepsTo legal written ended faults begun duty)
 
 -- what the worker of a duty that is over leaves, once its client is closed
-pub record Closes {B K : Type 0} (legal : Persist → List Entry → Type 0) (written : K → Option (List ℕ)) (ended : K → Option Bool) (faults : K → ℕ) (ending : Ending) (start : Start) (worker : Worker B K) : Type 0 where
+pub record Closes {B K : Type 0} (legal : Origin → List Entry → Type 0) (written : K → Option (List ℕ)) (ended : K → Option Bool) (faults : K → ℕ) (ending : Ending) (start : Start) (worker : Worker B K) : Type 0 where
   pub leaves : WorkerLeaves legal start.between worker.side ending start.pass worker.pass worker.client worker.done start.written (written worker.sink) start.faults (faults worker.sink)
   pub sink_ended : ended worker.sink ≡ ended_by ending start.ended
 
-abbrev pub ClosesTo : {B K : Type 0} → (legal : Persist → List Entry → Type 0) → (written : K → Option (List ℕ)) → (ended : K → Option Bool) → (faults : K → ℕ) → Ending → Option Start → Worker B K → Type 0
+abbrev pub ClosesTo : {B K : Type 0} → (legal : Origin → List Entry → Type 0) → (written : K → Option (List ℕ)) → (ended : K → Option Bool) → (faults : K → ℕ) → Ending → Option Start → Worker B K → Type 0
 ClosesTo legal written ended faults ending begun worker = (start : Start) → begun ≡ Some start → Closes legal written ended faults ending start worker
 
 -- what a connection leaves whose client was opened
-pub record Served {B S K : Type 0} (legal : Persist → List Entry → Type 0) (left : S → Option (List ℕ)) (failed : S → ℕ) (written : K → Option (List ℕ)) (ended : K → Option Bool) (faults : K → ℕ) (start : Start) (source : S) (end : LinkEnd B S K) (seat : WordView) : Type 0 where
+pub record Served {B S K : Type 0} (legal : Origin → List Entry → Type 0) (left : S → Option (List ℕ)) (failed : S → ℕ) (written : K → Option (List ℕ)) (ended : K → Option Bool) (faults : K → ℕ) (start : Start) (source : S) (end : LinkEnd B S K) (seat : WordView) : Type 0 where
   pub client : ℕ
   pub client_is : end.client ≡ Some client
   pub goes_on : GoesOn legal start.pass end.pass
@@ -46,5 +46,5 @@ pub record Served {B S K : Type 0} (legal : Persist → List Entry → Type 0) (
   pub sink_ended : ended end.sink ≡ at_end start.ended
   pub cause : HasCause end.ending (failed source) (failed end.source) start.faults (faults end.sink)
 
-abbrev pub ServedTo : {B S K : Type 0} → (legal : Persist → List Entry → Type 0) → (left : S → Option (List ℕ)) → (failed : S → ℕ) → (written : K → Option (List ℕ)) → (ended : K → Option Bool) → (faults : K → ℕ) → Option Start → S → LinkEnd B S K → WordView → Type 0
+abbrev pub ServedTo : {B S K : Type 0} → (legal : Origin → List Entry → Type 0) → (left : S → Option (List ℕ)) → (failed : S → ℕ) → (written : K → Option (List ℕ)) → (ended : K → Option Bool) → (faults : K → ℕ) → Option Start → S → LinkEnd B S K → WordView → Type 0
 ServedTo legal left failed written ended faults begun source end seat = (start : Start) → begun ≡ Some start → Served legal left failed written ended faults start source end seat

@@ -1,8 +1,8 @@
 -- What each thread of a connection leaves, and what is known once both are done.
 use Rattle.std.specs.Prelude.{◌≡◌, ℕ, List, [], ◌++◌, All, Option}
 use Rattle.crossbeam_channel.specs.Claims.{view}
-use Rattle.tab_spec.specs.Persist.{Persist}
 use Rattle.history_spec.specs.Entry.{Entry}
+use Rattle.broker_lock.specs.Known.{Origin}
 use Rattle.broker_lock.specs.declared.calls.Job.TheVariants as jobs
 use Rattle.broker_lock.specs.Pass.{PassView}
 use Rattle.cancel_words.specs.View.{IsZeroOrRaised, WordView, seat_of_both}
@@ -32,7 +32,7 @@ pub record ReaderLeaves (between : Between) (side : Side) (given left : Option (
   pub counts : EndCounts ended faults faults_new
 
 -- by the worker, which closed the client in a last turn
-pub record WorkerLeaves (legal : Persist → List Entry → Type 0) (between : Between) (side : Side) (ending : Ending) (old new : PassView) (client done : ℕ) (written written_new : Option (List ℕ)) (faults faults_new : ℕ) : Type 0 where
+pub record WorkerLeaves (legal : Origin → List Entry → Type 0) (between : Between) (side : Side) (ending : Ending) (old new : PassView) (client done : ℕ) (written written_new : Option (List ℕ)) (faults faults_new : ℕ) : Type 0 where
   pub last : PassView
   pub reply : List ℕ
   pub of : IsWorkers between side

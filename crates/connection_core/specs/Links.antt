@@ -4,7 +4,6 @@ use mathlib.Core.List.{IsPrefix}
 use Rattle.tab_spec.specs.declared.TheConstants.{RC_CANCELED, RC_COMMAND_SIZE, RC_DEVICE_ANSWER}
 use Rattle.tab_spec.specs.Count.{Rose}
 use Rattle.tab_spec.specs.Frame.{bad, commands, frames, meets_bad_size}
-use Rattle.tab_spec.specs.Persist.{Persist}
 use Rattle.tab_spec.specs.Reply.{error_reply}
 use Rattle.history_spec.specs.declared.EntryKind.{EntryKind}
 use Rattle.history_spec.specs.declared.EntryKind.TheVariants.{Open, Command, Canceled, Fault, Close}
@@ -13,7 +12,7 @@ use Rattle.history_spec.specs.Entry.{Entry, HasRoom, HasRoomForClient, canceled_
 use Rattle.history_spec.specs.Told.{Answers, Told, entry_of}
 use Rattle.link_port.specs.Port.{with_more}
 use Rattle.broker_lock.specs.Examples.{IsServed}
-use Rattle.broker_lock.specs.Known.{Fixed, IsLegalOver, IsUntold}
+use Rattle.broker_lock.specs.Known.{Fixed, IsLegalOver, IsUntold, Origin}
 use Rattle.broker_lock.specs.Pass.{PassView}
 use Rattle.broker_lock.specs.Serves.{IsAnswered, IsFailed}
 use Rattle.cancel_words.specs.View.{IsZeroOrRaised, WordView, of_both}
@@ -106,7 +105,7 @@ AreCanceledBy taken history client done = (number upto : ℕ) (e : Entry) → 1 
 pub record AnswersAll (fixed : Fixed) (wrong : Bool) (history : List Entry) (client done : ℕ) (list : List (List ℕ)) (output : List ℕ) : Type 0 where
   pub all : done ≡ length list
   pub replies : AreRepliesFrom fixed wrong history client 1 list output
-  pub answers : (base : Persist) → fixed.base ≡ Some base → Answers history fixed.limit client list output
+  pub answers : (base : Origin) → fixed.base ≡ Some base → Answers history fixed.limit client list output
 
 -- a front of the last reply was written, behind all of those before it
 pub record CutsReply (fixed : Fixed) (wrong : Bool) (history : List Entry) (client done : ℕ) (list : List (List ℕ)) (output : List ℕ) : Type 0 where
@@ -179,7 +178,7 @@ pub record IsStopped (ending : Ending) (pass : PassView) (client done : ℕ) (gi
 
 -- a client was opened, its connection came to its end, and it was closed. The pass knows its entries alone, and the history
 -- has just these of it. The seat of the cancel word is there
-pub record IsClosed (legal : Persist → List Entry → Type 0) (ending : Ending) (pass : PassView) (client done : ℕ) (given left written written_new : Option (List ℕ)) (word : Option WordView) : Type 0 where
+pub record IsClosed (legal : Origin → List Entry → Type 0) (ending : Ending) (pass : PassView) (client done : ℕ) (given left written written_new : Option (List ℕ)) (word : Option WordView) : Type 0 where
   pub entries : List Entry
   pub seat : WordView
   pub known : pass.known ≡ (open_entry client ∷ entries) ++ close_entry client ∷ []

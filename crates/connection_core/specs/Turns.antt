@@ -1,18 +1,17 @@
 -- What a turn leaves of a pass, and what a failed write leaves of a sink.
 use Rattle.std.specs.Prelude.{◌≡◌, ◌<◌, nat_le, ℕ, true, List, length, take, Option, if◌then◌else◌}
 use mathlib.Core.List.{IsPrefix}
-use Rattle.tab_spec.specs.Persist.{Persist}
 use Rattle.history_spec.specs.Entry.{Entry}
 use Rattle.link_port.specs.Port.{with_more}
 use Rattle.broker_lock.specs.declared.calls.Done.{Done}
 use Rattle.broker_lock.specs.declared.calls.Job.{Job}
 use Rattle.broker_lock.specs.declared.calls.Job.TheVariants as jobs
-use Rattle.broker_lock.specs.Known.{IsLegalOver}
+use Rattle.broker_lock.specs.Known.{IsLegalOver, Origin}
 use Rattle.broker_lock.specs.Pass.{Acts, PassView}
 use Rattle.cancel_words.specs.View.{WordView, with_loaded}
 
 -- this was asked in one turn, and answered
-abbrev pub Asks : (legal : Persist → List Entry → Type 0) → PassView → Job → (bytes reply : List ℕ) → PassView → Type 0
+abbrev pub Asks : (legal : Origin → List Entry → Type 0) → PassView → Job → (bytes reply : List ℕ) → PassView → Type 0
 Asks legal old job bytes reply new = (done : Done) × Acts legal old job bytes done reply new
 
 -- what is asked of a client's command: that it is run, or where this word covers its number, that it is canceled
@@ -25,14 +24,14 @@ pub record IsNextJob (client number word : ℕ) (seat seat_new : WordView) (job 
   pub job_is : job ≡ job_of client number word
 
 -- a word was loaded, and the client's next command was asked in one turn
-pub record AsksNext (legal : Persist → List Entry → Type 0) (old : PassView) (client number : ℕ) (seat seat_new : WordView) (bytes reply : List ℕ) (new : PassView) : Type 0 where
+pub record AsksNext (legal : Origin → List Entry → Type 0) (old : PassView) (client number : ℕ) (seat seat_new : WordView) (bytes reply : List ℕ) (new : PassView) : Type 0 where
   pub word : ℕ
   pub seat_is : seat_new ≡ with_loaded seat word
   pub asks : Asks legal old (job_of client number word) bytes reply new
 
 -- a pass after some turns, or none: the history that it has seen goes on, and is legal where it was. A wrong answer that it knows of
 -- is still known
-pub record GoesOn (legal : Persist → List Entry → Type 0) (old new : PassView) : Type 0 where
+pub record GoesOn (legal : Origin → List Entry → Type 0) (old new : PassView) : Type 0 where
   pub lock : new.lock ≡ old.lock
   pub fixed : new.fixed ≡ old.fixed
   pub parts : new.parts ≡ old.parts

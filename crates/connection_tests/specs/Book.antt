@@ -6,9 +6,8 @@ use Rattle.history_spec.specs.declared.TheConstants.{ENTRY_BYTES}
 use Rattle.history_spec.specs.declared.EntryKind.TheVariants.{Open, Command, Canceled, Fault, Close}
 use Rattle.history_spec.specs.Entry.{Entry, clients_of, close_entry, kept, open_entry}
 use Rattle.tab_spec.specs.declared.TheConstants.{RC_CANCELED}
-use Rattle.tab_spec.specs.Persist.{Persist}
 use Rattle.tab_spec.specs.Reply.{error_reply}
-use Rattle.broker_lock.specs.Known.{Fixed}
+use Rattle.broker_lock.specs.Known.{Fixed, Origin}
 
 -- GetRandom of eight bytes
 abbrev pub asked : List ℕ
@@ -71,5 +70,5 @@ abbrev pub canceled_client : List Entry
 canceled_client = open_entry 0 ∷ book_entry 0 1 (Canceled 1) (Some 0) ∷ close_entry 0 ∷ []
 
 -- what a history stands on, with this limit
-abbrev pub with_limit : Option Persist → ℕ → Fixed
+abbrev pub with_limit : Option Origin → ℕ → Fixed
 with_limit base limit = record { base = base; limit = limit; began = 0 }

@@ -1,9 +1,8 @@
 -- A history of three clients, for the worked examples of turns.
 use Rattle.std.specs.Prelude.{ℕ, List, [], ◌∷◌, ◌++◌, Option}
-use Rattle.tab_spec.specs.Persist.{Persist}
 use Rattle.history_spec.specs.declared.Pick.TheVariants.{Nothing}
 use Rattle.history_spec.specs.Entry.{Entry, close_entry, command_entry, fault_entry, open_entry}
-use Rattle.broker_lock.specs.Known.{Fixed}
+use Rattle.broker_lock.specs.Known.{Fixed, Origin}
 
 -- a command of one byte, with a reply of one
 abbrev pub short_entry : ℕ → ℕ → Entry
@@ -21,5 +20,5 @@ abbrev pub failed_entry : ℕ → Entry
 failed_entry faults = fault_entry 0 2 faults (5 ∷ []) (0x80 ∷ 0x01 ∷ 0 ∷ 0 ∷ 0 ∷ 0x0a ∷ 0 ∷ 0x0b ∷ 0 ∷ 0x02 ∷ [])
 
 -- what the history stands on, over a device that had counted three failures
-abbrev pub with_limit : Option Persist → ℕ → Fixed
+abbrev pub with_limit : Option Origin → ℕ → Fixed
 with_limit base limit = record { base = base; limit = limit; began = 3 }

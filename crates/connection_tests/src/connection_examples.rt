@@ -2,12 +2,12 @@
 
 ghost use Rattle.std.specs.Prelude.{◌≡◌, [], ◌∷◌, Some, None, true, false};
 ghost use Rattle.tab_spec.specs.Count.{largest_count};
-ghost use Rattle.tab_spec.specs.Persist.{Persist};
 ghost use Rattle.tab_spec.specs.Reply.{error_reply};
 ghost use Rattle.tab_spec.specs.declared.TheConstants.{RC_DEVICE_ANSWER, RC_JOURNAL_FULL};
 ghost use Rattle.tab_spec.specs.declared.TheConstants.{RC_CANCELED, RC_MEMORY};
 ghost use Rattle.history_spec.specs.Entry.{canceled_entry};
 ghost use Rattle.history_spec.specs.declared.EntryKind.TheVariants.{Command};
+ghost use Rattle.broker_lock.specs.Known.{Origin};
 ghost use Rattle.connection_core.specs.declared.ends.Ending.TheVariants as endings;
 ghost use Rattle.connection_tests.specs.Book.{answer, asked, book_entry, canceled_client};
 ghost use Rattle.connection_tests.specs.Book.{one_client, with_limit};
@@ -33,7 +33,7 @@ fn a_client_is_told_its_replies()
         (error_reply RC_DEVICE_ANSWER) }
     ensures none_came { IsTold (with_limit None 4408) false one_client 0 2 asked
         (error_reply RC_DEVICE_ANSWER) → ⊥ }
-    ensures told { (base : Persist)
+    ensures told { (base : Origin)
         → IsTold (with_limit (Some base) 4408) false one_client 0 2 asked
         (error_reply RC_DEVICE_ANSWER) → ⊥ }
 {}

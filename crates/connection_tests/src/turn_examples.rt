@@ -1,14 +1,13 @@
 //! Worked examples: what the definitions make of them, and what they refuse.
 
 ghost use Rattle.std.specs.Prelude.{◌≡◌, [], ◌∷◌, ◌++◌, true, false, Some, None, Ok, Err};
-ghost use Rattle.tab_spec.specs.Persist.{Persist};
 ghost use Rattle.history_spec.specs.Entry.{open_entry};
 ghost use Rattle.broker_lock.specs.declared.calls.Job.TheVariants as jobs;
 ghost use Rattle.broker_lock.specs.declared.calls.Closed.TheVariants as closes;
 ghost use Rattle.broker_lock.specs.declared.calls.OpenClientError.TheVariants as open_errors;
 ghost use Rattle.connection_tests.specs.Turns.{failed_entry, three_clients, two_clients};
 ghost use Rattle.connection_tests.specs.Turns.{with_limit};
-ghost use Rattle.broker_lock.specs.Known.{has_closed, knows, of_known};
+ghost use Rattle.broker_lock.specs.Known.{Origin, has_closed, knows, of_known};
 ghost use Rattle.broker_lock.specs.Pass.{MayAsk};
 ghost use Rattle.broker_lock.specs.Serves.{IsFailed, MayLeave, Opens};
 
@@ -54,7 +53,7 @@ fn a_client_needs_room()
     ensures another { Opens (with_limit None 644) three_clients
         (three_clients ++ open_entry 1 ∷ []) (Ok 1) → ⊥ }
     ensures untold { Opens (with_limit None 644) [] [] (Err open_errors.Answer) }
-    ensures told { (base : Persist) → Opens (with_limit (Some base) 644) [] []
+    ensures told { (base : Origin) → Opens (with_limit (Some base) 644) [] []
         (Err open_errors.Answer) → ⊥ }
 {}
 
@@ -69,5 +68,5 @@ fn a_close_leaves_something_or_nothing()
     ensures one { MayLeave (with_limit None 644) (closes.Orphans 1) }
     ensures none { MayLeave (with_limit None 644) (closes.Orphans 0) → ⊥ }
     ensures untold { MayLeave (with_limit None 644) closes.Answer }
-    ensures told { (base : Persist) → MayLeave (with_limit (Some base) 644) closes.Answer → ⊥ }
+    ensures told { (base : Origin) → MayLeave (with_limit (Some base) 644) closes.Answer → ⊥ }
 {}

@@ -13,7 +13,7 @@ use Rattle.tab_spec.specs.Session.{is_kind_number, kind_octet, kind_of}
 use Rattle.tab_spec.specs.Shape.{is_command_tag, number_of_session, octet_of}
 use Rattle.tab_spec.specs.Values.{Reading, number8, sized, sized_bytes, then_read}
 use Rattle.effect_spec.specs.Effect.{response_body}
-use Rattle.device_spec.specs.Answers.{answer_area, asks_of_handles, asks_of_tables, fits_handle, has_response_handle, is_context, is_error_form, is_hidden, is_of_tables, is_own, is_started_handle, is_success_form, is_whole, is_word, lists_handles, loads_object, loads_session, may_refuse, session_type_of, takes, word_at}
+use Rattle.device_spec.specs.Answers.{answer_area, asks_of_handles, asks_of_properties, asks_of_tables, fits_handle, has_response_handle, is_context, is_error_form, is_hidden, is_of_tables, is_own, is_started_handle, is_success_form, is_whole, is_word, lists_asked, lists_handles, loads_object, loads_session, may_refuse, session_type_of, takes, tells_asked, word_at}
 use Rattle.tab_laws.proofs.ReadBack.{fixed_bytes_again, number8_again, number32_again, sized_again}
 use Rattle.device_laws.specs.Effects.{is_of_effects}
 use Rattle.device_laws.proofs.Faults.{IsPlain}
@@ -103,30 +103,56 @@ form_of : (headed handled authorized saves context : Bool) → headed ≡ true �
     → (headed && handled && authorized && (not saves || context)) ≡ true
 form_of headed handled authorized saves context a b c d = rw (a, b, c, d) refl
 
-none_by : (capability handles tables : Bool) → capability ≡ false → (capability && handles && tables) ≡ false
-none_by capability handles tables is = rw is refl
+no_handles_by : (capability handles tables : Bool) → capability ≡ false → (capability && handles && tables) ≡ false
+no_handles_by capability handles tables is = rw is refl
 
-fewer_by : (capability properties handles tables : Bool) → (capability && (properties || (handles && tables))) ≡ false → (capability && handles && tables) ≡ false
-fewer_by true true handles tables is = absurd cc
-fewer_by true false handles tables is = is
-fewer_by false properties handles tables is = refl
+no_properties_by : (capability properties : Bool) → capability ≡ false → (capability && properties) ≡ false
+no_properties_by capability properties is = rw is refl
 
--- what isn't GetCapability asks for no handles, nor does what asks nothing of the tables of a client
-pub no_handles_asked : (asked : List ℕ) → (code_of asked == CC_GET_CAPABILITY) ≡ false → asks_of_handles asked ≡ false
-no_handles_asked asked other = none_by (code_of asked == CC_GET_CAPABILITY) _ _ other
+fewer_handles : (capability properties handles tables : Bool) → (capability && (properties || (handles && tables))) ≡ false → (capability && handles && tables) ≡ false
+fewer_handles true true handles tables is = absurd cc
+fewer_handles true false handles tables is = is
+fewer_handles false properties handles tables is = refl
 
-pub no_tables_asked : (asked : List ℕ) → asks_of_tables asked ≡ false → asks_of_handles asked ≡ false
+fewer_properties : (capability properties more : Bool) → (capability && (properties || more)) ≡ false → (capability && properties) ≡ false
+fewer_properties true true more is = absurd cc
+fewer_properties true false more is = refl
+fewer_properties false properties more is = refl
+
+-- a command that asks for no handles and for no property
+pub record AsksNoList (asked : List ℕ) : Type 0 where
+  pub handles : asks_of_handles asked ≡ false
+  pub properties : asks_of_properties asked ≡ false
+
+-- what isn't GetCapability is one, and so is what asks nothing of the tables of a client
+pub no_list_asked : (asked : List ℕ) → (code_of asked == CC_GET_CAPABILITY) ≡ false → AsksNoList asked
+no_list_asked asked other =
+    record {
+      handles = no_handles_by (code_of asked == CC_GET_CAPABILITY) _ _ other;
+      properties = no_properties_by (code_of asked == CC_GET_CAPABILITY) _ other;
+    }
+
+pub no_tables_asked : (asked : List ℕ) → asks_of_tables asked ≡ false → AsksNoList asked
 no_tables_asked asked none =
-    fewer_by (code_of asked == CC_GET_CAPABILITY) (is_word (λ capability. capability == 6) (word_at 10 asked))
-    (is_word (λ capability. capability == 1) (word_at 10 asked)) (is_word is_of_tables (word_at 14 asked)) none
+    let capability = code_of asked == CC_GET_CAPABILITY in
+    let properties = is_word (λ capability. capability == 6) (word_at 10 asked) in
+    let handles = is_word (λ capability. capability == 1) (word_at 10 asked) in
+    let tables = is_word is_of_tables (word_at 14 asked) in
+    record {
+      handles = fewer_handles capability properties handles tables none;
+      properties = fewer_properties capability properties (handles && tables) none;
+    }
 
 lists_none : (asks whole : Bool) → asks ≡ false → (not asks || whole) ≡ true
 lists_none asks whole is = rw is refl
 
 -- no list was asked for, and the response has the command's tag
-headed_by : (asked last : List ℕ) → asks_of_handles asked ≡ false → tag_of last ≡ tag_of asked → (lists_handles asked last && tag_of last == tag_of asked) ≡ true
+headed_by : (asked last : List ℕ) → AsksNoList asked → tag_of last ≡ tag_of asked → (lists_asked asked last && tag_of last == tag_of asked) ≡ true
 headed_by asked last none tag =
-    and_from (lists_handles asked last) (tag_of last == tag_of asked) (lists_none (asks_of_handles asked) _ none) (eq-eqb (tag_of last) (tag_of asked) tag)
+    and_from (lists_asked asked last) (tag_of last == tag_of asked)
+    (and_from (lists_handles asked last) (tells_asked asked last) (lists_none (asks_of_handles asked) _ none.handles)
+    (lists_none (asks_of_properties asked) _ none.properties))
+    (eq-eqb (tag_of last) (tag_of asked) tag)
 
 -- what a success needs besides its header
 pub record Formed (is_taken : Bool) (asked last : List ℕ) (named : Bool) : Type 0 where
@@ -148,10 +174,10 @@ formed_as is_taken asked last named has headed is begins formed save =
 
 pub success_taken : (is_kept is_taken : Bool) (asked last : List ℕ) (named : Bool) → is_frame last ≡ true → code_of last ≡ RC_SUCCESS
     → has_response_handle (row_of (code_of asked)) ≡ named → tag_of last ≡ tag_of asked → Formed is_taken asked last named
-    → (code_of asked == CC_CONTEXT_SAVE) ≡ false → asks_of_handles asked ≡ false → takes is_kept is_taken asked last ≡ true
+    → (code_of asked == CC_CONTEXT_SAVE) ≡ false → AsksNoList asked → takes is_kept is_taken asked last ≡ true
 success_taken is_kept is_taken asked last named frame success has tag formed save none =
     success_by (is_frame last) (code_of last == RC_SUCCESS) (is_success_form is_taken asked last) _ frame (eq-eqb (code_of last) RC_SUCCESS success)
-    (formed_as is_taken asked last named (has_response_handle (row_of (code_of asked))) (lists_handles asked last && tag_of last == tag_of asked) has
+    (formed_as is_taken asked last named (has_response_handle (row_of (code_of asked))) (lists_asked asked last && tag_of last == tag_of asked) has
     (headed_by asked last none tag) formed save)
 
 -- ---- authorizations of responses
@@ -245,7 +271,7 @@ takes_by frame success headed named handled first authorized saved form refuse s
 pub takes_same : (is_kept is_taken : Bool) (asked last : List ℕ) → (code_of asked == CC_CONTEXT_LOAD) ≡ false → (code_of asked == CC_START_AUTH_SESSION) ≡ false
     → takes is_kept is_taken asked last ≡ takes true true asked last
 takes_same is_kept is_taken asked last load start =
-    takes_by (is_frame last) (code_of last == RC_SUCCESS) (lists_handles asked last && tag_of last == tag_of asked) (has_response_handle (row_of (code_of asked)))
+    takes_by (is_frame last) (code_of last == RC_SUCCESS) (lists_asked asked last && tag_of last == tag_of asked) (has_response_handle (row_of (code_of asked)))
     (is_word (fits_handle is_taken asked) (word_at 10 last)) (is_word (fits_handle true asked) (word_at 10 last)) _ _ (is_error_form last)
     (may_refuse is_kept asked (code_of last)) (may_refuse true asked (code_of last)) (fits_same is_taken asked (word_at 10 last) start)
     (refuse_same is_kept asked (code_of last) load)
@@ -308,7 +334,7 @@ takes_both true false headed named handled first authorized saved false refuse s
 
 pub takes_more : (is_kept is_taken : Bool) (asked last : List ℕ) → takes is_kept is_taken asked last ≡ true → takes false false asked last ≡ true
 takes_more is_kept is_taken asked last e =
-    takes_both (is_frame last) (code_of last == RC_SUCCESS) (lists_handles asked last && tag_of last == tag_of asked) (has_response_handle (row_of (code_of asked)))
+    takes_both (is_frame last) (code_of last == RC_SUCCESS) (lists_asked asked last && tag_of last == tag_of asked) (has_response_handle (row_of (code_of asked)))
     (is_word (fits_handle is_taken asked) (word_at 10 last)) (is_word (fits_handle false asked) (word_at 10 last)) _ _ (is_error_form last)
     (may_refuse is_kept asked (code_of last)) (may_refuse false asked (code_of last)) (fits_more is_taken asked (word_at 10 last))
     (may_refuse_more is_kept asked (code_of last)) e

@@ -29,7 +29,7 @@ use Rattle.device_spec.specs.Answers.{fits_handle, has_response_handle, is_word,
 use Rattle.device_spec.specs.Slots.{SlotState, IsSlots, Step, effect_by, free_slot, is_free, made_by, room_for, sessions_left, slot_effect, slot_operands, slot_tables, slot_admitted, slot_step, unless_full}
 use Rattle.tab_laws.proofs.Admissions.{admitted_is_shape, admitted_row, admitted_tag, found_code}
 use Rattle.device_laws.specs.Effects.{is_managed, is_of_effects}
-use Rattle.device_laws.proofs.AnswerForms.{command_tag_fits, IsAnswer, OfEffects, body_whole, error_taken, handle_of_response, no_handles_asked, of_effects, own_none, session_answer, success_taken, tag_of_response, transient_octet}
+use Rattle.device_laws.proofs.AnswerForms.{command_tag_fits, IsAnswer, OfEffects, body_whole, error_taken, handle_of_response, no_list_asked, of_effects, own_none, session_answer, success_taken, tag_of_response, transient_octet}
 use Rattle.device_laws.proofs.ContextSteps.{step_goes}
 use Rattle.device_laws.proofs.FaultRows.{closed_plain, outcome_plain}
 use Rattle.device_laws.proofs.Faults.{Fails, IsPlain}
@@ -224,7 +224,7 @@ plain_taken bytes tag params answer asked small is frame =
     success_taken false false bytes last false frame (code_of_response tag RC_SUCCESS (response_body tag params answer) (omega arith)) asked.has
     (tag_of_response tag RC_SUCCESS (response_body tag params answer) asked.tag_fits ∙ asked.tag_is)
     (record { handled = refl; authorized = authorized_as tag (tag_of bytes) _ asked.tag_is (body_whole tag params answer (omega (arith, small)) is) })
-    asked.of.save (no_handles_asked bytes asked.of.capability)
+    asked.of.save (no_list_asked bytes asked.of.capability)
 
 object_taken : (bytes : List ℕ) (tag number : ℕ) (params answer : List ℕ) → Asked bytes tag true → number ≤ 254 → length params ≤ 4000
     → ((tag == ST_SESSIONS) ≡ true → IsAnswer answer)
@@ -240,7 +240,7 @@ object_taken bytes tag number params answer asked few small is frame =
           ∙ object_fits bytes number asked.of few;
       authorized = authorized_as tag (tag_of bytes) _ asked.tag_is (body_whole tag params answer (omega (arith, small)) is);
     })
-    asked.of.save (no_handles_asked bytes asked.of.capability)
+    asked.of.save (no_list_asked bytes asked.of.capability)
 
 made_taken : (bytes : List ℕ) (slots : SlotState) (created : Created) (named : Bool) (tag : ℕ) (params answer : List ℕ) → Asked bytes tag named
     → length slots.slots ≤ 254 → length params ≤ 4000 → ((tag == ST_SESSIONS) ≡ true → IsAnswer answer) → Makes named created → TellsBy named created

@@ -9,7 +9,7 @@ use Rattle.tab_spec.specs.declared.TheConstants.{ST_NO_SESSIONS, RC_SUCCESS}
 use Rattle.tab_spec.specs.Frame.{is_frame}
 use Rattle.tab_spec.specs.Reply.{response}
 use Rattle.effect_spec.specs.Capabilities.{joined_items}
-use Rattle.device_spec.specs.Answers.{handles_from, is_list_from, is_success_form, is_word, listed_handles, lists_handles, may_be_listed, takes, word_at}
+use Rattle.device_spec.specs.Answers.{handles_from, is_list_from, is_success_form, is_word, listed_handles, lists_asked, lists_handles, may_be_listed, takes, word_at}
 use Rattle.device_spec.specs.Remains.{handles_command}
 use Rattle.device_laws.proofs.Frames.{response_is_frame}
 
@@ -81,7 +81,7 @@ or_second : (first second : Bool) → second ≡ true → (first || second) ≡ 
 or_second true second is = refl
 or_second false second is = is
 
-lists_form : (lists : Bool) → lists ≡ true → (lists && true && true && true && true) ≡ true
+pub lists_form : (lists : Bool) → lists ≡ true → (lists && true && true && true && true) ≡ true
 lists_form lists is = rw is refl
 
 pub list_taken : (property : ℕ) (handles : List ℕ) → property < 2 ^ 32 → length handles ≤ 254 → AreListed property handles
@@ -93,4 +93,5 @@ list_taken property handles fits few all =
     let lists : lists_handles asked last ≡ true =
     or_second _ (is_word (is_list_from last) (word_at 14 asked)) (ap (is_word (is_list_from last)) from ∙ list_is property handles few all) in
     and_from (is_frame last) (is_success_form true asked last)
-    (response_is_frame ST_NO_SESSIONS RC_SUCCESS (list_body handles) (omega (arith, length-handles handles, few))) (lists_form (lists_handles asked last) lists)
+    (response_is_frame ST_NO_SESSIONS RC_SUCCESS (list_body handles) (omega (arith, length-handles handles, few)))
+    (lists_form (lists_asked asked last) (and_from (lists_handles asked last) true lists refl))

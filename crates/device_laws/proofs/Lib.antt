@@ -27,4 +27,5 @@ pub mod Counters
 pub mod HandleLists
 pub mod Held
 pub mod Listing
+pub mod Telling
 pub mod Flushing

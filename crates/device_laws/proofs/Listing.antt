@@ -27,7 +27,7 @@ use Rattle.device_laws.proofs.Held.{objects_few, objects_listed, sessions_few, s
 
 -- ---- the step
 
-abbrev list_row : CommandRow
+abbrev pub list_row : CommandRow
 list_row = command_row CC_GET_CAPABILITY Absent Absent 0 false
 
 abbrev list_params : ℕ → List ℕ

@@ -18,7 +18,7 @@ use Rattle.device_spec.specs.ContextCommands.{context_load_command, context_save
 use Rattle.device_spec.specs.Slots.{SlotState, IsSlots, Step, context_object, free_slot, in_slot, is_free, object_at, slot_step, step_by}
 use Rattle.tab_laws.proofs.ReadBack.{Gives, gives_next}
 use Rattle.tab_laws.proofs.Objects.{length-sized}
-use Rattle.device_laws.proofs.AnswerForms.{handle_of_response, success_taken, transient_octet}
+use Rattle.device_laws.proofs.AnswerForms.{handle_of_response, no_list_asked, success_taken, transient_octet}
 use Rattle.device_laws.proofs.Answering.{free_few}
 use Rattle.device_laws.proofs.Contexts.{context_again, context_length, object_context_small}
 use Rattle.device_laws.proofs.ContextSteps.{object_flush_step, object_load_step, object_save_step}
@@ -193,4 +193,4 @@ load_taken slots context o sound started small free is =
           ∙ load_fits context (free_slot slots.slots) (saved_word context has.0 has.1) few;
       authorized = refl;
     })
-    refl refl
+    refl (no_list_asked command refl)

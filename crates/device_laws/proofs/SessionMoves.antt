@@ -17,7 +17,7 @@ use Rattle.effect_spec.specs.Contexts.{Context, context_encrypted, context_integ
 use Rattle.device_spec.specs.Answers.{fits_handle, is_context_of, is_word, loads_session, takes, word_at}
 use Rattle.device_spec.specs.ContextCommands.{context_load_command, context_save_command, flush_context_command}
 use Rattle.device_spec.specs.Slots.{SlotState, SessionPlace, IsSlots, Step, saved, context_session, gap_of, is_active_with, loaded_count, loaded_session, place_of, inactive, session_at, session_in_place, slot_step, step_by, with_place}
-use Rattle.device_laws.proofs.AnswerForms.{handle_of_response, success_taken}
+use Rattle.device_laws.proofs.AnswerForms.{handle_of_response, no_list_asked, success_taken}
 use Rattle.device_laws.proofs.FreshContexts.{place_saved}
 use Rattle.device_laws.proofs.Moves.{HasHandle, context_reads, flushed_form, handle_read, saved_form}
 use Rattle.device_laws.proofs.Replies.{step_replies}
@@ -150,4 +150,4 @@ session_load_taken slots context handle number s sound started small fits sessio
       handled = ap (is_word (fits_handle true command)) word ∙ load_fits context handle (saved_word context handle has.0 has.1) session;
       authorized = refl;
     })
-    refl refl
+    refl (no_list_asked command refl)

@@ -1,7 +1,8 @@
--- What a device tells of what it holds, and what a flush of it leaves.
+-- What a device tells of what it holds and of its numbers, and what a flush leaves.
 use Rattle.std.specs.Prelude.{◌≡◌, ℕ, true, List}
-use Rattle.device_spec.specs.Answers.{listed_handles, takes}
+use Rattle.device_spec.specs.Answers.{listed_handles, takes, value_told}
 use Rattle.device_spec.specs.ContextCommands.{flush_context_command}
+use Rattle.device_spec.specs.Numbers.{number_command}
 use Rattle.device_spec.specs.Remains.{emptied, handles_command, remains}
 use Rattle.device_spec.specs.Slots.{IsSlots, SlotState, slot_step}
 
@@ -10,6 +11,12 @@ pub record IsListed (slots : SlotState) (property : ℕ) (handles : List ℕ) : 
   pub same : (slot_step slots (handles_command property)).0 ≡ slots
   pub taken : takes true true (handles_command property) (slot_step slots (handles_command property)).1 ≡ true
   pub handles_are : listed_handles (slot_step slots (handles_command property)).1 ≡ handles
+
+-- the device tells this value of the property, a broker takes the response, and nothing changes
+pub record IsTold (slots : SlotState) (property value : ℕ) : Type 0 where
+  pub same : (slot_step slots (number_command property)).0 ≡ slots
+  pub taken : takes true true (number_command property) (slot_step slots (number_command property)).1 ≡ true
+  pub value_is : value_told (slot_step slots (number_command property)).1 ≡ value
 
 -- what has this handle is flushed, and the others are left: a broker takes the response, and nothing else changes
 pub record IsFlushed (slots : SlotState) (handle : ℕ) (rest : List ℕ) : Type 0 where

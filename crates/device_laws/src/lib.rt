@@ -20,4 +20,4 @@ pub use laws::{
     session_contexts_are_opened, sessions_are_moved, slot_replies_are_frames, startup_starts,
     two_commands_are_answered_by_what_is_held,
 };
-pub use remains::{remains_are_flushed, remains_are_listed};
+pub use remains::{numbers_are_told, remains_are_flushed, remains_are_listed};

@@ -5,7 +5,7 @@ use Rattle.std.proofs.lemmas.Bool.{eqb-true}
 use Rattle.tab_spec.specs.declared.TheConstants.{CC_STARTUP, CC_START_AUTH_SESSION, CC_CONTEXT_SAVE, RC_INITIALIZE, RC_SUCCESS, ST_SESSIONS, HEADER_BYTES}
 use Rattle.tab_spec.specs.Frame.{code_of, is_frame, reported_code, tag_of}
 use Rattle.tab_spec.specs.Commands.{row_of}
-use Rattle.device_spec.specs.Answers.{IsWrongAnswer, answer_area, fits_handle, has_response_handle, is_context, is_whole, is_word, word_at, is_error_form, is_own, is_success_form, lists_handles, may_refuse, takes, wrong}
+use Rattle.device_spec.specs.Answers.{IsWrongAnswer, answer_area, fits_handle, has_response_handle, is_context, is_whole, is_word, word_at, is_error_form, is_own, is_success_form, lists_asked, may_refuse, takes, wrong}
 use Rattle.device_spec.specs.Slots.{SlotState, slot_step}
 use Rattle.device_port.specs.Device.{Answered, Transmission, newest_response}
 use Rattle.device_port.specs.Own.{IsAnswered, IsOwn, Succeeds}
@@ -27,7 +27,7 @@ takes_either asked last none =
     ap (λ (fits : ℕ → Bool).
     is_frame last
     && (if code_of last == RC_SUCCESS then
-    lists_handles asked last
+    lists_asked asked last
     && tag_of last == tag_of asked
     && (not has_handle || is_word fits (word_at HEADER_BYTES last))
     && (not (tag_of asked == ST_SESSIONS) || is_whole (answer_area (drop (if has_handle then HEADER_BYTES + 4 else HEADER_BYTES) last)))

@@ -25,8 +25,9 @@ use tab_wire::{code_of, is_session_handle, octet_of, row_of, tag_of};
 
 /// Whether a broker takes a response as the answer to the command that it sent (Part 1,
 /// "Command/Response Structure"). A success has the command's tag, the handle, the authorization
-/// and the context that the command asks for, each of them whole. An error is ten bytes, and has
-/// none of the codes that the broker sees to. Every other response is a wrong answer.
+/// and the context that the command asks for, each of them whole, and of GetCapability the handles
+/// or the one property that it asks for. An error is ten bytes, and has none of the codes that the
+/// broker sees to. Every other response is a wrong answer.
 ///
 /// Two things the broker tells that no bytes show: whether a context that the command loads is one
 /// that it kept itself, and whether no new session can have the number of the response's handle,
@@ -66,6 +67,9 @@ const SAVED_HANDLE_PLACE: usize = HEADER_BYTES as usize + 8;
 const COUNT_PLACE: usize = HEADER_BYTES as usize + 5;
 
 const LIST_PLACE: usize = HEADER_BYTES as usize + 9;
+
+// Where the value of the first property stands, in a response that has properties.
+const VALUE_PLACE: usize = LIST_PLACE + 4;
 
 // Whether it is a ContextLoad of a session.
 fn loads_session(asked: &[u8]) -> bool
@@ -441,6 +445,59 @@ fn lists_handles(asked: &[u8], last: &[u8]) -> bool
     }
 }
 
+// Whether GetCapability asks for properties.
+fn asks_of_properties(asked: &[u8]) -> bool
+    requires { IsTrue (is_frame asked.now) }
+    ensures { result ≡ answers.asks_of_properties asked.now }
+{
+    if code_of(asked) != CC_GET_CAPABILITY {
+        return false;
+    }
+    word_at(asked, HEADER_BYTES as usize) == Some(6)
+}
+
+// Whether a response tells this property and nothing else (Part 2, "TPMS_TAGGED_PROPERTY").
+fn tells_property(last: &[u8], property: u32) -> bool
+    ensures { result ≡ answers.tells_property last.now property }
+{
+    if word_at(last, HEADER_BYTES as usize + 1) != Some(6) {
+        return false;
+    }
+    if word_at(last, COUNT_PLACE) != Some(1) {
+        return false;
+    }
+    if word_at(last, LIST_PLACE) != Some(property) {
+        return false;
+    }
+    last.len() == VALUE_PLACE + 4
+}
+
+// Whether the response tells the property that was asked for, where one was.
+fn tells_asked(asked: &[u8], last: &[u8]) -> bool
+    requires { IsTrue (is_frame asked.now) }
+    ensures { result ≡ answers.tells_asked asked.now last.now }
+{
+    if !asks_of_properties(asked) {
+        return true;
+    }
+    match word_at(asked, HEADER_BYTES as usize + 4) {
+        None => false,
+        Some(property) => tells_property(last, property),
+    }
+}
+
+// Whether the response has the handles or the property that was asked for, where any was.
+fn lists_asked(asked: &[u8], last: &[u8]) -> bool
+    requires asked { IsTrue (is_frame asked.now) }
+    requires last { IsTrue (is_frame last.now) }
+    ensures { result ≡ answers.lists_asked asked.now last.now }
+{
+    if !lists_handles(asked, last) {
+        return false;
+    }
+    tells_asked(asked, last)
+}
+
 // Whether a response has the form of a success.
 fn is_success_form(asked: &[u8], last: &[u8], is_taken: bool) -> bool
     requires asked { IsTrue (is_frame asked.now) }
@@ -448,7 +505,7 @@ fn is_success_form(asked: &[u8], last: &[u8], is_taken: bool) -> bool
     ensures { result ≡ answers.is_success_form is_taken asked.now last.now }
 {
     let named = has_response_handle(code_of(asked));
-    lists_handles(asked, last)
+    lists_asked(asked, last)
         && tag_of(last) == tag_of(asked)
         && is_handled(named, asked, last, is_taken)
         && is_authorized(named, asked, last)

@@ -3,6 +3,7 @@
 ghost use Rattle.std.specs.Prelude.{◌≡◌, ◌≤◌, length, take, drop, true, Some, IfSome, OnOk};
 ghost use Rattle.std.specs.Int.{w32, from_be_bytes};
 ghost use Rattle.device_spec.specs.Answers.{takes};
+ghost use Rattle.device_spec.specs.Answers as answers;
 ghost use Rattle.device_spec.specs.ContextCommands.{command_bytes};
 ghost use Rattle.device_spec.specs.Slots.{slot_step};
 ghost use Rattle.device_port.specs.Device.{Answered, last_of};
@@ -42,6 +43,14 @@ pub fn handle_of(reply: &[u8]) -> u32
     ensures { result ≡ from_be_bytes w32 (take 4 (drop 10 reply.now)) }
 {
     u32::from_be_bytes([reply[10], reply[11], reply[12], reply[13]])
+}
+
+/// The value of the one property that a response tells.
+pub fn value_told(reply: &[u8]) -> u32
+    requires { 27 ≤ length reply.now }
+    ensures { result ≡ answers.value_told reply.now }
+{
+    u32::from_be_bytes([reply[23], reply[24], reply[25], reply[26]])
 }
 
 /// Sends a command of the broker's own, to which a device has no reason to answer anything but

@@ -167,14 +167,44 @@ is_list_from last property =
 abbrev pub lists_handles : List ℕ → List ℕ → Bool
 lists_handles asked last = not (asks_of_handles asked) || is_word (is_list_from last) (word_at (HEADER_BYTES + 4) asked)
 
+-- ---- one property (Part 2, "TPMS_TAGGED_PROPERTY")
+
+-- whether GetCapability asks for properties
+abbrev pub asks_of_properties : List ℕ → Bool
+asks_of_properties asked = code_of asked == CC_GET_CAPABILITY && is_word (λ capability. capability == 6) (word_at HEADER_BYTES asked)
+
+-- where the value stands behind the first property of a response
+abbrev pub value_place : ℕ
+value_place = list_place + 4
+
+-- the value that it has
+abbrev pub value_told : List ℕ → ℕ
+value_told last = from_be_bytes w32 (take 4 (drop value_place last))
+
+-- whether a response tells this property and nothing else, whether or not more are left over
+abbrev pub tells_property : List ℕ → ℕ → Bool
+tells_property last property =
+    is_word (λ capability. capability == 6) (word_at (HEADER_BYTES + 1) last)
+    && is_word (λ count. count == 1) (word_at count_place last)
+    && is_word (λ first. first == property) (word_at list_place last)
+    && length last == value_place + 4
+
+-- whether the response tells the property that was asked for, where one was
+abbrev pub tells_asked : List ℕ → List ℕ → Bool
+tells_asked asked last = not (asks_of_properties asked) || is_word (tells_property last) (word_at (HEADER_BYTES + 4) asked)
+
 -- ---- the whole success
 
--- the list of handles that was asked for, the command's tag, a handle where there has to be one, an authorization where the
+-- whether the response has the handles or the property that was asked for, where any was
+abbrev pub lists_asked : List ℕ → List ℕ → Bool
+lists_asked asked last = lists_handles asked last && tells_asked asked last
+
+-- the list of handles or the property that was asked for, the command's tag, a handle where there has to be one, an authorization where the
 -- command has one, and the context that was asked for
 abbrev pub is_success_form : Bool → List ℕ → List ℕ → Bool
 is_success_form is_taken asked last =
     let has_handle = has_response_handle (row_of (code_of asked)) in
-    lists_handles asked last
+    lists_asked asked last
     && tag_of last == tag_of asked
     && (not has_handle || is_word (fits_handle is_taken asked) (word_at HEADER_BYTES last))
     && (not (tag_of asked == ST_SESSIONS) || is_whole (answer_area (drop (if has_handle then HEADER_BYTES + 4 else HEADER_BYTES) last)))

@@ -7,4 +7,16 @@ pub const MOST_OBJECT_CONTEXT_BYTES: u32 = 512;
 
 pub const MOST_SESSION_CONTEXT_BYTES: u32 = 256;
 
+/// The properties that are a device's numbers (Part 2, "TPM_PT"): its slots for objects.
+pub const PT_HR_TRANSIENT_MIN: u32 = 0x10e;
+
+/// The sessions that it can have loaded.
+pub const PT_HR_LOADED_MIN: u32 = 0x110;
+
+/// The sessions that may be active, loaded and saved.
+pub const PT_ACTIVE_SESSIONS_MAX: u32 = 0x111;
+
+/// How far apart the numbers of session contexts may be.
+pub const PT_CONTEXT_GAP_MAX: u32 = 0x114;
+
 mod examples;

@@ -2,6 +2,8 @@
 use Rattle.std.proofs.Common.{◌≡◌, ℕ, true, false, List, ◌++◌, refl, ap, sym, ◌∙◌, subst, arith}
 use Rattle.std.specs.Prelude.{Option, Some, None, IfSome, is_some}
 use Rattle.tab_spec.specs.Commands.{startup_command}
+use Rattle.tab_spec.specs.declared.numbers.Numbers.{Numbers}
+use Rattle.tab_spec.specs.Numbers.{AreInRange}
 use Rattle.tab_spec.specs.Values.{AreBytes}
 use Rattle.device_spec.specs.Answers.{listed_handles, takes}
 use Rattle.device_spec.specs.Remains.{handles_command, object_handles, session_handles}
@@ -9,17 +11,10 @@ use Rattle.device_spec.specs.Slots.{IsSlots, SlotState, slot_step}
 use Rattle.device_port.specs.Device.{Answered}
 use Rattle.device_laws.specs.Remains.{IsListed}
 use Rattle.device_laws.proofs.Replies.{startup_starts, step_keeps}
-use Rattle.device_start.specs.Start.{FindsIf, HoldsNoMoreIf}
+use Rattle.device_start.specs.Start.{FindsIf, HoldsNoMoreIf, IsRunning, IsStartable, Runs, running}
 
 pub some_same : {X : Type 0} {x y : X} → Some x ≡ Some y → x ≡ y
 some_same is = cc
-
--- a device that is as it was, but started
-abbrev pub running : SlotState → SlotState
-running slots = record slots { started = true }
-
-abbrev pub Runs : Option SlotState → Option SlotState → Type 0
-Runs old new = (slots : SlotState) → old ≡ Some slots → new ≡ Some (running slots)
 
 pub runs_few : (old new : Option SlotState) → Runs old new → HoldsNoMoreIf old new
 runs_few old new runs slots is = (running slots, runs slots is, record { few = omega arith; kept = refl })
@@ -49,6 +44,26 @@ startup_untold None new reply answered untaken = (answered, answered)
 startup_untold (Some s) new reply answered untaken =
     let yes : takes true true startup_command reply ≡ true = ap (takes true true startup_command) answered.1 ∙ (startup_starts s).taken in
     absurd cc
+
+-- a device that runs and is sound, seen from itself
+pub runs_here : (state : Option SlotState) → IfSome state IsRunning → Runs state state
+runs_here None runs slots is = absurd cc
+runs_here (Some s) runs slots is =
+    let started : slots.started ≡ true = ap (λ (t : SlotState). t.started) (sym (some_same is)) ∙ runs.started in
+    is ∙ (λ i. Some (record slots { started = started i }))
+
+pub sound_here : (state : Option SlotState) → IfSome state IsRunning → IfSome state IsSlots
+sound_here None runs = tt
+sound_here (Some s) runs = runs.sound
+
+-- so is one that may be started, once it runs, where its numbers are in range
+pub running_now : (numbers : Numbers) (old now : Option SlotState) → is_some now ≡ is_some old → IfSome old IsStartable
+    → IfSome old (λ slots. slots.numbers ≡ numbers) → AreInRange numbers → Runs old now → IfSome now IsRunning
+running_now numbers old None some startable own range runs = tt
+running_now numbers None (Some t) some startable own range runs = absurd cc
+running_now numbers (Some s) (Some t) some startable own range runs =
+    subst IsRunning (sym (some_same (runs s refl)))
+    (record { sound = sound_running s (startable.sound (subst AreInRange (sym own) range)); started = refl })
 
 -- ---- the lists
 

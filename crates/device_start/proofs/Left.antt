@@ -6,14 +6,13 @@ use Rattle.std.proofs.lemmas.List.{append-nil}
 use Rattle.tab_spec.specs.declared.TheConstants.{CC_FLUSH_CONTEXT, ST_NO_SESSIONS}
 use Rattle.device_spec.specs.Answers.{handles_from, listed_handles, takes, word_at}
 use Rattle.device_spec.specs.ContextCommands.{flush_context_command}
-use Rattle.device_spec.specs.Remains.{emptied, remains}
 use Rattle.device_spec.specs.Slots.{SlotState, held, slot_step}
 use Rattle.device_port.specs.Device.{Answered}
 use Rattle.device_port.specs.Own.{IsOwn}
 use Rattle.device_laws.proofs.Flushing.{first_is_flushed, remains_are_counted}
 use Rattle.device_laws.proofs.Frames.{response_is_frame}
-use Rattle.device_start.specs.Start.{ClearedIf, FindsIf, Holds, HoldsIf, HoldsListed, HoldsNoMoreIf, IsList, LosesFirst, all_listed}
-use Rattle.device_start.proofs.Found.{running, some_same}
+use Rattle.device_start.specs.Start.{ClearedIf, FindsIf, Holds, HoldsIf, HoldsListed, HoldsNoMoreIf, IsList, LosesFirst, Runs, all_listed, running}
+use Rattle.device_start.proofs.Found.{some_same}
 use Rattle.device_start.proofs.Reading.{count_read}
 use Rattle.device_port.proofs.Listing.{rest_of}
 use Rattle.std.specs.Option.{unwrap_or}
@@ -150,6 +149,12 @@ is_cleared objects loaded saved old mid new finds loses slots is =
         kept = ap (λ (s : SlotState). record s { started = true }) (now.same ∙ was.same);
       },
     )
+
+-- a device that was started before is cleared as it was before
+pub cleared_since : (old mid new : Option SlotState) → Runs old mid → ClearedIf mid new → ClearedIf old new
+cleared_since old mid new runs clears slots is =
+    let (u, u_is, cleared) = clears (running slots) (runs slots is) in
+    (u, u_is, record { sound = cleared.sound; started = cleared.started; empty = cleared.empty; kept = cleared.kept })
 
 -- what is left of a list isn't more than all of it
 pub rest_fewer : (list : List ℕ) (found : Option ℕ) (count place : ℕ) → IsList list → found ≡ word_at 15 list → count ≡ unwrap_or found 0

@@ -2,3 +2,4 @@ mod Sent
 mod Found
 mod Left
 mod Reading
+mod Values

@@ -1,6 +1,6 @@
 -- What a list of handles tells that was taken.
-use Rattle.std.proofs.Common.{◌≡◌, ◌<◌, ◌≤◌, ◌+◌, ◌*◌, ◌-◌, ℕ, Bool, true, false, List, ◌∷◌, length, take, drop, arith, refl, ap, sym, ◌∙◌, subst}
-use Rattle.std.specs.Prelude.{◌==◌, ◌&&◌, ◌||◌, not, get_or, nat_le, nat_lt, Option, Some, None, if◌then◌else◌}
+use Rattle.std.proofs.Common.{◌≡◌, ◌<◌, ◌≤◌, ◌+◌, ◌*◌, ◌-◌, ℕ, Bool, true, false, List, ◌∷◌, length, take, drop, arith, refl, ap, sym, ◌∙◌}
+use Rattle.std.specs.Prelude.{◌==◌, ◌&&◌, get_or, nat_le, nat_lt, Option, Some, None, if◌then◌else◌}
 use Rattle.std.specs.List.{list_all}
 use Rattle.std.specs.Option.{unwrap_or}
 use Rattle.std.specs.Int.{w32, from_be_bytes}
@@ -30,12 +30,12 @@ list_fills last property frame is =
     }
 
 -- a command that asks for a list has nothing else in its success
-form_lists : (lists tag : Bool) → (lists && tag && true && true && true) ≡ true → lists ≡ true
+form_lists : (lists tag : Bool) → (lists && true && tag && true && true && true) ≡ true → lists ≡ true
 form_lists true tag is = refl
 form_lists false tag is = absurd cc
 
 pub taken_fills : (asked last : List ℕ) (property : ℕ) → takes true true asked last ≡ true → is_success_form true asked last ≡ true
-    → is_success_form true asked last ≡ (is_list_from last property && tag_of last == tag_of asked && true && true && true) → IsList last
+    → is_success_form true asked last ≡ (is_list_from last property && true && tag_of last == tag_of asked && true && true && true) → IsList last
 taken_fills asked last property taken form computes =
     let frame = and_parts (is_frame last) _ taken in
     list_fills last property frame.0 (form_lists (is_list_from last property) (tag_of last == tag_of asked) (sym computes ∙ form))

@@ -1,5 +1,5 @@
 -- What is sent at a start, step by step.
-use Rattle.std.proofs.Common.{◌≡◌, ◌≤◌, ◌+◌, ◌⊎◌, inl, inr, ℕ, true, false, List, [], ◌∷◌, ◌++◌, refl, ap, sym, ◌∙◌, subst, arith}
+use Rattle.std.proofs.Common.{◌≡◌, ◌≤◌, ◌⊎◌, inl, inr, ℕ, true, false, List, [], ◌∷◌, ◌++◌, refl, ap, sym, ◌∙◌, subst, arith}
 use Rattle.std.specs.Prelude.{Option, Some, None, Result, Ok, Err, IfErr, IsSomeAnd}
 use Rattle.std.proofs.lemmas.List.{append_assoc}
 use Rattle.tab_spec.specs.Commands.{startup_command}
@@ -8,9 +8,9 @@ use Rattle.device_spec.specs.ContextCommands.{flush_context_command}
 use Rattle.device_spec.specs.Remains.{handles_command}
 use Rattle.device_laws.proofs.AnswerForms.{takes_more}
 use Rattle.device_port.specs.Device.{Seen, Transmission, asked_of, last_of, newest_command, newest_response}
-use Rattle.device_port.specs.Own.{Asks, HasCause, IsAnswered, SendsOwn}
+use Rattle.device_port.specs.Own.{Asks, IsAnswered, SendsOwn}
 use Rattle.device_port.specs.declared.own.SwapError.{SwapError}
-use Rattle.device_port.proofs.Sending.{are_own, cause_then}
+use Rattle.device_port.proofs.Sending.{are_own}
 use Rattle.device_start.specs.Start.{Attempts, Finds, Flushes, HoldsNoMoreIf, Sends, SendsStart, answered}
 
 -- what an answer tells of the command and the response
@@ -67,52 +67,27 @@ sends_more seen old mid new start own = record {
 
 -- Startup alone was sent
 pub startup_attempts : {D A : Type 0} (seen : D → Seen) (old new : D) (result : Result A SwapError) → Sends seen old new startup_command result
-    → HoldsNoMoreIf (seen old).state (seen new).state → Attempts seen old new result
+    → HoldsNoMoreIf (seen old).state (seen new).state → Attempts seen old new
 startup_attempts seen old new result sends few = record {
   few = few;
   sent = record { startup = last_of (seen new); later = []; trace_is = sends.one; own = tt };
-  cause = sends.cause;
   base = sends.base;
   count = sends.count;
 }
 
 -- and then commands of the broker's own
-pub attempts_then : {D A B : Type 0} (seen : D → Seen) (old mid new : D) (x : A) (result : Result B SwapError) → Attempts seen old mid (Ok x)
-    → SendsOwn seen mid new → IfErr result (λ e. HasCause seen e mid new) → (seen new).base ≡ (seen mid).base → (seen mid).faults ≤ (seen new).faults
-    → HoldsNoMoreIf (seen old).state (seen new).state → Attempts seen old new result
-attempts_then seen old mid new x (Ok y) first own cause base count few = record {
+pub attempts_then : {D : Type 0} (seen : D → Seen) (old mid new : D) → Attempts seen old mid → SendsOwn seen mid new → (seen new).base ≡ (seen mid).base
+    → (seen mid).faults ≤ (seen new).faults → HoldsNoMoreIf (seen old).state (seen new).state → Attempts seen old new
+attempts_then seen old mid new first own base count few = record {
   few = few;
   sent = sends_more seen (seen old).trace mid new first.sent own;
-  cause = tt;
-  base = base ∙ first.base;
-  count = omega (arith, first.count, count);
-}
-attempts_then seen old mid new x (Err e) first own cause base count few = record {
-  few = few;
-  sent = sends_more seen (seen old).trace mid new first.sent own;
-  cause = cause_then seen old mid new e first.count cause;
   base = base ∙ first.base;
   count = omega (arith, first.count, count);
 }
 
-pub attempts_more : {D : Type 0} (seen : D → Seen) (old mid new : D) → Attempts {A = Unit {0}} seen old mid (Ok tt) → SendsOwn seen mid new
-    → (seen new).base ≡ (seen mid).base → (seen mid).faults ≤ (seen new).faults → HoldsNoMoreIf (seen old).state (seen new).state
-    → Attempts {A = Unit {0}} seen old new (Ok tt)
-attempts_more seen old mid new first own base count few = record {
-  few = few;
-  sent = sends_more seen (seen old).trace mid new first.sent own;
-  cause = tt;
-  base = base ∙ first.base;
-  count = omega (arith, first.count, count);
-}
-
--- a call that returned where the last one failed
-pub attempts_failed : {D A B : Type 0} (seen : D → Seen) (old new : D) (e : SwapError) (result : Result B SwapError)
-    → (f : SwapError) × (result ≡ Err f) × (f ≡ e) → Attempts {A = A} seen old new (Err e) → Attempts seen old new result
-attempts_failed {A = A} seen old new e result (f, is, same) attempts =
-    let failed : Attempts {A = A} seen old new (Err f) = subst (λ (e : SwapError). Attempts {A = A} seen old new (Err e)) (sym same) attempts in
-    subst (λ (r : Result _ SwapError). Attempts seen old new r) (sym is)
-    (record { few = failed.few; sent = failed.sent; cause = failed.cause; base = failed.base; count = failed.count })
+-- what is so of the error of a call is so of the result that it is carried into
+pub err_carried : {A E : Type 0} (P : E → Type 0) (e : E) (result : Result A E) → (f : E) × (result ≡ Err f) × (f ≡ e) → P e → IfErr result P
+err_carried P e result (f, is, same) holds = subst (λ (r : Result _ _). IfErr r P) (sym is) (subst P (sym same) holds)
 
 -- ---- the last response
 

@@ -1,15 +1,20 @@
 -- What a start leaves of a device, and what it sent.
-use Rattle.std.specs.Prelude.{◌≡◌, ◌≤◌, ◌*◌, ◌+◌, ℕ, true, List, [], ◌∷◌, ◌++◌, length, take, drop, Option, Some, IsSomeAnd, Result, OnOk, OnErr, IfErr}
+use Rattle.std.specs.Prelude.{◌≡◌, ◌<◌, ◌≤◌, ◌*◌, ◌+◌, ◌^◌, ◌||◌, nat_lt, ℕ, true, List, [], ◌∷◌, ◌++◌, length, take, drop, Option, Some, IfSome, IsSomeAnd, Result, Err, OnOk, OnErr, IfErr}
 use Rattle.std.specs.List.{AllByRecursion}
 use Rattle.std.specs.Int.{w32, from_be_bytes}
+use Rattle.tab_spec.specs.declared.numbers.Numbers.{Numbers}
+use Rattle.tab_spec.specs.Numbers.{AreInRange}
 use Rattle.tab_spec.specs.Commands.{startup_command}
-use Rattle.device_spec.specs.Answers.{count_place, list_place, listed_handles, takes}
+use Rattle.device_spec.specs.Answers.{count_place, list_place, listed_handles, takes, value_told}
 use Rattle.device_spec.specs.ContextCommands.{flush_context_command}
+use Rattle.device_spec.specs.Numbers.{FitWords, IsOutOfRange, are_in, number_command, number_properties, values_of}
 use Rattle.device_spec.specs.Remains.{emptied, handles_command, remains}
-use Rattle.device_spec.specs.Slots.{HoldsNothing, IsSlots, SlotState, held}
-use Rattle.device_port.specs.Device.{Seen, Transmission, last_of}
-use Rattle.device_port.specs.Own.{HasCause, IsOwn}
+use Rattle.device_spec.specs.Slots.{HoldsNothing, IsSlots, SlotState, held, slot_step}
+use Rattle.device_port.specs.Device.{Answered, Seen, Transmission, last_of}
+use Rattle.device_port.specs.Own.{Asks, HasCause, IsOwn}
 use Rattle.device_port.specs.declared.own.SwapError.{SwapError}
+use Rattle.device_start.specs.declared.starting.StartError.{StartError}
+use Rattle.device_start.specs.declared.starting.StartError.TheVariants as errors
 
 -- ---- what is sent
 
@@ -25,20 +30,32 @@ Flushes (handle ∷ handles) old new =
     (response : List ℕ) × (takes true true (flush_context_command handle) response ≡ true)
     × Flushes handles (answered (flush_context_command handle) response ∷ old) new
 
--- Startup was sent, then the three lists were asked for, and then each handle that they have was flushed. These were the first four
--- responses, and all were taken.
-pub record IsStarted (old new : List Transmission) : Type 0 where
+-- These properties were asked for, one after the other, as many as there are values, each response was taken and has its value:
+-- from the one trace to the other
+abbrev pub Tells : (properties values : List ℕ) → List Transmission → List Transmission → Type 0
+Tells properties [] old new = new ≡ old
+Tells [] (value ∷ values) old new = ⊥
+Tells (property ∷ properties) (value ∷ values) old new =
+    (response : List ℕ) × (takes true true (number_command property) response ≡ true) × (value_told response ≡ value)
+    × Tells properties values (answered (number_command property) response ∷ old) new
+
+-- Startup was sent, the device was asked for its numbers and for its three lists, and then each handle that these have was
+-- flushed. All responses were taken.
+pub record IsStarted (old new : List Transmission) (numbers : Numbers) : Type 0 where
   pub startup : List ℕ
+  -- the trace when the numbers had come
+  pub asked : List Transmission
   pub objects : List ℕ
   pub loaded : List ℕ
   pub saved : List ℕ
   pub startup_taken : takes true true startup_command startup ≡ true
+  pub told : Tells number_properties (values_of numbers) (answered startup_command startup ∷ old) asked
   pub objects_taken : takes true true (handles_command 0x80000000) objects ≡ true
   pub loaded_taken : takes true true (handles_command 0x02000000) loaded ≡ true
   pub saved_taken : takes true true (handles_command 0x03000000) saved ≡ true
   pub flushed : Flushes (listed_handles objects ++ listed_handles loaded ++ listed_handles saved)
       (answered (handles_command 0x03000000) saved ∷ answered (handles_command 0x02000000) loaded
-      ∷ answered (handles_command 0x80000000) objects ∷ answered startup_command startup ∷ old) new
+      ∷ answered (handles_command 0x80000000) objects ∷ asked) new
 
 -- Startup was sent, and after it nothing but commands of the broker's own
 pub record SendsStart (old new : List Transmission) : Type 0 where
@@ -90,6 +107,13 @@ pub record HoldsNoMore (old new : SlotState) : Type 0 where
   pub few : held new ≤ held old
   pub kept : cleared new ≡ cleared old
 
+-- a device that is as it was, but started
+abbrev pub running : SlotState → SlotState
+running slots = record slots { started = true }
+
+abbrev pub Runs : Option SlotState → Option SlotState → Type 0
+Runs old new = (slots : SlotState) → old ≡ Some slots → new ≡ Some (running slots)
+
 -- both where the device tells its state
 abbrev pub ClearedIf : Option SlotState → Option SlotState → Type 0
 ClearedIf old new = (slots : SlotState) → old ≡ Some slots → (after : SlotState) × (new ≡ Some after) × IsCleared slots after
@@ -98,24 +122,83 @@ abbrev pub HoldsNoMoreIf : Option SlotState → Option SlotState → Type 0
 HoldsNoMoreIf old new = (slots : SlotState) → old ≡ Some slots → (after : SlotState) × (new ≡ Some after) × HoldsNoMore slots after
 
 -- what each call of a start leaves of a device, also one that failed
-pub record Attempts {D A : Type 0} (seen : D → Seen) (old new : D) (result : Result A SwapError) : Type 0 where
+pub record Attempts {D : Type 0} (seen : D → Seen) (old new : D) : Type 0 where
   pub few : HoldsNoMoreIf (seen old).state (seen new).state
   pub sent : SendsStart (seen old).trace (seen new).trace
-  pub cause : IfErr result (λ e. HasCause seen e old new)
   pub base : (seen new).base ≡ (seen old).base
   pub count : (seen old).faults ≤ (seen new).faults
 
--- ---- the steps
+-- a device that may be started: what it tells of its numbers fits, and it is sound where they are in range
+pub record IsStartable (slots : SlotState) : Type 0 where
+  pub fit : FitWords slots.numbers
+  pub sound : AreInRange slots.numbers → IsSlots slots
 
--- what was found: Startup and the three lists were sent and taken, and these are the lists
-pub record Finds (old new : List Transmission) (objects loaded saved : List ℕ) : Type 0 where
+-- Startup was sent, and the device was asked for its numbers in order, up to the first one that is out of range: this property,
+-- with this value. All responses were taken, and nothing was sent after that one.
+pub record StopsAtNumber (old new : List Transmission) (property value : ℕ) : Type 0 where
   pub startup : List ℕ
   pub startup_taken : takes true true startup_command startup ≡ true
+  pub out : IsOutOfRange property value
+  pub told : Tells number_properties (out.before ++ value ∷ []) (answered startup_command startup ∷ old) new
+
+-- why a device wasn't started: a transmission failed or the response to it is a wrong answer, or a number of the device is out
+-- of range
+abbrev pub HasStartCause : {D : Type 0} (seen : D → Seen) → StartError → (old new : D) → Type 0
+HasStartCause seen (errors.Unanswered e) old new = HasCause seen e old new
+HasStartCause seen (errors.Numbers property value) old new =
+    StopsAtNumber (seen old).trace (seen new).trace property value
+    × IfSome (seen old).state (λ slots. AreInRange slots.numbers → ⊥)
+
+-- ---- the steps
+
+-- where the device tells its state, a broker takes its response to this command
+abbrev pub TakenIf : List ℕ → Option SlotState → Type 0
+TakenIf command state = IfSome state (λ slots. takes true true command (slot_step slots command).1 ≡ true)
+
+-- the device was asked for one property, and the response was taken and has this value
+pub record HasNumber {D : Type 0} (seen : D → Seen) (old new : D) (property value : ℕ) : Type 0 where
+  pub response : List ℕ
+  pub taken : takes true true (number_command property) response ≡ true
+  pub value_is : value_told response ≡ value
+  pub trace_is : (seen new).trace ≡ answered (number_command property) response ∷ (seen old).trace
+  pub state : Answered (seen old).state (number_command property) (seen new).state response
+  pub base : (seen new).base ≡ (seen old).base
+  pub count : (seen old).faults ≤ (seen new).faults
+
+-- why a number didn't come: the question wasn't answered, or the value is out of these bounds
+abbrev pub MissesNumber : {D : Type 0} (seen : D → Seen) (old new : D) (property least most : ℕ) → StartError → Type 0
+MissesNumber seen old new property least most (errors.Unanswered e) = Asks {A = Unit {0}} seen old new (number_command property) (Err e)
+MissesNumber seen old new property least most (errors.Numbers asked value) =
+    (asked ≡ property) × HasNumber seen old new property value × (nat_lt value least || nat_lt most value) ≡ true × value < 2 ^ 32
+
+-- Startup was sent, and the device was asked for its first numbers. All responses were taken, and have these values, which are in
+-- range. Where the device tells its state, these are its numbers, and it is as it was, but started.
+pub record HasValues {D : Type 0} (seen : D → Seen) (old new : D) (values : List ℕ) : Type 0 where
+  pub startup : List ℕ
+  pub startup_taken : takes true true startup_command startup ≡ true
+  pub told : Tells number_properties values (answered startup_command startup ∷ (seen old).trace) (seen new).trace
+  pub range : are_in [] values ≡ true
+  pub own : IfSome (seen old).state (λ slots. take (length values) (values_of slots.numbers) ≡ values)
+  pub runs : Runs (seen old).state (seen new).state
+  pub attempts : Attempts seen old new
+
+-- what is left where no start came about
+pub record NotStarted {D : Type 0} (seen : D → Seen) (old new : D) (e : StartError) : Type 0 where
+  pub attempts : Attempts seen old new
+  pub cause : HasStartCause seen e old new
+
+-- a sound device that was started
+pub record IsRunning (slots : SlotState) : Type 0 where
+  pub sound : IsSlots slots
+  pub started : slots.started ≡ true
+
+-- what was found: the three lists were asked for and taken, and these are the lists
+pub record Finds (old new : List Transmission) (objects loaded saved : List ℕ) : Type 0 where
   pub objects_taken : takes true true (handles_command 0x80000000) objects ≡ true
   pub loaded_taken : takes true true (handles_command 0x02000000) loaded ≡ true
   pub saved_taken : takes true true (handles_command 0x03000000) saved ≡ true
   pub trace_is : new ≡ answered (handles_command 0x03000000) saved ∷ answered (handles_command 0x02000000) loaded
-      ∷ answered (handles_command 0x80000000) objects ∷ answered startup_command startup ∷ old
+      ∷ answered (handles_command 0x80000000) objects ∷ old
 
 -- the handles of three lists, one list behind the other
 abbrev pub all_listed : (objects loaded saved : List ℕ) → List ℕ

@@ -5,4 +5,4 @@ mod lists;
 mod starting;
 
 pub use lists::Lists;
-pub use starting::start;
+pub use starting::{StartError, start};

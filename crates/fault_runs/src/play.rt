@@ -42,7 +42,8 @@ pub fn play<W: Write>(alloc: Global, script: &Script, output: &mut W) -> anyhow:
             Ok(())
         }
         Err((BeginError::Answer(_), _)) => bail!("the device gave a wrong answer"),
-        Err((BeginError::Memory, _)) => bail!("there is no memory for a journal"),
+        Err((BeginError::Memory, _)) => bail!("there is no memory for a broker"),
+        Err((BeginError::Numbers { .. }, _)) => bail!("a number of the device is out of range"),
     }
 }
 

@@ -1,5 +1,6 @@
 ghost use Rattle.std.specs.Prelude.{◌≡◌, ◌∷◌, ◌++◌, [], OnOk, OnErr, is_some};
-ghost use Rattle.broker_core.specs.Broker.{ProfileLegal};
+ghost use Rattle.broker_lock.specs.Known.{origin_of};
+ghost use Rattle.broker_core.specs.Broker.{LegalOver};
 ghost use Rattle.device_port.specs.Device.{sent_of};
 ghost use Rattle.client_machine.specs.Settled.{orphan_count};
 
@@ -51,10 +52,11 @@ impl<D: Device> Watched<D> {
 impl<D: Device> Recorded for Watched<D> {
     ghost history = { λ w. w.played.broker.journal };
 
-    ghost legal = { ProfileLegal };
+    ghost legal = { LegalOver };
 
     ghost fixed = { λ w. record {
-      base = (D.seen w.played.broker.device).base;
+      base = origin_of (D.seen w.played.broker.device).base
+          w.played.broker.held.sessions.numbers;
       limit = w.played.broker.limit;
       began = w.played.broker.began;
     } };

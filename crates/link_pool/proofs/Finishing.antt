@@ -5,9 +5,8 @@ use Rattle.std.specs.List.{AllByRecursion, list_any, sum_by}
 use Rattle.std.proofs.lemmas.List.Elements.{All-from_recursion, All-nil, recursion_from_All}
 use Rattle.std.proofs.lemmas.List.Sums.{sum_by-cons}
 use Rattle.tab_spec.specs.Count.{Rose}
-use Rattle.tab_spec.specs.Persist.{Persist}
 use Rattle.history_spec.specs.Entry.{Entry, clients_of, own}
-use Rattle.broker_lock.specs.Known.{Fixed, IsLegalOver, knows}
+use Rattle.broker_lock.specs.Known.{Fixed, IsLegalOver, Origin, knows}
 use Rattle.broker_lock.specs.Pass.{PassView}
 use Rattle.broker_lock.specs.Pass.{Ends as EndsLock}
 use Rattle.broker_lock.proofs.Knowing.{own_none}
@@ -75,7 +74,7 @@ never_memory stages.Going result is err = let no : ◌≡◌ {A = Outcome} (Ok t
 never_memory stages.Over result is err = let no : ◌≡◌ {A = Outcome} (Ok tt) (Err errors.Memory) = sym is ∙ err in cc
 never_memory stages.Failed result is err = let no : ◌≡◌ {A = Outcome} (Err errors.Failed) (Err errors.Memory) = sym is ∙ err in cc
 
-module _ {S K : Type 0} (legal : Persist → List Entry → Type 0) (left : S → Option (List ℕ)) (written : K → Option (List ℕ)) (source_faults : S → ℕ) (sink_faults : K → ℕ) where
+module _ {S K : Type 0} (legal : Origin → List Entry → Type 0) (left : S → Option (List ℕ)) (written : K → Option (List ℕ)) (source_faults : S → ℕ) (sink_faults : K → ℕ) where
   abbrev Link : Type 0
   Link = S × K
 

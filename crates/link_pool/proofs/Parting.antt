@@ -5,10 +5,9 @@ use Rattle.std.specs.List.{list_any}
 use Rattle.std.specs.Option.{option_to_list}
 use Rattle.std.proofs.lemmas.List.{map-append}
 use Rattle.std.proofs.lemmas.List.Folds.{list_any-append}
-use Rattle.tab_spec.specs.Persist.{Persist}
 use Rattle.atomic_table.specs.Seated.{TableId}
 use Rattle.history_spec.specs.Entry.{Entry}
-use Rattle.broker_lock.specs.Known.{Fixed, IsLegalOver}
+use Rattle.broker_lock.specs.Known.{Fixed, IsLegalOver, Origin}
 use Rattle.broker_lock.specs.Pass.{Joins, PassView}
 use Rattle.cancel_words.specs.View.{WordView}
 use Rattle.connection_core.specs.declared.ends.Ending.{Ending}
@@ -21,7 +20,7 @@ use Rattle.link_pool.specs.Servers.{Leaves, Stands, one_part}
 use Rattle.link_pool.specs.Services.{client_of, given_of, is_lacking}
 use Rattle.link_pool.proofs.Together.{knows_both, knows_nobody, knows_one, knows_still}
 
-module _ {S K : Type 0} (legal : Persist → List Entry → Type 0) (left : S → Option (List ℕ)) (written : K → Option (List ℕ)) (source_faults : S → ℕ) (sink_faults : K → ℕ) where
+module _ {S K : Type 0} (legal : Origin → List Entry → Type 0) (left : S → Option (List ℕ)) (written : K → Option (List ℕ)) (source_faults : S → ℕ) (sink_faults : K → ℕ) where
   abbrev Link : Type 0
   Link = S × K
 
@@ -181,7 +180,7 @@ leaves_waits {L} hand hand_new pass pass_new found same more none = record {
     parts_by (Some link) more none = ap (λ (v : HandView L). v.parts) more
     parts_by None more none = ap (λ (v : HandView L). v.parts) none
 
-pub leaves_serves : {L : Type 0} (legal : Persist → List Entry → Type 0) (hand hand_new : HandView L) (pass own ended pass_new : PassView) → hand_new ≡ hand → own ≡ one_part pass → GoesOn legal own ended → Joins pass ended pass_new
+pub leaves_serves : {L : Type 0} (legal : Origin → List Entry → Type 0) (hand hand_new : HandView L) (pass own ended pass_new : PassView) → hand_new ≡ hand → own ≡ one_part pass → GoesOn legal own ended → Joins pass ended pass_new
     → Leaves hand hand_new pass pass_new 1
 leaves_serves {L} legal hand hand_new pass own ended pass_new same beside on joins = record {
   hand_parts = ap (λ (v : HandView L). v.parts) same;

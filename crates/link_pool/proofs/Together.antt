@@ -5,9 +5,8 @@ use Rattle.std.specs.List.{AllByRecursion}
 use Rattle.std.proofs.lemmas.List.Elements.{All-append, All-cons, All-from_recursion, All-nil, recursion_from_All}
 use Rattle.std.proofs.lemmas.List.Sums.{sum_by-append}
 use mathlib.Core.List.{IsPrefix}
-use Rattle.tab_spec.specs.Persist.{Persist}
 use Rattle.history_spec.specs.Entry.{Entry, own}
-use Rattle.broker_lock.specs.Known.{Fixed, IsLegalOver, knows}
+use Rattle.broker_lock.specs.Known.{Fixed, IsLegalOver, Origin, knows}
 use Rattle.broker_lock.specs.Pass.{Joins, PassView}
 use Rattle.broker_lock.proofs.Knowing.{knows_same, own_rest}
 use Rattle.cancel_words.specs.View.{WordView}
@@ -44,7 +43,7 @@ module _ {M : Type 0} (given left : M → Ends) (client_of : M → Option ℕ) (
       subst (λ (f : Fixed). All (is_link f new.wrong new.front) served) (sym same)
       (subst (λ (h : List Entry). All (is_link old.fixed new.wrong h) served) there.1 stays)
 
-  module _ (legal : Persist → List Entry → Type 0) where
+  module _ (legal : Origin → List Entry → Type 0) where
     abbrev KnowsOf : PassView → List M → Type 0
     KnowsOf = Knows legal is_link client_of
 

@@ -3,9 +3,8 @@ use Rattle.std.specs.Prelude.{◌≡◌, ◌<◌, ℕ, ◌+◌, ◌-◌, ◌*◌
 use Rattle.std.specs.List.{list_any}
 use Rattle.atomic_table.specs.Seated.{TableId}
 use Rattle.tab_spec.specs.Count.{Rose}
-use Rattle.tab_spec.specs.Persist.{Persist}
 use Rattle.history_spec.specs.Entry.{Entry, clients_of}
-use Rattle.broker_lock.specs.Known.{Fixed, IsLegalOver, IsOwn, knows}
+use Rattle.broker_lock.specs.Known.{Fixed, IsLegalOver, IsOwn, Origin, knows}
 use Rattle.broker_lock.specs.Pass.{PassView}
 use Rattle.accept_loop.specs.Connections.{links_of}
 use Rattle.accept_loop.specs.declared.serving.AcceptError.{AcceptError}
@@ -19,14 +18,14 @@ abbrev pub one_part : PassView → PassView
 one_part pass = record pass { known = []; parts = 1 }
 
 -- what a pass knows of the connections that were served with it
-pub record Knows {M : Type 0} (legal : Persist → List Entry → Type 0) (is_link : Fixed → Bool → List Entry → M → Type 0) (client_of : M → Option ℕ) (pass : PassView) (served : List M) : Type 0 where
+pub record Knows {M : Type 0} (legal : Origin → List Entry → Type 0) (is_link : Fixed → Bool → List Entry → M → Type 0) (client_of : M → Option ℕ) (pass : PassView) (served : List M) : Type 0 where
   pub is_legal : IsLegalOver legal pass.fixed.base pass.front
   pub own_is : IsOwn pass.known pass.front
   pub each : All (is_link pass.fixed pass.wrong pass.front) served
   pub clients : (client : ℕ) → links_of client_of client served ≡ cond (knows pass.known client) 1 0
 
 -- a server that has not the turn, with those that it served. `waiting` are those that it accepted and hasn't served
-pub record IsServer {L M : Type 0} (legal : Persist → List Entry → Type 0) (is_link : Fixed → Bool → List Entry → M → Type 0) (given_of : M → L) (client_of : M → Option ℕ) (is_lacking : M → Bool)
+pub record IsServer {L M : Type 0} (legal : Origin → List Entry → Type 0) (is_link : Fixed → Bool → List Entry → M → Type 0) (given_of : M → L) (client_of : M → Option ℕ) (is_lacking : M → Bool)
     (hand : HandView L) (pass : PassView) (served : List M) (lacked : Bool) (waiting : List L) : Type 0 where
   pub rests : Rests hand
   pub mine : hand.mine ≡ map given_of served ++ waiting
@@ -34,7 +33,7 @@ pub record IsServer {L M : Type 0} (legal : Persist → List Entry → Type 0) (
   pub lacked_is : lacked ≡ list_any is_lacking served
 
 -- the same of connections of these sources and sinks
-abbrev pub Stands : {S K : Type 0} → (legal : Persist → List Entry → Type 0) → (left : S → Option (List ℕ)) → (written : K → Option (List ℕ)) → (source_faults : S → ℕ) → (sink_faults : K → ℕ)
+abbrev pub Stands : {S K : Type 0} → (legal : Origin → List Entry → Type 0) → (left : S → Option (List ℕ)) → (written : K → Option (List ℕ)) → (source_faults : S → ℕ) → (sink_faults : K → ℕ)
     → HandView (S × K) → PassView → List (Service S K) → Bool → List (S × K) → Type 0
 Stands legal left written source_faults sink_faults = IsServer legal (IsServed left written source_faults sink_faults) given_of client_of is_lacking
 
@@ -69,7 +68,7 @@ pub record HasBoth {L : Type 0} (hand other hand_new : HandView L) (pass other_p
   pub lock_is : pass_new.lock ≡ pass.lock
 
 -- what all servers together know, once nobody more is accepted
-pub record HasEnded {L M : Type 0} (legal : Persist → List Entry → Type 0) (is_link : Fixed → Bool → List Entry → M → Type 0) (given_of : M → L) (client_of : M → Option ℕ) (is_lacking : M → Bool)
+pub record HasEnded {L M : Type 0} (legal : Origin → List Entry → Type 0) (is_link : Fixed → Bool → List Entry → M → Type 0) (given_of : M → L) (client_of : M → Option ℕ) (is_lacking : M → Bool)
     (pass pass_new : PassView) (accepted : List L) (served : List M) (lacked : Bool) : Type 0 where
   pub lock_is : pass_new.lock ≡ pass.lock
   pub parts : pass_new.parts ≡ pass.parts
@@ -79,7 +78,7 @@ pub record HasEnded {L M : Type 0} (legal : Persist → List Entry → Type 0) (
   pub lacked_is : lacked ≡ list_any is_lacking served
 
 -- what serving all that come leaves. `wrong` is whether the device gave a wrong answer
-pub record ServesAll {L M : Type 0} (legal : Persist → List Entry → Type 0) (is_link : Fixed → Bool → List Entry → M → Type 0) (given_of : M → L) (client_of : M → Option ℕ) (is_lacking : M → Bool)
+pub record ServesAll {L M : Type 0} (legal : Origin → List Entry → Type 0) (is_link : Fixed → Bool → List Entry → M → Type 0) (given_of : M → L) (client_of : M → Option ℕ) (is_lacking : M → Bool)
     (fixed fixed_new : Fixed) (wrong : Bool) (history : List Entry) (coming coming_new : Option (List L)) (faults faults_new most : ℕ) (accepted : Result (Unit {0}) AcceptError) (count : ℕ) (lacked : Bool) (served : List M) : Type 0 where
   pub fixed_is : fixed_new ≡ fixed
   pub is_legal : IsLegalOver legal fixed.base history

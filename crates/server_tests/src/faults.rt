@@ -193,19 +193,19 @@ fn an_output_has_too_little_room(rt: HostRuntime) -> Result<(), Fail> {
 #[test]
 fn a_device_fails_once(rt: HostRuntime) -> Result<(), Fail> {
     let first = Ends {
-        transmission: 4,
+        transmission: 8,
         ..WELL
     };
     let outcome = over(&rt, rt.alloc(), AUDITED, SCRIPT, first)?;
     assert!(rt; outcome.ended((0, 0), WITH_FAULT, 1000) && outcome.has_kinds(FAULT));
-    assert_eq!(rt; outcome.sent, 6);
+    assert_eq!(rt; outcome.sent, 10);
     Ok(())
 }
 
 #[test]
 fn a_device_fails_at_its_start(rt: HostRuntime) -> Result<(), Fail> {
-    // Startup, and each of the three lists
-    for transmission in 0..4u64 {
+    // Startup, each of the four numbers, and each of the three lists
+    for transmission in 0..8u64 {
         let start = Ends {
             transmission,
             ..WELL

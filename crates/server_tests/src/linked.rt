@@ -20,7 +20,7 @@ const SCRIPT: &[u8] = b"0 80010000000c0000017b0008\n";
 
 const REPLY: &[u8] = b"0 80010000001400000000000876b8e0ada0f13d90\n";
 
-// More commands than the run sends: Startup, three lists, and GetRandom.
+// More commands than the run sends: Startup, four numbers, three lists, and GetRandom.
 const MOST: u64 = 20;
 
 // The next command of this stream, where one comes.
@@ -83,6 +83,6 @@ fn random_bytes_come_over_a_socket(rt: HostRuntime) -> Result<(), Fail> {
         || -> Result<Outcome, AllocError> { run_over(&rt, alloc, ends) },
     );
     let outcome = outcome?;
-    assert!(rt; outcome.ended((0, 0), REPLY, 1000) && outcome.sent == 5 && answered == 5);
+    assert!(rt; outcome.ended((0, 0), REPLY, 1000) && outcome.sent == 9 && answered == 9);
     Ok(())
 }

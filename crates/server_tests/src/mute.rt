@@ -53,11 +53,15 @@ const NO_HANDLES: [u8; 19] = [
     0x80, 0x01, 0, 0, 0, 19, 0, 0, 0, 0, 0, 0, 0, 0, 1, 0, 0, 0, 0,
 ];
 
-// A device that tells nothing. It answers Startup, holds nothing, and then answers each command
-// with the same response.
+// The numbers of the profile, in the order in which a device is asked for them.
+pub(crate) const NUMBERS: [u8; 4] = [3, 3, 64, 255];
+
+// A device that tells nothing. It answers Startup, tells these numbers, holds nothing, and then
+// answers each command with the same response.
 #[derive(Drop)]
 pub(crate) struct Mute {
     startup: Buffer,
+    numbers: [u8; 4],
     later: Buffer,
     faults: u64,
     trace: Trace,
@@ -70,6 +74,18 @@ fn respond(response: &[u8], reply: &mut Buffer)
 {
     reply.clear();
     reply.put_bytes(response).unwrap();
+}
+
+// Writes a response over whatever `reply` holds that tells a property: its last octet, and that of
+// its value.
+fn respond_number(property: u8, value: u8, reply: &mut Buffer) {
+    respond(
+        &[
+            0x80, 0x01, 0, 0, 0, 27, 0, 0, 0, 0, 0, 0, 0, 0, 6, 0, 0, 0, 1, 0, 0, 1, property, 0,
+            0, 0, value,
+        ],
+        reply,
+    );
 }
 
 impl Device for Mute {
@@ -85,7 +101,11 @@ impl Device for Mute {
     fn transmit(&mut self, command: &[u8], reply: &mut Buffer) -> Result<(), DeviceFailed> {
         match self.trace.sent() {
             0 => respond(self.startup.as_slice(), reply),
-            1..=3 => respond(&NO_HANDLES, reply),
+            1 => respond_number(0x0e, self.numbers[0], reply),
+            2 => respond_number(0x10, self.numbers[1], reply),
+            3 => respond_number(0x11, self.numbers[2], reply),
+            4 => respond_number(0x14, self.numbers[3], reply),
+            5..=7 => respond(&NO_HANDLES, reply),
             _ => respond(self.later.as_slice(), reply),
         }
         self.trace.answered(command, reply.as_slice());
@@ -101,11 +121,17 @@ impl Device for Mute {
     }
 }
 
-// A device that tells nothing, with these responses to Startup and to each command behind the
-// lists.
-pub(crate) fn mute_device(alloc: Global, startup: &[u8], later: &[u8]) -> Result<Mute, Fail> {
+// A device that tells nothing but these numbers, with these responses to Startup and to each
+// command behind the lists.
+pub(crate) fn mute_device(
+    alloc: Global,
+    startup: &[u8],
+    numbers: [u8; 4],
+    later: &[u8],
+) -> Result<Mute, Fail> {
     let mut device = Mute {
         startup: Buffer::new(alloc)?,
+        numbers,
         later: Buffer::new(alloc)?,
         faults: 0,
         trace: Trace::new(),
@@ -122,9 +148,10 @@ fn over<R: Threads + Wait + Sync>(
     words: &[&str],
     script: &[u8],
     startup: &[u8],
+    numbers: [u8; 4],
     later: &[u8],
 ) -> Result<Outcome, Fail> {
-    let device = mute_device(alloc, startup, later)?;
+    let device = mute_device(alloc, startup, numbers, later)?;
     let nobody = MemoryAcceptor::new(Vec::new(alloc), Vec::new(alloc));
     let input = source(alloc, script, u64::MAX)?;
     let output = MemorySink::new(alloc, 1000, Vec::new(alloc))?;
@@ -136,14 +163,14 @@ fn a_device_that_tells_nothing(rt: HostRuntime) -> Result<(), Fail> {
     // the words, the script, each later response, the status and the detail, what is written, and
     // how many commands are sent
     let cases: [(&[&str], &[u8], &[u8], (u8, u64), &[u8], u64); 11] = [
-        (AUDITED, SCRIPT, &[], (7, 0), REFUSED_TEXT, 5),
+        (AUDITED, SCRIPT, &[], (7, 0), REFUSED_TEXT, 9),
         (
             AUDITED,
             SCRIPT,
             &[0x80, 0x01, 0, 0, 0, 9, 0, 0, 1],
             (7, 0),
             REFUSED_TEXT,
-            5,
+            9,
         ),
         (
             AUDITED,
@@ -151,7 +178,7 @@ fn a_device_that_tells_nothing(rt: HostRuntime) -> Result<(), Fail> {
             &[0x80, 0x01, 0, 0, 0, 11, 0, 0, 0x01, 0x23],
             (7, 0x123),
             REFUSED_TEXT,
-            5,
+            9,
         ),
         (
             AUDITED,
@@ -159,7 +186,7 @@ fn a_device_that_tells_nothing(rt: HostRuntime) -> Result<(), Fail> {
             &[0x80, 0x01, 0, 0, 0, 10, 0xFE, 0xDC, 0xBA, 0x98, 0],
             (7, 0xFEDC_BA98),
             REFUSED_TEXT,
-            5,
+            9,
         ),
         (
             AUDITED,
@@ -167,21 +194,29 @@ fn a_device_that_tells_nothing(rt: HostRuntime) -> Result<(), Fail> {
             &[0x80, 0x01, 0, 0, 0, 10, 0, 0, 0x01, 0x01],
             (0, 0),
             ANSWERED_TEXT,
-            6,
+            10,
         ),
         // what tells of an early start is a wrong answer to a later command
-        (AUDITED, SCRIPT, STARTED_BEFORE, (7, 0x100), REFUSED_TEXT, 5),
+        (AUDITED, SCRIPT, STARTED_BEFORE, (7, 0x100), REFUSED_TEXT, 9),
         // no command of a piece is run behind one that was answered wrongly
-        (AUDITED, PIECE, &[], (7, 0), REFUSED_TEXT, 5),
-        (RUN, SCRIPT, &[], (7, 0), REFUSED, 5),
-        (RUN, PIECE, &[], (7, 0), REFUSED, 5),
+        (AUDITED, PIECE, &[], (7, 0), REFUSED_TEXT, 9),
+        (RUN, SCRIPT, &[], (7, 0), REFUSED, 9),
+        (RUN, PIECE, &[], (7, 0), REFUSED, 9),
         // a bad line isn't reached behind a close whose flush was answered wrongly
-        (RUN, CLOSED, CREATED, (7, 0), CREATED_LINE, 6),
+        (RUN, CLOSED, CREATED, (7, 0), CREATED_LINE, 10),
         // a workload that stops tells nothing
-        (WORKLOAD, b"bad\n", &[], (7, 0), b"", 5),
+        (WORKLOAD, b"bad\n", &[], (7, 0), b"", 9),
     ];
     for (words, script, later, told, written, sent) in cases {
-        let outcome = over(&rt, rt.alloc(), words, script, STARTED_BEFORE, later)?;
+        let outcome = over(
+            &rt,
+            rt.alloc(),
+            words,
+            script,
+            STARTED_BEFORE,
+            NUMBERS,
+            later,
+        )?;
         assert!(rt; outcome.ended(told, written, 1000) && outcome.sent == sent);
     }
     Ok(())
@@ -196,9 +231,47 @@ fn a_wrong_answer_to_startup(rt: HostRuntime) -> Result<(), Fail> {
         (&[0x80, 0x01, 0, 0, 0, 10, 0, 0, 0x01, 0x21], 0x121),
     ];
     for (startup, detail) in cases {
-        let outcome = over(&rt, rt.alloc(), RUN, SCRIPT, startup, STARTED_BEFORE)?;
+        let outcome = over(
+            &rt,
+            rt.alloc(),
+            RUN,
+            SCRIPT,
+            startup,
+            NUMBERS,
+            STARTED_BEFORE,
+        )?;
         assert!(rt; outcome.ended((7, detail), b"", 1000) && outcome.journal.is_none());
         assert_eq!(rt; outcome.sent, 1);
+    }
+    Ok(())
+}
+
+#[test]
+fn a_number_out_of_range(rt: HostRuntime) -> Result<(), Fail> {
+    // the numbers, the property that is told, and how many commands are sent
+    let cases: [([u8; 4], u64, u64); 7] = [
+        ([2, 2, 2, 2], 0x10e, 2),
+        ([255, 3, 64, 255], 0x10e, 2),
+        ([3, 2, 64, 255], 0x110, 3),
+        ([3, 65, 64, 255], 0x110, 3),
+        ([3, 4, 3, 255], 0x111, 4),
+        ([3, 3, 65, 255], 0x111, 4),
+        ([3, 3, 64, 254], 0x114, 5),
+    ];
+    for (numbers, property, sent) in cases {
+        for words in [AUDITED, WORKLOAD] {
+            let outcome = over(
+                &rt,
+                rt.alloc(),
+                words,
+                SCRIPT,
+                STARTED_BEFORE,
+                numbers,
+                STARTED_BEFORE,
+            )?;
+            assert!(rt; outcome.ended((11, property), b"", 1000) && outcome.journal.is_none());
+            assert_eq!(rt; outcome.sent, sent);
+        }
     }
     Ok(())
 }

@@ -101,18 +101,18 @@ fn what_was_left_is_flushed(rt: HostRuntime) -> Result<(), Fail> {
     // what was sent before, the transmission that fails, the status and the detail, what is
     // written, and how many commands are sent in all
     let cases: [(&[&[u8]], u64, (u8, u64), &[u8], u64); 7] = [
-        // Startup, three lists, three flushes, and the command
-        (objects, u64::MAX, (0, 0), FIRST, 12),
+        // Startup, four numbers, three lists, three flushes, and the command
+        (objects, u64::MAX, (0, 0), FIRST, 16),
         // a loaded session and a saved one
-        (sessions, u64::MAX, (0, 0), LATER, 11),
+        (sessions, u64::MAX, (0, 0), LATER, 15),
         // the third list, and each of two flushes
-        (both, 6, (6, 1), b"", 7),
-        (both, 7, (6, 1), b"", 8),
-        (both, 8, (6, 1), b"", 9),
+        (both, 10, (6, 1), b"", 11),
+        (both, 11, (6, 1), b"", 12),
+        (both, 12, (6, 1), b"", 13),
         // and the command
-        (objects, 11, (0, 0), b"0 80010000000a000b0002\n", 12),
+        (objects, 15, (0, 0), b"0 80010000000a000b0002\n", 16),
         // a device that was never started
-        (&[], u64::MAX, (0, 0), FIRST, 5),
+        (&[], u64::MAX, (0, 0), FIRST, 9),
     ];
     for (commands, failing, told, written, sent) in cases {
         let outcome = over(&rt, rt.alloc(), commands, failing)?;

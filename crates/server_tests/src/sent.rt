@@ -1,4 +1,4 @@
-//! How many commands the device is sent for those of clients: the four of the start and the closes
+//! How many commands the device is sent for those of clients: the eight of the start and the closes
 //! at the end are among them.
 use crate::faults::{WELL, over};
 use crate::runs::RUN;
@@ -61,12 +61,12 @@ const CLOSED_SESSION: &[u8] = b"\
 #[test]
 fn commands_are_sent_once(rt: HostRuntime) -> Result<(), Fail> {
     let cases: [(&[u8], u64); 6] = [
-        (STARTUPS, 4),
-        (OWN_SESSION, 7),
-        (POLICY, 12),
-        (FOUR_SESSIONS, 26),
-        (ENDED_SESSION, 8),
-        (CLOSED_SESSION, 8),
+        (STARTUPS, 8),
+        (OWN_SESSION, 11),
+        (POLICY, 16),
+        (FOUR_SESSIONS, 30),
+        (ENDED_SESSION, 12),
+        (CLOSED_SESSION, 12),
     ];
     for (script, sent) in cases {
         let outcome = over(&rt, rt.alloc(), RUN, script, WELL)?;

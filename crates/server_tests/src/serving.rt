@@ -1,5 +1,5 @@
 //! What `serve` makes of connections that an acceptor in memory hands out.
-use crate::mute::{STARTED_BEFORE, mute_device};
+use crate::mute::{NUMBERS, STARTED_BEFORE, mute_device};
 use crate::runs::{Link, Outcome, ZERO_SEED, outcome_of, source};
 use audit_journal::Journal;
 use device_memory::MemoryDevice;
@@ -197,9 +197,9 @@ fn connections_are_served(rt: HostRuntime) -> Result<(), Fail> {
         (2, "2", (NEVER, NEVER), 9, (4, 1), BOTH_SERVED, &[1, 2]),
         (2, "2", (NEVER, 0), 9, (3, 1), NONE_SERVED, &[]),
         // the device fails at the only command
-        (1, "1", (4, NEVER), 1000, (0, 0), ONE_FAILED, &[1]),
+        (1, "1", (8, NEVER), 1000, (0, 0), ONE_FAILED, &[1]),
         // the device fails at its start: nobody is accepted, and nothing is written
-        (2, "2", (3, NEVER), 1000, (6, 1), b"", &[]),
+        (2, "2", (7, NEVER), 1000, (6, 1), b"", &[]),
         // where more are asked for nothing is kept of them
         (
             2,
@@ -240,7 +240,7 @@ fn serve_mute<R: Threads + Wait + Sync>(
         "--socket=x",
         "--connections=2",
     ];
-    let device = mute_device(alloc, startup, later)?;
+    let device = mute_device(alloc, startup, NUMBERS, later)?;
     let link = link_of(alloc, &ONCE, Vec::new(alloc))?;
     let acceptor = MemoryAcceptor::new(vec![in alloc; link]?, vec![in alloc; failing]?);
     let input = source(alloc, b"", NEVER)?;

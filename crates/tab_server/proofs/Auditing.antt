@@ -37,7 +37,7 @@ sound_at_4 written faults was = record {
   faulted = was.faulted;
   replies = was.replies;
   right = λ is. absurd (omega arith);
-  begun = λ is. absurd (omega arith);
+  begun = λ is. elim is [ inl six ↦ absurd (omega arith) | inr eleven ↦ absurd (omega arith) ];
   base = was.base;
   held = was.held;
 }
@@ -61,6 +61,7 @@ cause_after faults was not_4 same = record {
   input_quiet = was.input_quiet;
   start = was.start;
   answer = was.answer;
+  numbers = was.numbers;
   input = was.input;
 }
 
@@ -106,6 +107,7 @@ cause_cut faults was not_4 rose = record {
   input_quiet = λ not_9 not. absurd (not refl);
   start = λ is. absurd (omega arith);
   answer = λ is. absurd (omega arith);
+  numbers = λ is. absurd (omega arith);
   input = λ is. absurd (omega arith);
 }
 

@@ -2,12 +2,11 @@
 use Rattle.std.proofs.Common.{◌≡◌, ◌≤◌, ℕ, true, false, Bool, List, Option, None, refl, sym, ap, subst, arith, inl, inr}
 use Rattle.std.specs.Prelude.{◌⊎◌, IsTrue}
 use Rattle.tab_spec.specs.Count.{Rose}
-use Rattle.tab_spec.specs.Persist.{Persist}
 use Rattle.device_port.specs.Device.{Seen}
 use Rattle.history_spec.specs.Entry.{Entry}
 use Rattle.broker_lock.specs.declared.calls.Told.{Told}
 use Rattle.broker_lock.specs.declared.calls.Told.TheVariants as tolds
-use Rattle.broker_lock.specs.Known.{Fixed}
+use Rattle.broker_lock.specs.Known.{Fixed, Origin}
 use Rattle.broker_lock.specs.Serves as lock
 use Rattle.broker_core.specs.Broker.{BrokerView, IsCarriedOut, IsFaulted, IsRefused, Tells, TellsCanceled}
 
@@ -29,10 +28,10 @@ caused seen old new client number bytes e low (inr (inl is)) =
     inr (subst (λ (x : Entry). lock.IsFailed old.began client number bytes x) (sym is.entry) (record { form = refl; rose = rose }))
 caused seen old new client number bytes e low (inr (inr is)) = inl (subst (λ (x : Entry). lock.IsAnswered client number bytes x) (sym is.entry) refl)
 
-abbrev fixed_of : {D : Type 0} → Option Persist → BrokerView D → Fixed
+abbrev fixed_of : {D : Type 0} → Option Origin → BrokerView D → Fixed
 fixed_of base b = record { base = base; limit = b.limit; began = b.began }
 
-pub tells : {D : Type 0} (seen : D → Seen) (base : Option Persist) (told : Told) (old new : BrokerView D) (client number : ℕ) (bytes reply : List ℕ)
+pub tells : {D : Type 0} (seen : D → Seen) (base : Option Origin) (told : Told) (old new : BrokerView D) (client number : ℕ) (bytes reply : List ℕ)
     → old.began ≤ (seen old.device).faults → (told ≡ tolds.Answer → base ≡ None)
     → Tells seen told old new client number bytes reply → lock.Tells (fixed_of base old) old.journal new.journal client number bytes reply told
 tells {D} seen base tolds.Entered old new client number bytes reply low none is =
@@ -42,7 +41,7 @@ tells {D} seen base (tolds.JournalFull count limit) old new client number bytes 
     record { lacks = is.lacks; same = ap (λ (b : BrokerView D). b.journal) is.same; reply_is = is.reply_is; kept_is = is.kept_is; limit_is = is.limit_is }
 tells {D} seen base tolds.Answer old new client number bytes reply low none is = (is.0, is.1, none refl)
 
-pub tells_canceled : {D : Type 0} (base : Option Persist) (told : Told) (old new : BrokerView D) (client number upto : ℕ) (bytes reply : List ℕ) → (told ≡ tolds.Answer → ⊥)
+pub tells_canceled : {D : Type 0} (base : Option Origin) (told : Told) (old new : BrokerView D) (client number upto : ℕ) (bytes reply : List ℕ) → (told ≡ tolds.Answer → ⊥)
     → TellsCanceled told old new client number upto bytes reply → lock.TellsCanceled (fixed_of base old) old.journal new.journal client number upto bytes reply told
 tells_canceled {D} base tolds.Entered old new client number upto bytes reply not is =
     record { entered = ap (λ (b : BrokerView D). b.journal) is.same; reply_is = is.reply_is; room = is.room }

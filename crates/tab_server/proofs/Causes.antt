@@ -1,12 +1,16 @@
 -- A run's status has its cause, by why its script was played no further and whether a wrong answer came.
-use Rattle.std.proofs.Common.{◌≡◌, ℕ, true, false, List, [], ◌∷◌, Option, Some, None, refl, inl, inr, arith}
+use Rattle.std.proofs.Common.{◌≡◌, ◌∙◌, ℕ, true, false, List, [], ◌∷◌, Option, Some, None, refl, sym, ap, subst, inl, inr, ⊎_elim, arith}
 use Rattle.std.specs.Prelude.{◌⊎◌, ◌==◌, is_some, IsSome, IsTrue, IfSome}
 use Rattle.std.specs.List.{list_any}
 use Rattle.device_spec.specs.Slots.{SlotState}
 use Rattle.device_spec.specs.Answers.{IsWrongAnswer}
+use Rattle.tab_spec.specs.declared.numbers.Numbers.{Numbers}
 use Rattle.tab_spec.specs.Persist.{Persist}
 use Rattle.history_spec.specs.Entry.{Entry}
-use Rattle.broker_core.specs.Broker.{BrokerView, StandsFor}
+use Rattle.world_spec.specs.World.{world_of}
+use Rattle.world_spec.specs.Legal.{Legal}
+use Rattle.broker_lock.specs.Known.{Origin, origin_of}
+use Rattle.broker_core.specs.Broker.{BrokerView, StandsFor, told_origin}
 use Rattle.script_player.specs.declared.stop.Stop.{Stop}
 use Rattle.script_player.specs.declared.stop.Stop.TheVariants as stops
 use Rattle.script_player.specs.Play.{IsPulledUpTo, most_pulled}
@@ -23,9 +27,9 @@ untold (Some s) (Some code) taken some = absurd (let none : Some code ≡ None =
 module _ (before after : Faults) (asked : List ℕ) (last : Option (List ℕ)) (state : Option SlotState) where
   -- nothing went wrong
   quiet_cause : (status detail : ℕ) → ((status ≡ 0) ⊎ (status ≡ 5) → detail ≡ 0)
-      → IsTrue (list_any (λ n. n == status) (0 ∷ 4 ∷ 5 ∷ 6 ∷ 7 ∷ 8 ∷ 9 ∷ 10 ∷ [])) → (status ≡ 4 → ⊥) → (status ≡ 6 → ⊥) → (status ≡ 7 → ⊥) → (status ≡ 9 → ⊥)
+      → IsTrue (list_any (λ n. n == status) (0 ∷ 4 ∷ 5 ∷ 6 ∷ 7 ∷ 8 ∷ 9 ∷ 10 ∷ 11 ∷ [])) → (status ≡ 4 → ⊥) → (status ≡ 6 → ⊥) → (status ≡ 7 → ⊥) → (status ≡ 9 → ⊥) → (status ≡ 11 → ⊥)
       → after.output ≡ before.output → after.input ≡ before.input → HasCause status detail before after asked last state
-  quiet_cause status detail plain known not_4 not_6 not_7 not_9 output input = record {
+  quiet_cause status detail plain known not_4 not_6 not_7 not_9 not_11 output input = record {
     known = known;
     plain = plain;
     output = λ is. absurd (not_4 is);
@@ -33,6 +37,7 @@ module _ (before after : Faults) (asked : List ℕ) (last : Option (List ℕ)) (
     input_quiet = λ not not_output. input;
     start = λ is. absurd (not_6 is);
     answer = λ is. absurd (not_7 is);
+    numbers = λ is. absurd (not_11 is);
     input = λ is. absurd (not_9 is);
   }
 
@@ -46,21 +51,22 @@ module _ (before after : Faults) (asked : List ℕ) (last : Option (List ℕ)) (
     input_quiet = λ not not_output. input;
     start = λ is. absurd (omega arith);
     answer = λ is. (answer, none);
+    numbers = λ is. absurd (omega arith);
     input = λ is. absurd (omega arith);
   }
 
   pub has_cause : (stop : Stop) (wrong : Option ℕ) → IsCaused stop before.input after.input before.output after.output (is_some wrong)
       → IfSome wrong (IsWrongAnswer asked last) → (IsSome state → wrong ≡ None) → HasCause (status_of (cause_of stop wrong)) (detail_of (cause_of stop wrong)) before after asked last state
   has_cause stops.End None caused answer taken =
-      quiet_cause 0 0 (λ is. refl) refl (λ is. omega arith) (λ is. omega arith) (λ is. omega arith) (λ is. omega arith) caused.cause.0 caused.cause.2
+      quiet_cause 0 0 (λ is. refl) refl (λ is. omega arith) (λ is. omega arith) (λ is. omega arith) (λ is. omega arith) (λ is. omega arith) caused.cause.0 caused.cause.2
   has_cause stops.End (Some code) caused answer taken = wrong_cause code answer (untold state (Some code) taken refl) caused.cause.0 caused.cause.2
   has_cause (stops.BadLine n) wrong caused answer taken =
-      quiet_cause 8 n (λ is. elim is [ inl zero ↦ absurd (omega arith) | inr five ↦ absurd (omega arith) ]) refl (λ is. omega arith) (λ is. omega arith) (λ is. omega arith) (λ is. omega arith)
+      quiet_cause 8 n (λ is. elim is [ inl zero ↦ absurd (omega arith) | inr five ↦ absurd (omega arith) ]) refl (λ is. omega arith) (λ is. omega arith) (λ is. omega arith) (λ is. omega arith) (λ is. omega arith)
       caused.cause.0 caused.cause.2
   has_cause stops.Memory wrong caused answer taken =
-      quiet_cause 5 0 (λ is. refl) refl (λ is. omega arith) (λ is. omega arith) (λ is. omega arith) (λ is. omega arith) caused.cause.0 caused.cause.2
+      quiet_cause 5 0 (λ is. refl) refl (λ is. omega arith) (λ is. omega arith) (λ is. omega arith) (λ is. omega arith) (λ is. omega arith) caused.cause.0 caused.cause.2
   has_cause (stops.Full n) wrong caused answer taken =
-      quiet_cause 10 n (λ is. elim is [ inl zero ↦ absurd (omega arith) | inr five ↦ absurd (omega arith) ]) refl (λ is. omega arith) (λ is. omega arith) (λ is. omega arith) (λ is. omega arith)
+      quiet_cause 10 n (λ is. elim is [ inl zero ↦ absurd (omega arith) | inr five ↦ absurd (omega arith) ]) refl (λ is. omega arith) (λ is. omega arith) (λ is. omega arith) (λ is. omega arith) (λ is. omega arith)
       caused.cause.0 caused.cause.2
   has_cause (stops.Output n) wrong caused answer taken = record {
     known = refl;
@@ -70,6 +76,7 @@ module _ (before after : Faults) (asked : List ℕ) (last : Option (List ℕ)) (
     input_quiet = λ not not_output. caused.cause.2;
     start = λ is. absurd (omega arith);
     answer = λ is. absurd (omega arith);
+    numbers = λ is. absurd (omega arith);
     input = λ is. absurd (omega arith);
   }
   has_cause (stops.Input n) wrong caused answer taken = record {
@@ -80,6 +87,7 @@ module _ (before after : Faults) (asked : List ℕ) (last : Option (List ℕ)) (
     input_quiet = λ not not_output. absurd (not refl);
     start = λ is. absurd (omega arith);
     answer = λ is. absurd (omega arith);
+    numbers = λ is. absurd (omega arith);
     input = λ is. (caused.cause.0, caused.cause.1);
   }
   has_cause stops.Answer None caused answer taken = absurd (let no : false ≡ true = caused.stays caused.cause.0 in cc)
@@ -109,26 +117,44 @@ no_wrong (stops.Input n) wrong is = absurd (omega arith)
 no_wrong stops.Answer None is = absurd (omega arith)
 no_wrong stops.Answer (Some code) is = absurd (omega arith)
 
-pub not_start : (stop : Stop) (wrong : Option ℕ) → status_of (cause_of stop wrong) ≡ 6 → ⊥
-not_start stops.End None is = omega arith
-not_start stops.End (Some code) is = omega arith
-not_start (stops.BadLine n) wrong is = omega arith
-not_start stops.Memory wrong is = omega arith
-not_start (stops.Full n) wrong is = omega arith
-not_start (stops.Output n) wrong is = omega arith
-not_start (stops.Input n) wrong is = omega arith
-not_start stops.Answer None is = omega arith
-not_start stops.Answer (Some code) is = omega arith
+pub not_start : (stop : Stop) (wrong : Option ℕ) → (status_of (cause_of stop wrong) ≡ 6) ⊎ (status_of (cause_of stop wrong) ≡ 11) → ⊥
+not_start stops.End None = ⊎_elim (λ is. omega arith) (λ is. omega arith)
+not_start stops.End (Some code) = ⊎_elim (λ is. omega arith) (λ is. omega arith)
+not_start (stops.BadLine n) wrong = ⊎_elim (λ is. omega arith) (λ is. omega arith)
+not_start stops.Memory wrong = ⊎_elim (λ is. omega arith) (λ is. omega arith)
+not_start (stops.Full n) wrong = ⊎_elim (λ is. omega arith) (λ is. omega arith)
+not_start (stops.Output n) wrong = ⊎_elim (λ is. omega arith) (λ is. omega arith)
+not_start (stops.Input n) wrong = ⊎_elim (λ is. omega arith) (λ is. omega arith)
+not_start stops.Answer None = ⊎_elim (λ is. omega arith) (λ is. omega arith)
+not_start stops.Answer (Some code) = ⊎_elim (λ is. omega arith) (λ is. omega arith)
 
 -- ---- the device at the end
 
-pub is_history : (base : Option Persist) (state : Option SlotState) (history : List Entry) {D : Type 0} (broker : BrokerView D) → StandsFor base state history broker.tables broker.held → IsHistoryOf base state history
-is_history base state history broker stands b slots is_base is_state =
-    let after = stands b slots is_base is_state in
+-- what a history begins from has two parts
+origin_is : (base : Option Persist) (numbers : Numbers) (o : Origin) → origin_of base numbers ≡ Some o → (base ≡ Some o.persist) × (o.numbers ≡ numbers)
+origin_is None numbers o is = absurd cc
+origin_is (Some b) numbers o is =
+    let same : record { persist = b; numbers = numbers } ≡ o = cc in
+    (ap (λ (x : Origin). Some x.persist) same, sym (ap (λ (x : Origin). x.numbers) same))
+
+pub is_history : (base : Option Persist) (state : Option SlotState) (history : List Entry) {D : Type 0} (broker : BrokerView D) → StandsFor base state history broker.tables broker.held
+    → IsHistoryOf (origin_of base broker.held.sessions.numbers) state history
+is_history base state history broker stands o slots is_origin is_state =
+    let origin = origin_is base broker.held.sessions.numbers o is_origin in
+    let after = stands o.persist slots origin.0 is_state in
+    let same : slots.numbers ≡ o.numbers = after.stands.settled.sessions.numbers ∙ sym origin.1 in
     record {
-      legal = after.legal;
-      persist = after.stands.persist;
+      legal = subst (λ (n : Numbers). Legal o.persist n.active history) same after.legal;
+      persist = subst (λ (n : Numbers). slots.persist ≡ (world_of o.persist n.active history).persist) same after.stands.persist;
       started = after.stands.settled.objects.started;
       sound = after.stands.settled.objects.sound;
-      numbers = after.stands.profile;
+      numbers = same;
     }
+
+-- the device tells what the history begins from
+pub origin_told : (base : Option Persist) (state : Option SlotState) (history : List Entry) {D : Type 0} (broker : BrokerView D) → is_some state ≡ is_some base → StandsFor base state history broker.tables broker.held
+    → told_origin base state ≡ origin_of base broker.held.sessions.numbers
+origin_told None None history broker same stands = refl
+origin_told None (Some slots) history broker same stands = refl
+origin_told (Some b) None history broker same stands = absurd cc
+origin_told (Some b) (Some slots) history broker same stands = ap (λ (n : Numbers). origin_of (Some b) n) (stands b slots refl refl).stands.settled.sessions.numbers

@@ -1,5 +1,5 @@
 -- What `serve` leaves, by what its parts tell.
-use Rattle.std.proofs.Common.{◌≡◌, ◌∙◌, eqb-true, ℕ, Bool, true, false, List, [], Option, Some, None, Result, Ok, Err, refl, sym, ap, subst, inl, inr, arith}
+use Rattle.std.proofs.Common.{◌≡◌, ◌∙◌, eqb-true, ℕ, Bool, true, false, List, [], Option, Some, None, Result, Ok, Err, refl, sym, ap, subst, inl, inr, ⊎_elim, arith}
 use Rattle.std.specs.Prelude.{◌⊎◌, ◌==◌, ◌≤◌, ◌∷◌, ◌||◌, is_some, length, IfSome, IsSome, IsTrue, OnOk}
 use Rattle.std.specs.List.{list_any}
 use Rattle.std.specs.Option.{option_map}
@@ -38,6 +38,7 @@ cause_of (Some code) accept output lacked text before after accepted accepted_ne
   output = λ is. absurd (omega arith);
   start = λ is. absurd (omega arith);
   answer = λ is. (answer, untold after.seen.state code taken);
+  numbers = λ is. absurd (omega arith);
 }
 cause_of None (Some count) output lacked text before after accepted accepted_new wrote has answer taken = record {
   known = refl;
@@ -47,6 +48,7 @@ cause_of None (Some count) output lacked text before after accepted accepted_new
   output = λ is. absurd (omega arith);
   start = λ is. absurd (omega arith);
   answer = λ is. absurd (omega arith);
+  numbers = λ is. absurd (omega arith);
 }
 cause_of None None (Some count) lacked text before after accepted accepted_new wrote has answer taken = record {
   known = refl;
@@ -56,6 +58,7 @@ cause_of None None (Some count) lacked text before after accepted accepted_new w
   output = λ is. (wrote.1, wrote.2);
   start = λ is. absurd (omega arith);
   answer = λ is. absurd (omega arith);
+  numbers = λ is. absurd (omega arith);
 }
 cause_of None None None true text before after accepted accepted_new wrote has answer taken = record {
   known = refl;
@@ -65,6 +68,7 @@ cause_of None None None true text before after accepted accepted_new wrote has a
   output = λ is. absurd (omega arith);
   start = λ is. absurd (omega arith);
   answer = λ is. absurd (omega arith);
+  numbers = λ is. absurd (omega arith);
 }
 cause_of None None None false text before after accepted accepted_new wrote has answer taken = record {
   known = refl;
@@ -74,6 +78,7 @@ cause_of None None None false text before after accepted accepted_new wrote has 
   output = λ is. absurd (omega arith);
   start = λ is. absurd (omega arith);
   answer = λ is. absurd (omega arith);
+  numbers = λ is. absurd (omega arith);
 }
 
 wrote_end : (wrong accept output : Option ℕ) (lacked : Bool) (text : List ℕ) (idle : Type 0) (before : Before) (after : After) → WroteOr output text before.written after.written before.faults.output after.faults.output
@@ -109,12 +114,12 @@ not_7 : (wrong accept output : Option ℕ) (lacked : Bool) → (serve_status wro
 not_7 (Some code) accept output lacked not = absurd (not refl)
 not_7 None accept output lacked not = refl
 
-never_6 : (wrong accept output : Option ℕ) (lacked : Bool) → serve_status wrong accept output lacked ≡ 6 → ⊥
-never_6 (Some code) accept output lacked is = omega arith
-never_6 None (Some count) output lacked is = omega arith
-never_6 None None (Some count) lacked is = omega arith
-never_6 None None None true is = omega arith
-never_6 None None None false is = omega arith
+never_start : (wrong accept output : Option ℕ) (lacked : Bool) → (serve_status wrong accept output lacked ≡ 6) ⊎ (serve_status wrong accept output lacked ≡ 11) → ⊥
+never_start (Some code) accept output lacked = ⊎_elim (λ is. omega arith) (λ is. omega arith)
+never_start None (Some count) output lacked = ⊎_elim (λ is. omega arith) (λ is. omega arith)
+never_start None None (Some count) lacked = ⊎_elim (λ is. omega arith) (λ is. omega arith)
+never_start None None None true = ⊎_elim (λ is. omega arith) (λ is. omega arith)
+never_start None None None false = ⊎_elim (λ is. omega arith) (λ is. omega arith)
 
 module _ {L M : Type 0} (are_served : List Entry → List M → Type 0) (ending_of : M → Ending) (audit : Bool) (most : ℕ) (before : Before) (after : After) (coming coming_new : Option (List L)) (accepted accepted_new : ℕ) where
   served_by : (wrong accept output : Option ℕ) (history : List Entry) (links : List M)
@@ -132,7 +137,7 @@ module _ {L M : Type 0} (are_served : List Entry → List M → Type 0) (ending_
           faulted = ended.faulted;
           replies = ended.replies;
           right = λ is. ended.right (not_7 wrong accept output lacked (λ seven. omega (arith, is, seven)));
-          begun = λ is. absurd (never_6 wrong accept output lacked is);
+          begun = λ is. absurd (never_start wrong accept output lacked is);
           base = ended.base_is;
           held = ended.holds;
         };
@@ -170,7 +175,7 @@ module _ {L M : Type 0} (are_served : List Entry → List M → Type 0) (ending_
       faulted = ended.faulted;
       replies = ended.replies;
       right = λ is. absurd (omega arith);
-      begun = λ is. absurd (omega arith);
+      begun = λ is. elim is [ inl six ↦ absurd (omega arith) | inr eleven ↦ absurd (omega arith) ];
       base = ended.base_is;
       held = ended.holds;
     };
@@ -190,6 +195,7 @@ module _ {L M : Type 0} (are_served : List Entry → List M → Type 0) (ending_
       output = λ is. absurd (omega arith);
       start = λ is. absurd (omega arith);
       answer = λ is. absurd (omega arith);
+      numbers = λ is. absurd (omega arith);
     };
     unread = unread;
   }
@@ -316,37 +322,41 @@ pool_over is_link given_of client_of ending_of audit most fixed other left writt
 same_number : (n m : ℕ) → (n == m) ≡ true → m ≡ n
 same_number n m is = sym (eqb-true n m is)
 
-one_of : (a b c : Bool) → (a || (b || (c || false))) ≡ true → (a ≡ true) ⊎ ((b ≡ true) ⊎ (c ≡ true))
-one_of true b c is = inl refl
-one_of false true c is = inr (inl refl)
-one_of false false true is = inr (inr refl)
-one_of false false false is = absurd cc
+one_of : (a b c d : Bool) → (a || (b || (c || (d || false)))) ≡ true → (a ≡ true) ⊎ ((b ≡ true) ⊎ ((c ≡ true) ⊎ (d ≡ true)))
+one_of true b c d is = inl refl
+one_of false true c d is = inr (inl refl)
+one_of false false true d is = inr (inr (inl refl))
+one_of false false false true is = inr (inr (inr refl))
+one_of false false false false is = absurd cc
 
 without_first : (a : Bool) (rest : Bool) → (a ≡ true → ⊥) → (a || rest) ≡ true → rest ≡ true
 without_first true rest not is = absurd (not refl)
 without_first false rest not is = is
 
 abbrev IsStart : ℕ → Type 0
-IsStart status = (status ≡ 5) ⊎ ((status ≡ 6) ⊎ (status ≡ 7))
+IsStart status = (status ≡ 5) ⊎ ((status ≡ 6) ⊎ ((status ≡ 7) ⊎ (status ≡ 11)))
 
-start_of : (status : ℕ) → ((5 == status) ≡ true) ⊎ (((6 == status) ≡ true) ⊎ ((7 == status) ≡ true)) → IsStart status
+start_of : (status : ℕ) → ((5 == status) ≡ true) ⊎ (((6 == status) ≡ true) ⊎ (((7 == status) ≡ true) ⊎ ((11 == status) ≡ true))) → IsStart status
 start_of status (inl five) = inl (same_number 5 status five)
 start_of status (inr (inl six)) = inr (inl (same_number 6 status six))
-start_of status (inr (inr seven)) = inr (inr (same_number 7 status seven))
+start_of status (inr (inr (inl seven))) = inr (inr (inl (same_number 7 status seven)))
+start_of status (inr (inr (inr eleven))) = inr (inr (inr (same_number 11 status eleven)))
 
-known_of : (status : ℕ) → IsStart status → IsTrue (list_any (λ n. n == status) (0 ∷ 3 ∷ 4 ∷ 5 ∷ 6 ∷ 7 ∷ []))
-known_of status (inl five) = subst (λ (m : ℕ). IsTrue (list_any (λ n. n == m) (0 ∷ 3 ∷ 4 ∷ 5 ∷ 6 ∷ 7 ∷ []))) (sym five) refl
-known_of status (inr (inl six)) = subst (λ (m : ℕ). IsTrue (list_any (λ n. n == m) (0 ∷ 3 ∷ 4 ∷ 5 ∷ 6 ∷ 7 ∷ []))) (sym six) refl
-known_of status (inr (inr seven)) = subst (λ (m : ℕ). IsTrue (list_any (λ n. n == m) (0 ∷ 3 ∷ 4 ∷ 5 ∷ 6 ∷ 7 ∷ []))) (sym seven) refl
+known_of : (status : ℕ) → IsStart status → IsTrue (list_any (λ n. n == status) (0 ∷ 3 ∷ 4 ∷ 5 ∷ 6 ∷ 7 ∷ 11 ∷ []))
+known_of status (inl five) = subst (λ (m : ℕ). IsTrue (list_any (λ n. n == m) (0 ∷ 3 ∷ 4 ∷ 5 ∷ 6 ∷ 7 ∷ 11 ∷ []))) (sym five) refl
+known_of status (inr (inl six)) = subst (λ (m : ℕ). IsTrue (list_any (λ n. n == m) (0 ∷ 3 ∷ 4 ∷ 5 ∷ 6 ∷ 7 ∷ 11 ∷ []))) (sym six) refl
+known_of status (inr (inr (inl seven))) = subst (λ (m : ℕ). IsTrue (list_any (λ n. n == m) (0 ∷ 3 ∷ 4 ∷ 5 ∷ 6 ∷ 7 ∷ 11 ∷ []))) (sym seven) refl
+known_of status (inr (inr (inr eleven))) = subst (λ (m : ℕ). IsTrue (list_any (λ n. n == m) (0 ∷ 3 ∷ 4 ∷ 5 ∷ 6 ∷ 7 ∷ 11 ∷ []))) (sym eleven) refl
 
 not_below : (status : ℕ) → IsStart status → 5 ≤ status
 not_below status (inl five) = omega (arith, five)
 not_below status (inr (inl six)) = omega (arith, six)
-not_below status (inr (inr seven)) = omega (arith, seven)
+not_below status (inr (inr (inl seven))) = omega (arith, seven)
+not_below status (inr (inr (inr eleven))) = omega (arith, eleven)
 
 pub never_2 : (limit : ℕ) (audit : Bool) (before : Before) (after : After) (status detail : ℕ) → Leaves limit audit before after status detail None → status ≡ 2 → ⊥
 never_2 limit audit before after status detail leaves two =
-    let known = subst (λ (m : ℕ). IsTrue (list_any (λ n. n == m) (0 ∷ 4 ∷ 5 ∷ 6 ∷ 7 ∷ 8 ∷ 9 ∷ 10 ∷ []))) two leaves.cause.known in
+    let known = subst (λ (m : ℕ). IsTrue (list_any (λ n. n == m) (0 ∷ 4 ∷ 5 ∷ 6 ∷ 7 ∷ 8 ∷ 9 ∷ 10 ∷ 11 ∷ []))) two leaves.cause.known in
     absurd (let no : false ≡ true = known in cc)
 
 pub leaves_unbegun : {L M : Type 0} (are_served : List Entry → List M → Type 0) (ending_of : M → Ending) (limit : ℕ) (audit : Bool) (most : ℕ) (before : Before) (after : After) (coming : Option (List L)) (accepted status detail : ℕ) (links : List M)
@@ -354,8 +364,8 @@ pub leaves_unbegun : {L M : Type 0} (are_served : List Entry → List M → Type
     → (after.left ≡ before.left) × (after.faults.input ≡ before.faults.input)
     → LeavesServed are_served ending_of audit most before after coming coming accepted accepted status detail None links
 leaves_unbegun are_served ending_of limit audit most before after coming accepted status detail links none leaves of_start unwritten quiet unread =
-    let starts = without_first (2 == status) (list_any (λ n. n == status) (5 ∷ 6 ∷ 7 ∷ [])) (λ two. never_2 limit audit before after status detail leaves (same_number 2 status two)) of_start in
-    let start : IsStart status = start_of status (one_of (5 == status) (6 == status) (7 == status) starts) in
+    let starts = without_first (2 == status) (list_any (λ n. n == status) (5 ∷ 6 ∷ 7 ∷ 11 ∷ [])) (λ two. never_2 limit audit before after status detail leaves (same_number 2 status two)) of_start in
+    let start : IsStart status = start_of status (one_of (5 == status) (6 == status) (7 == status) (11 == status) starts) in
     let above : 5 ≤ status = not_below status start in
     record {
       sound = leaves.sound;
@@ -368,6 +378,7 @@ leaves_unbegun are_served ending_of limit audit most before after coming accepte
         output = λ is. absurd (omega (arith, is, above));
         start = λ is. leaves.cause.start is;
         answer = λ is. leaves.cause.answer is;
+        numbers = λ is. leaves.cause.numbers is;
       };
       unread = unread;
     }
@@ -378,5 +389,5 @@ leaves_unbegun are_served ending_of limit audit most before after coming accepte
 pub never_refused_serve : {L M : Type 0} (are_served : List Entry → List M → Type 0) (ending_of : M → Ending) (audit : Bool) (most : ℕ) (before : Before) (after : After) (coming coming_new : Option (List L)) (accepted accepted_new status detail : ℕ) (journal : Option (List Entry)) (links : List M)
     → LeavesServed are_served ending_of audit most before after coming coming_new accepted accepted_new status detail journal links → status ≡ 2 → ⊥
 never_refused_serve are_served ending_of audit most before after coming coming_new accepted accepted_new status detail journal links left two =
-    let known = subst (λ (m : ℕ). IsTrue (list_any (λ n. n == m) (0 ∷ 3 ∷ 4 ∷ 5 ∷ 6 ∷ 7 ∷ []))) two left.cause.known in
+    let known = subst (λ (m : ℕ). IsTrue (list_any (λ n. n == m) (0 ∷ 3 ∷ 4 ∷ 5 ∷ 6 ∷ 7 ∷ 11 ∷ []))) two left.cause.known in
     absurd (let no : false ≡ true = known in cc)

@@ -1,16 +1,17 @@
 -- What holds of a plan that was carried out, whatever its command.
-use Rattle.std.proofs.Common.{◌≡◌, ℕ, true, false, List, Option, Some, None, Ok, sym, subst, ◌∙◌, refl, arith}
+use Rattle.std.proofs.Common.{◌≡◌, ℕ, true, false, List, Option, Some, None, Ok, sym, ap, subst, ◌∙◌, refl, arith}
 use Rattle.std.specs.Prelude.{◌==◌, ◌∷◌, [], ◌≢◌, ◌↔◌, IfSome, IsNone, IsTrue}
 use Rattle.std.specs.List.{list_any}
 use Rattle.std.specs.Option.{ok_or}
 use Rattle.device_spec.specs.Slots.{SlotState}
 use Rattle.history_spec.specs.Entry.{Entry}
 use Rattle.device_port.specs.Device.{asked_of, last_of}
+use Rattle.broker_lock.specs.Known.{Origin}
 use Rattle.command_line.specs.declared.words.Verb.{Verb}
 use Rattle.command_line.specs.declared.words.Verb.TheVariants.{Run, Workload, Serve}
 use Rattle.command_line.specs.declared.words.Plan.{Plan}
 use Rattle.tab_server.specs.Status.{HasCause}
-use Rattle.tab_server.specs.Run.{After, Before}
+use Rattle.tab_server.specs.Run.{After, Before, IsSound}
 use Rattle.tab_server.specs.Done.{LeavesBy, LeavesPlan}
 
 pub cause_by : (job : Verb) (plan : Plan) (before : Before) (after : After) (status detail : ℕ) (journal : Option (List Entry)) → LeavesBy job plan before after status detail journal
@@ -18,6 +19,15 @@ pub cause_by : (job : Verb) (plan : Plan) (before : Before) (after : After) (sta
 cause_by Run plan before after status detail journal left = left.cause
 cause_by Workload plan before after status detail journal left = left.cause
 cause_by Serve plan before after status detail journal left = absurd left
+
+pub sound_by : (job : Verb) (plan : Plan) (before : Before) (after : After) (status detail : ℕ) (journal : Option (List Entry)) → LeavesBy job plan before after status detail journal → IsSound before after status journal
+sound_by Run plan before after status detail journal left = left.sound
+sound_by Workload plan before after status detail journal left = left.sound
+sound_by Serve plan before after status detail journal left = absurd left
+
+-- a device that tells the same has the same numbers
+pub numbers_kept : (was now : Origin) → ◌≡◌ {A = Option Origin} (Some now) (Some was) → now.numbers ≡ was.numbers
+numbers_kept was now same = let is : now ≡ was = cc in ap (λ (o : Origin). o.numbers) is
 
 -- a device that shows its state gives no wrong answer
 pub never_answered : (plan : Option Plan) (before : Before) (after : After) (status detail : ℕ) (journal : Option (List Entry)) (state : SlotState) → after.seen.state ≡ Some state → (status ≡ 2) ↔ IsNone plan
@@ -30,7 +40,7 @@ never_answered (Some p) before after status detail journal state tells refused l
 -- a plan that was carried out ends with no refusal
 pub never_refused : (plan : Plan) (before : Before) (after : After) (status detail : ℕ) (journal : Option (List Entry)) → LeavesPlan plan before after status detail journal → status ≡ 2 → ⊥
 never_refused plan before after status detail journal left two =
-    let known = subst (λ (m : ℕ). IsTrue (list_any (λ n. n == m) (0 ∷ 4 ∷ 5 ∷ 6 ∷ 7 ∷ 8 ∷ 9 ∷ 10 ∷ []))) two (cause_by plan.job plan before after status detail journal left).known in
+    let known = subst (λ (m : ℕ). IsTrue (list_any (λ n. n == m) (0 ∷ 4 ∷ 5 ∷ 6 ∷ 7 ∷ 8 ∷ 9 ∷ 10 ∷ 11 ∷ []))) two (cause_by plan.job plan before after status detail journal left).known in
     absurd (let no : false ≡ true = known in cc)
 
 -- words that gave a plan are taken

@@ -24,7 +24,7 @@ if_some_more None P Q more is = tt
 if_some_more (Some x) P Q more is = more x is
 
 -- neither status that tells the ending
-unsaid : (given : Option (List ℕ)) (status detail : ℕ) → (status ≡ 0 → ⊥) → (status ≡ 8 → ⊥) → IfSome given (λ all. EndsAs (script all).ending status detail)
+pub unsaid : (given : Option (List ℕ)) (status detail : ℕ) → (status ≡ 0 → ⊥) → (status ≡ 8 → ⊥) → IfSome given (λ all. EndsAs (script all).ending status detail)
 unsaid given status detail not_0 not_8 =
     if_given given (λ all. EndsAs (script all).ending status detail) (λ all is. record { at_the_end = λ zero. absurd (not_0 zero); at_a_bad_line = λ eight. absurd (not_8 eight) })
 

@@ -1,4 +1,5 @@
 pub mod Auditing
+pub mod Beginning
 pub mod BrokerCalls
 pub mod Causes
 pub mod Connecting

@@ -5,7 +5,6 @@ use Rattle.std.specs.List.{AllByRecursion}
 use Rattle.std.proofs.lemmas.List.{take-append-le}
 use Rattle.std.proofs.Math.Seq.{take-append-add}
 use Rattle.tab_spec.specs.Count.{Rose}
-use Rattle.tab_spec.specs.Persist.{Persist}
 use Rattle.tab_spec.specs.Values.{AreBytes}
 use Rattle.device_spec.specs.Answers.{IsWrongAnswer}
 use Rattle.device_port.specs.Device.{Seen, asked_of, last_of}
@@ -18,6 +17,7 @@ use Rattle.script_spec.specs.Plays.{Plays, at_start}
 use Rattle.script_spec.specs.Summary.{Reply, AreTold, HaveBytes, replies_to, reply_lines, summary_line}
 use Rattle.script_spec.specs.Workload.{workload_key, workload_text}
 use Rattle.audit_journal.specs.Text.{WroteFrontOf}
+use Rattle.broker_lock.specs.Known.{Origin}
 use Rattle.workload.proofs.Few.{calls_few}
 use Rattle.workload.proofs.GoodLines.{IsWhole, lines_are_good}
 use Rattle.workload.proofs.Telling.{calls_are_told}
@@ -157,7 +157,7 @@ played_whole limit start lines (causes.Input n) history text is played = absurd 
 played_whole limit start lines (causes.Answer n) history text is played = inl played
 
 -- what there was before the script of a workload was played over a tally, and after it
-abbrev pub before_tally : (base : Option Persist) (device : ℕ) (text : List ℕ) → Before
+abbrev pub before_tally : (base : Option Origin) (device : ℕ) (text : List ℕ) → Before
 before_tally base device text = record { base = base; left = Some text; written = Some []; faults = record { device = device; input = 0; output = 0 } }
 
 abbrev pub after_tally : (seen : Seen) (left : Option (List ℕ)) (tally : List ℕ) → After
@@ -169,7 +169,7 @@ not_rose (inl is) = omega (arith, is)
 not_rose (inr is) = omega (arith, is)
 
 -- it stopped before the end, and nothing comes of it
-pub played_early : (limit start lines : ℕ) (base : Option Persist) (device : ℕ) (new : Seen) (left : Option (List ℕ)) (tally : List ℕ) (why : Cause) (history : List Entry) → lines ≤ 100000 → HasBytes history
+pub played_early : (limit start lines : ℕ) (base : Option Origin) (device : ℕ) (new : Seen) (left : Option (List ℕ)) (tally : List ℕ) (why : Cause) (history : List Entry) → lines ≤ 100000 → HasBytes history
     → Leaves limit false (before_tally base device (workload_text start lines)) (after_tally new left tally) (status_of why) (detail_of why) (Some history)
     → StandsToEnd false limit (status_of why) (Some (workload_text start lines)) (Some []) (Some tally) history → IsPlayedTo limit start lines why history []
 played_early limit start lines base device new left tally causes.End history few bytes leaves early = absurd (early.0 refl)
@@ -189,7 +189,7 @@ played_early limit start lines base device new left tally (causes.Answer n) hist
 -- ---- the end of a run
 
 -- what there was before a workload, and what there is after it, where its output is another one than the tally
-abbrev pub before_all : (base : Option Persist) (device : ℕ) (left written : Option (List ℕ)) (input output : ℕ) → Before
+abbrev pub before_all : (base : Option Origin) (device : ℕ) (left written : Option (List ℕ)) (input output : ℕ) → Before
 before_all base device left written input output = record { base = base; left = left; written = written; faults = record { device = device; input = input; output = output } }
 
 abbrev pub after_all : (seen : Seen) (left written : Option (List ℕ)) (input output : ℕ) → After
@@ -254,7 +254,7 @@ not_of_input limit start lines (causes.Input n) history text played is = absurd 
 not_of_input limit start lines (causes.Answer n) history text played (inl is) = omega arith
 not_of_input limit start lines (causes.Answer n) history text played (inr is) = omega arith
 
-workload_ended : (limit start lines : ℕ) (base : Option Persist) (device : ℕ) (new : Seen) (left : Option (List ℕ)) (tally : List ℕ) (after : After) (why : Cause) (history : List Entry) (text : List ℕ)
+workload_ended : (limit start lines : ℕ) (base : Option Origin) (device : ℕ) (new : Seen) (left : Option (List ℕ)) (tally : List ℕ) (after : After) (why : Cause) (history : List Entry) (text : List ℕ)
     → after.seen ≡ new
     → Leaves limit false (before_tally base device (workload_text start lines)) (after_tally new left tally) (status_of why) (detail_of why) (Some history)
     → IsPlayedTo limit start lines why history text → WorkloadEnded limit start lines after history text
@@ -267,7 +267,7 @@ workload_ended limit start lines base device new left tally after (causes.Input 
 workload_ended limit start lines base device new left tally after (causes.Answer n) history text is_seen leaves played =
     let wrong = leaves.cause.answer refl in answered n (subst (λ (s : Seen). IsWrongAnswer (asked_of s) (last_of s) n) (sym is_seen) wrong.0) (ap (λ (s : Seen). s.state) is_seen ∙ wrong.1) played
 
-pub leaves_workload : (limit : ℕ) (audit : Bool) (start lines : ℕ) (base : Option Persist) (device : ℕ) (new : Seen) (rest : Option (List ℕ)) (tally : List ℕ) (left written written_new : Option (List ℕ)) (input output output_new : ℕ) (why why_new : Cause) (history : List Entry) (text : List ℕ)
+pub leaves_workload : (limit : ℕ) (audit : Bool) (start lines : ℕ) (base : Option Origin) (device : ℕ) (new : Seen) (rest : Option (List ℕ)) (tally : List ℕ) (left written written_new : Option (List ℕ)) (input output output_new : ℕ) (why why_new : Cause) (history : List Entry) (text : List ℕ)
     → Leaves limit false (before_tally base device (workload_text start lines)) (after_tally new rest tally) (status_of why) (detail_of why) (Some history)
     → IsPlayedTo limit start lines why history text → WroteBehind why why_new (with_audit audit history text) written written_new output output_new
     → LeavesWorkload limit audit start lines (before_all base device left written input output) (after_all new left written_new input output_new) (status_of why_new) (detail_of why_new) (Some history)
@@ -291,6 +291,7 @@ leaves_workload limit audit start lines base device new rest tally left written 
         input_quiet = λ not not_4. refl;
         start = cause.start;
         answer = cause.answer;
+        numbers = cause.numbers;
         input = λ is. absurd (not_of_input limit start lines why history text played (inr is));
       };
       unread = (refl, refl);
@@ -299,7 +300,7 @@ leaves_workload limit audit start lines base device new rest tally left written 
     let sound = leaves.sound in
     rw cut.0
     (record {
-      sound = record { legal = sound.legal; faulted = sound.faulted; replies = sound.replies; right = λ is. absurd (omega arith); begun = λ is. absurd (omega arith); base = sound.base; held = sound.held };
+      sound = record { legal = sound.legal; faulted = sound.faulted; replies = sound.replies; right = λ is. absurd (omega arith); begun = λ is. elim is [ inl six ↦ absurd (omega arith) | inr eleven ↦ absurd (omega arith) ]; base = sound.base; held = sound.held };
       whole = λ is. absurd (omega arith);
       part = λ is. absurd (omega arith);
       full = λ is. absurd (omega arith);
@@ -314,12 +315,13 @@ leaves_workload limit audit start lines base device new rest tally left written 
         input_quiet = λ not not_4. refl;
         start = λ is. absurd (omega arith);
         answer = λ is. absurd (omega arith);
+        numbers = λ is. absurd (omega arith);
         input = λ is. absurd (omega arith);
       };
       unread = (refl, refl);
     })
 
-pub leaves_all : (limit : ℕ) (audit : Bool) (start lines : ℕ) (base : Option Persist) (device : ℕ) (new : Seen) (rest : Option (List ℕ)) (tally : List ℕ) (left written between_written written_new : Option (List ℕ)) (input output between_output output_new : ℕ)
+pub leaves_all : (limit : ℕ) (audit : Bool) (start lines : ℕ) (base : Option Origin) (device : ℕ) (new : Seen) (rest : Option (List ℕ)) (tally : List ℕ) (left written between_written written_new : Option (List ℕ)) (input output between_output output_new : ℕ)
     (whole : Bool) (why between why_new : Cause) (history : List Entry) → lines ≤ 100000 → HasBytes history
     → Leaves limit false (before_tally base device (workload_text start lines)) (after_tally new rest tally) (status_of why) (detail_of why) (Some history)
     → StandsToEnd whole limit (status_of why) (Some (workload_text start lines)) (Some []) (Some tally) history

@@ -1,8 +1,5 @@
 -- What a run leaves: how its status, its journal and its output stand to what there was before it.
 use Rattle.std.specs.Prelude.{◌≡◌, ◌≤◌, ◌⊎◌, ℕ, Bool, false, true, IsTrue, List, [], Option, None, Some, IfSome, IsSome, IsSomeAnd}
-use Rattle.tab_spec.specs.declared.TheConstants.{ACTIVE_SESSIONS}
-use Rattle.tab_spec.specs.Numbers.{profile_numbers}
-use Rattle.tab_spec.specs.Persist.{Persist}
 use Rattle.tab_spec.specs.Count.{Rose}
 use Rattle.device_spec.specs.Slots.{SlotState, IsSlots, held}
 use Rattle.device_spec.specs.Answers.{IsRight, IsWrongAnswer, wrong}
@@ -14,16 +11,17 @@ use Rattle.script_spec.specs.Script.{script}
 use Rattle.script_spec.specs.Calls.{Call, calls_from}
 use Rattle.audit_journal.specs.Text.{WroteFrontOf}
 use Rattle.device_port.specs.Device.{Seen, asked_of, last_of}
-use Rattle.broker_core.specs.Broker.{AreWhole, BrokerView, FaultsCounted, ProfileLegal}
+use Rattle.broker_lock.specs.Known.{Origin, origin_of}
+use Rattle.broker_core.specs.Broker.{AreWhole, BrokerView, FaultsCounted, LegalOver, told_origin}
 use Rattle.script_player.specs.Ends.{LeavesFull, LeavesPart, LeavesRead, LeavesWhole, MakesUpTo, with_audit}
 use Rattle.script_player.specs.Stops.{AreFirst, EndsInClose, Unanswered, WroteFront}
-use Rattle.tab_server.specs.declared.status.TheConstants.{BAD_LINE, DONE, INPUT_FAILED, JOURNAL_FULL, NO_MEMORY, OUTPUT_FAILED, START_FAILED, WRONG_ANSWER}
+use Rattle.tab_server.specs.declared.status.TheConstants.{BAD_LINE, DONE, INPUT_FAILED, JOURNAL_FULL, NO_MEMORY, OUTPUT_FAILED, OUT_OF_RANGE, START_FAILED, WRONG_ANSWER}
 use Rattle.tab_server.specs.Status.{EndsAs, Faults, HasCause, IsPulled}
 
--- what there was before a run: what the device's history begins from, what the input has, what was written to the output, and how
+-- what there was before a run: what the device's history begins from and its numbers, what the input has, what was written to the output, and how
 -- often each of them failed
 pub record Before : Type 0 where
-  pub base : Option Persist
+  pub base : Option Origin
   pub left : Option (List ℕ)
   pub written : Option (List ℕ)
   pub faults : Faults
@@ -36,7 +34,7 @@ pub record After : Type 0 where
   pub faults : Faults
 
 -- the same, by what each of them tells
-abbrev pub before_of : (base : Option Persist) → (began : ℕ) → (left : Option (List ℕ)) → (input : ℕ) → (written : Option (List ℕ)) → (output : ℕ) → Before
+abbrev pub before_of : (base : Option Origin) → (began : ℕ) → (left : Option (List ℕ)) → (input : ℕ) → (written : Option (List ℕ)) → (output : ℕ) → Before
 before_of base began left input written output = record {
   base = base;
   left = left;
@@ -56,7 +54,7 @@ after_of seen left input written output = record {
 abbrev pub before : {D I O : Type 0} → (seen : D → Seen) → (left : I → Option (List ℕ)) → (input_faults : I → ℕ)
     → (written : O → Option (List ℕ)) → (output_faults : O → ℕ) → D → I → O → Before
 before seen left input_faults written output_faults device input output =
-    before_of (seen device).base (seen device).faults (left input) (input_faults input) (written output) (output_faults output)
+    before_of (told_origin (seen device).base (seen device).state) (seen device).faults (left input) (input_faults input) (written output) (output_faults output)
 
 abbrev pub after : {D I O : Type 0} → (seen : D → Seen) → (left : I → Option (List ℕ)) → (input_faults : I → ℕ)
     → (written : O → Option (List ℕ)) → (output_faults : O → ℕ) → D → I → O → After
@@ -69,27 +67,29 @@ pub record Begins {D : Type 0} (seen : Seen) (limit : ℕ) (broker : BrokerView 
   pub sound : broker.wrong_code ≡ None
   pub limit_is : broker.limit ≡ limit
   pub began_is : broker.began ≡ seen.faults
-  pub base_is : seen_new.base ≡ seen.base
+  -- its history begins from what the device tells
+  pub base_is : origin_of seen_new.base broker.held.sessions.numbers ≡ told_origin seen.base seen.state
   pub counted : broker.began ≤ seen_new.faults
 
--- the journal is a legal history, and the device keeps what the world keeps after it; it is started, and one of its profile
-pub record IsHistory (base : Persist) (slots : SlotState) (history : List Entry) : Type 0 where
-  pub legal : ProfileLegal base history
-  pub persist : slots.persist ≡ (world_of base ACTIVE_SESSIONS history).persist
+-- the journal is a legal history, and the device keeps what the world keeps after it; it is started, and its numbers are in
+-- range and as they were
+pub record IsHistory (origin : Origin) (slots : SlotState) (history : List Entry) : Type 0 where
+  pub legal : LegalOver origin history
+  pub persist : slots.persist ≡ (world_of origin.persist origin.numbers.active history).persist
   pub started : slots.started ≡ true
   pub sound : IsSlots slots
-  pub numbers : slots.numbers ≡ profile_numbers
+  pub numbers : slots.numbers ≡ origin.numbers
 
 -- the same, where the device tells what it is in
-abbrev pub IsHistoryOf : Option Persist → Option SlotState → List Entry → Type 0
-IsHistoryOf base state history = (b : Persist) (slots : SlotState) → base ≡ Some b → state ≡ Some slots → IsHistory b slots history
+abbrev pub IsHistoryOf : Option Origin → Option SlotState → List Entry → Type 0
+IsHistoryOf base state history = (o : Origin) (slots : SlotState) → base ≡ Some o → state ≡ Some slots → IsHistory o slots history
 
 -- what is left of a broker whose clients are all closed
-pub record IsEnded (base : Option Persist) (began : ℕ) (seen : Seen) (wrong : Option ℕ) (history : List Entry) : Type 0 where
+pub record IsEnded (base : Option Origin) (began : ℕ) (seen : Seen) (wrong : Option ℕ) (history : List Entry) : Type 0 where
   pub legal : IsHistoryOf base seen.state history
   pub faulted : FaultsCounted began seen.faults history 0
   pub replies : AreWhole history
-  pub base_is : seen.base ≡ base
+  pub base_is : told_origin seen.base seen.state ≡ base
   pub holds : IfSome seen.state (λ slots. FaultsCounted began seen.faults history (held slots))
   pub right : wrong ≡ None → IsRight (asked_of seen) (last_of seen)
   pub answer : IfSome wrong (IsWrongAnswer (asked_of seen) (last_of seen))
@@ -142,9 +142,9 @@ pub record IsSound (before : Before) (after : After) (status : ℕ) (journal : O
   pub faulted : IfSome journal (λ history. FaultsCounted before.faults.device after.seen.faults history 0)
   pub replies : IfSome journal AreWhole
   pub right : status ≡ DONE → IfSome journal (λ history. IsRight (asked_of after.seen) (last_of after.seen))
-  pub begun : status ≡ START_FAILED → journal ≡ None
-  -- The device keeps its base.
-  pub base : after.seen.base ≡ before.base
+  pub begun : (status ≡ START_FAILED) ⊎ (status ≡ OUT_OF_RANGE) → journal ≡ None
+  -- The device keeps its base and its numbers.
+  pub base : told_origin after.seen.base after.seen.state ≡ before.base
   -- The device holds no more in the end than its failures left: nothing, where it never failed.
   pub held : IfSome journal (λ history. IfSome after.seen.state (λ slots. FaultsCounted before.faults.device after.seen.faults history (held slots)))
 

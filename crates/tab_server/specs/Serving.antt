@@ -14,8 +14,9 @@ use Rattle.accept_loop.specs.Connections.{AreEnough, AreServed, IsLink, ends_of}
 use Rattle.accept_loop.specs.declared.serving.LinkDone.{LinkDone}
 use Rattle.link_pool.specs.Endings.{lacks_memory}
 use Rattle.link_pool.specs.Services.{AreServedOnce}
-use Rattle.tab_server.specs.declared.status.TheConstants.{ACCEPTOR_FAILED, DONE, NO_MEMORY, OUTPUT_FAILED, START_FAILED, WRONG_ANSWER}
+use Rattle.tab_server.specs.declared.status.TheConstants.{ACCEPTOR_FAILED, DONE, NO_MEMORY, OUTPUT_FAILED, OUT_OF_RANGE, START_FAILED, WRONG_ANSWER}
 use Rattle.tab_server.specs.Counts.{counts_line}
+use Rattle.tab_server.specs.Status.{IsNumberOut}
 use Rattle.tab_server.specs.Run.{After, Before, IsSound}
 
 -- ---- the text at the end
@@ -67,13 +68,14 @@ serve_detail None None None = 0
 -- When each status comes. 7 goes before 3, 3 before 4, and 4 before 5. `accept` is the acceptor's fault count before, and
 -- `accept_new` the one after.
 pub record ServeCause (before : Before) (after : After) (accept accept_new status detail : ℕ) : Type 0 where
-  pub known : IsTrue (list_any (λ n. n == status) (DONE ∷ ACCEPTOR_FAILED ∷ OUTPUT_FAILED ∷ NO_MEMORY ∷ START_FAILED ∷ WRONG_ANSWER ∷ []))
+  pub known : IsTrue (list_any (λ n. n == status) (DONE ∷ ACCEPTOR_FAILED ∷ OUTPUT_FAILED ∷ NO_MEMORY ∷ START_FAILED ∷ WRONG_ANSWER ∷ OUT_OF_RANGE ∷ []))
   pub plain : (status ≡ DONE) ⊎ (status ≡ NO_MEMORY) → detail ≡ 0
   pub accepting : status ≡ ACCEPTOR_FAILED → Rose accept accept_new × (detail ≡ accept_new)
   pub accepted : (status ≡ ACCEPTOR_FAILED → ⊥) → (status ≡ WRONG_ANSWER → ⊥) → accept_new ≡ accept
   pub output : status ≡ OUTPUT_FAILED → Rose before.faults.output after.faults.output × (detail ≡ after.faults.output)
   pub start : status ≡ START_FAILED → Rose before.faults.device after.faults.device × (detail ≡ after.faults.device)
   pub answer : status ≡ WRONG_ANSWER → IsWrongAnswer (asked_of after.seen) (last_of after.seen) detail × (after.seen.state ≡ None)
+  pub numbers : status ≡ OUT_OF_RANGE → IsNumberOut detail (asked_of after.seen) (last_of after.seen) after.seen.state
 
 -- What is told in the end, behind the text: by the code of a wrong answer, the acceptor's fault count where it failed, and
 -- whether memory lacked. `output` is the output's fault count, where that failed.
@@ -106,7 +108,7 @@ pub record IsUnserved {L M : Type 0} (before : Before) (after : After) (coming c
   pub accepted : accept_new ≡ accept
   pub unwritten : after.written ≡ before.written
   pub quiet : after.faults.output ≡ before.faults.output
-  pub starts : IsTrue (list_any (λ n. n == status) (NO_MEMORY ∷ START_FAILED ∷ WRONG_ANSWER ∷ []))
+  pub starts : IsTrue (list_any (λ n. n == status) (NO_MEMORY ∷ START_FAILED ∷ WRONG_ANSWER ∷ OUT_OF_RANGE ∷ []))
 
 -- What `serve` leaves: its connections and the journal, where the broker began.
 pub record LeavesServed {L M : Type 0} (are_served : List Entry → List M → Type 0) (ending_of : M → Ending) (audit : Bool) (most : ℕ)

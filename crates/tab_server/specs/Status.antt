@@ -1,16 +1,18 @@
 -- The status that a run ends with and its detail, and what each of them tells.
-use Rattle.std.specs.Prelude.{◌≡◌, ◌⊎◌, ◌==◌, ◌+◌, ℕ, IsTrue, List, [], ◌∷◌, Option, None, Some, if◌then◌else◌}
+use Rattle.std.specs.Prelude.{◌≡◌, ◌⊎◌, ◌==◌, ◌+◌, ℕ, IsTrue, true, List, [], ◌∷◌, Option, None, Some, IfSome, IsSomeAnd, if◌then◌else◌}
 use Rattle.std.specs.List.{list_any}
 use Rattle.tab_spec.specs.Count.{Rose}
+use Rattle.tab_spec.specs.Numbers.{AreInRange}
 use Rattle.device_spec.specs.Slots.{SlotState}
-use Rattle.device_spec.specs.Answers.{IsWrongAnswer}
+use Rattle.device_spec.specs.Answers.{IsWrongAnswer, takes, value_told}
+use Rattle.device_spec.specs.Numbers.{IsOutOfRange, number_command}
 use Rattle.script_spec.specs.declared.TheConstants.{SCRIPT_BYTES}
 use Rattle.script_spec.specs.Script.{Ending, end, bad_line}
 use Rattle.script_player.specs.declared.stop.Stop.{Stop}
 use Rattle.script_player.specs.declared.stop.Stop.TheVariants as stops
 use Rattle.script_player.specs.Play.{IsPulledUpTo}
 use Rattle.tab_server.specs.declared.status.TheConstants.{BAD_LINE, DONE, INPUT_FAILED, JOURNAL_FULL, NO_MEMORY}
-use Rattle.tab_server.specs.declared.status.TheConstants.{OUTPUT_FAILED, REFUSED, START_FAILED, WRONG_ANSWER}
+use Rattle.tab_server.specs.declared.status.TheConstants.{OUTPUT_FAILED, OUT_OF_RANGE, REFUSED, START_FAILED, WRONG_ANSWER}
 use Rattle.tab_server.specs.declared.cause.Cause.{Cause}
 use Rattle.tab_server.specs.declared.cause.Cause.TheVariants as causes
 
@@ -49,7 +51,7 @@ detail_of (causes.Answer code) = code
 
 -- the statuses at which there may be no broker
 abbrev pub IsOfStart : ℕ → Type 0
-IsOfStart status = IsTrue (list_any (λ n. n == status) (REFUSED ∷ NO_MEMORY ∷ START_FAILED ∷ WRONG_ANSWER ∷ []))
+IsOfStart status = IsTrue (list_any (λ n. n == status) (REFUSED ∷ NO_MEMORY ∷ START_FAILED ∷ WRONG_ANSWER ∷ OUT_OF_RANGE ∷ []))
 
 -- ---- what a status tells
 
@@ -71,15 +73,25 @@ pub record Faults : Type 0 where
   pub input : ℕ
   pub output : ℕ
 
--- each status that comes of a fault or a wrong answer comes only where there was one, and there is no other status than these.
+-- the last command asked for this property, and the response tells a value of it that is out of range
+pub record IsNumberOut (property : ℕ) (asked : List ℕ) (last : Option (List ℕ)) (state : Option SlotState) : Type 0 where
+  pub value : ℕ
+  pub out : IsOutOfRange property value
+  pub asked_is : asked ≡ number_command property
+  pub told : IsSomeAnd last (λ response. (takes true true asked response ≡ true) × (value_told response ≡ value))
+  -- a device that tells its state has such numbers
+  pub own : IfSome state (λ slots. AreInRange slots.numbers → ⊥)
+
+-- each status that comes of a fault, a wrong answer or a number comes only where there was one, and there is no other status than these.
 -- Where the audit text can't be written, status 4 comes in place of any other: what a run leaves says whether a read failed then
 pub record HasCause (status detail : ℕ) (before after : Faults) (asked : List ℕ) (last : Option (List ℕ)) (state : Option SlotState) : Type 0 where
   pub known : IsTrue (list_any (λ n. n == status)
-      (DONE ∷ OUTPUT_FAILED ∷ NO_MEMORY ∷ START_FAILED ∷ WRONG_ANSWER ∷ BAD_LINE ∷ INPUT_FAILED ∷ JOURNAL_FULL ∷ []))
+      (DONE ∷ OUTPUT_FAILED ∷ NO_MEMORY ∷ START_FAILED ∷ WRONG_ANSWER ∷ BAD_LINE ∷ INPUT_FAILED ∷ JOURNAL_FULL ∷ OUT_OF_RANGE ∷ []))
   pub plain : (status ≡ DONE) ⊎ (status ≡ NO_MEMORY) → detail ≡ 0
   pub output : status ≡ OUTPUT_FAILED → Rose before.output after.output × (detail ≡ after.output)
   pub quiet : (status ≡ OUTPUT_FAILED → ⊥) → after.output ≡ before.output
   pub input_quiet : (status ≡ INPUT_FAILED → ⊥) → (status ≡ OUTPUT_FAILED → ⊥) → after.input ≡ before.input
   pub start : status ≡ START_FAILED → Rose before.device after.device × (detail ≡ after.device)
   pub answer : status ≡ WRONG_ANSWER → IsWrongAnswer asked last detail × (state ≡ None)
+  pub numbers : status ≡ OUT_OF_RANGE → IsNumberOut detail asked last state
   pub input : status ≡ INPUT_FAILED → Rose before.input after.input × (detail ≡ after.input)

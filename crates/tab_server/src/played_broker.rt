@@ -1,6 +1,7 @@
 //! A broker as a script is played over it.
 ghost use Rattle.std.specs.Prelude.{◌≤◌, is_some};
-ghost use Rattle.broker_core.specs.Broker.{ProfileLegal};
+ghost use Rattle.broker_lock.specs.Known.{origin_of};
+ghost use Rattle.broker_core.specs.Broker.{LegalOver};
 
 use broker_core::Broker;
 use broker_lock::{Closed, OpenClientError, Recorded, Told};
@@ -18,10 +19,10 @@ pub struct PlayedBroker<D: Device> {
 impl<D: Device> Recorded for PlayedBroker<D> {
     ghost history = { λ p. p.broker.journal };
 
-    ghost legal = { ProfileLegal };
+    ghost legal = { LegalOver };
 
     ghost fixed = { λ p. record {
-      base = (D.seen p.broker.device).base;
+      base = origin_of (D.seen p.broker.device).base p.broker.held.sessions.numbers;
       limit = p.broker.limit;
       began = p.broker.began;
     } };

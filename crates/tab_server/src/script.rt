@@ -1,11 +1,12 @@
-ghost use Rattle.std.specs.Prelude.{◌≡◌, ◌≤◌, ◌<◌, ◌^◌, ℕ, List, Option, Bool, [], Some, None};
+ghost use Rattle.std.specs.Prelude.{◌≡◌, ◌⊎◌, ◌≤◌, ◌<◌, ◌^◌, ℕ, List, Option, Bool, [], Some, None};
 ghost use Rattle.std.specs.Prelude.{false, length, IfErr, IfNone, IfOk, IsTrue, IsFalse};
 ghost use Rattle.std.specs.Option.{option_map};
 ghost use Rattle.history_spec.specs.declared.TheConstants.{JOURNAL_MOST};
 ghost use Rattle.history_spec.specs.AuditText.{audit_text};
 ghost use Rattle.history_spec.specs.Entry.{IsLimit};
 ghost use Rattle.script_spec.specs.Summary.{HaveBytes, Reply, reply_lines, summary_line};
-ghost use Rattle.broker_core.specs.Broker.{IsAtBase};
+ghost use Rattle.broker_lock.specs.Known.{origin_of};
+ghost use Rattle.broker_core.specs.Broker.{IsAtBase, LackedMemory, told_origin};
 ghost use Rattle.device_start.specs.Start.{HoldsNoMoreIf};
 ghost use Rattle.tab_server.specs.Status.{IsOfStart, status_of, detail_of};
 ghost use Rattle.tab_server.specs.Run.{Begins, Leaves, after, after_of, before, before_of};
@@ -16,7 +17,7 @@ ghost use Rattle.tab_server.specs.Done.{IsServe, LeavesPlan};
 use crate::cause::{Cause, cause_of, status};
 use crate::ended_broker::end_broker;
 use crate::played_broker::PlayedBroker;
-use crate::status::{NO_MEMORY, OUTPUT_FAILED, START_FAILED, WRONG_ANSWER};
+use crate::status::{NO_MEMORY, OUT_OF_RANGE, OUTPUT_FAILED, START_FAILED, WRONG_ANSWER};
 use audit_journal::Journal;
 use broker_core::{BeginError, Broker};
 use command_line::{LINES_MOST, Plan, Verb};
@@ -30,10 +31,10 @@ use workload::{Tally, Workload};
 pub struct Played<D: Device> {
     /// 0: the script was played whole. 4: the output failed. 5: memory lacked. 6: the device failed
     /// at its start. 7: the device gave a wrong answer. 8: a line was bad. 9: the input failed. 10:
-    /// the journal has no room for another client.
+    /// the journal has no room for another client. 11: one of the device's numbers is out of range.
     pub status: u8,
     /// The fault count at 4, 6 and 9, the answer's code at 7, the line's number from 1 at 8, the
-    /// bytes that the journal keeps at 10, else 0.
+    /// bytes that the journal keeps at 10, the property at 11, else 0.
     pub detail: u64,
     pub device: D,
     /// The broker's journal, there where the broker began.
@@ -70,11 +71,13 @@ pub(crate) fn begin_broker<D: Device>(
     ensures broker { IfOk result (λ b. Begins (D.seen device) limit b (D.seen b.device)) }
     ensures leaves { IfErr result (λ played. (audit : Bool) (left written : Option (List ℕ))
         (input output : ℕ) → Leaves limit audit
-        (before_of (D.seen device).base (D.seen device).faults left input written output)
+        (before_of (told_origin (D.seen device).base (D.seen device).state) (D.seen device).faults
+        left input written output)
         (after_of (D.seen played.device) left input written output)
         played.status played.detail None) }
     ensures none { IfErr result (λ played. (played.journal ≡ None) × IsOfStart played.status
-        × (played.status ≡ NO_MEMORY → played.device ≡ device)
+        × (played.status ≡ NO_MEMORY
+        → (played.device ≡ device) ⊎ LackedMemory (D.seen device) (D.seen played.device))
         × HoldsNoMoreIf (D.seen device).state (D.seen played.device).state) }
 {
     match Broker::begin(alloc, device, limit) {
@@ -86,6 +89,11 @@ pub(crate) fn begin_broker<D: Device>(
             device,
         )),
         Err((BeginError::Memory, device)) => Err(unplayed(NO_MEMORY, 0, device)),
+        Err((BeginError::Numbers { property, value: _ }, device)) => Err(unplayed(
+            OUT_OF_RANGE,
+            u64::from(property),
+            device,
+        )),
     }
 }
 
@@ -96,11 +104,13 @@ fn begin<D: Device>(alloc: Global, limit: u64, device: D) -> Result<(Room, Broke
     ensures broker { IfOk result (λ b. Begins (D.seen device) limit b.1 (D.seen b.1.device)) }
     ensures leaves { IfErr result (λ played. (audit : Bool) (left written : Option (List ℕ))
         (input output : ℕ) → Leaves limit audit
-        (before_of (D.seen device).base (D.seen device).faults left input written output)
+        (before_of (told_origin (D.seen device).base (D.seen device).state) (D.seen device).faults
+        left input written output)
         (after_of (D.seen played.device) left input written output)
         played.status played.detail None) }
     ensures none { IfErr result (λ played. (played.journal ≡ None) × IsOfStart played.status
-        × (played.status ≡ NO_MEMORY → played.device ≡ device)
+        × (played.status ≡ NO_MEMORY
+        → (played.device ≡ device) ⊎ LackedMemory (D.seen device) (D.seen played.device))
         × HoldsNoMoreIf (D.seen device).state (D.seen played.device).state) }
 {
     let Ok(room) = Room::new(alloc) else {
@@ -124,7 +134,8 @@ fn play_over<D: Device, I: Source, O: Sink>(
     requires sound { broker.wrong_code ≡ None }
     requires counted { broker.began ≤ (D.seen broker.device).faults }
     ensures leaves { Leaves broker.limit false
-        (before_of (D.seen broker.device).base broker.began (I.left input.old) (I.faults input.old)
+        (before_of (origin_of (D.seen broker.device).base broker.held.sessions.numbers)
+        broker.began (I.left input.old) (I.faults input.old)
         (O.written output.old) (O.faults output.old))
         (after D.seen I.left I.faults O.written O.faults result.device input.new output.new)
         (status_of result.cause) (detail_of result.cause) (Some result.journal.entries) }
@@ -208,7 +219,8 @@ fn play_input<D: Device, I: Source, O: Sink>(
         (after D.seen I.left I.faults O.written O.faults result.device input.new output.new)
         result.status result.detail (option_map (λ journal. journal.entries) result.journal) }
     ensures none { IfNone result.journal
-        (IsOfStart result.status × (result.status ≡ NO_MEMORY → result.device ≡ device)
+        (IsOfStart result.status × (result.status ≡ NO_MEMORY
+        → (result.device ≡ device) ⊎ LackedMemory (D.seen device) (D.seen result.device))
         × HoldsNoMoreIf (D.seen device).state (D.seen result.device).state × (input.new ≡ input.old)
         × (output.new ≡ output.old)) }
 {
@@ -240,13 +252,15 @@ fn play_workload<D: Device, O: Sink>(
     requires lines { plan.now.lines ≤ LINES_MOST }
     ensures leaves { (left : Option (List ℕ)) (input : ℕ) → LeavesWorkload plan.now.limit
         plan.now.audit plan.now.start plan.now.lines
-        (before_of (D.seen device).base (D.seen device).faults left input (O.written output.old)
-        (O.faults output.old))
+        (before_of (told_origin (D.seen device).base (D.seen device).state) (D.seen device).faults
+        left input (O.written output.old) (O.faults output.old))
         (after_of (D.seen result.device) left input (O.written output.new) (O.faults output.new))
         result.status result.detail (option_map (λ journal. journal.entries) result.journal) }
     ensures none { IfNone result.journal
-        (IsOfStart result.status × (result.status ≡ NO_MEMORY → result.device ≡ device)
-        × HoldsNoMoreIf (D.seen device).state (D.seen result.device).state × (output.new ≡ output.old)) }
+        (IsOfStart result.status × (result.status ≡ NO_MEMORY
+        → (result.device ≡ device) ⊎ LackedMemory (D.seen device) (D.seen result.device))
+        × HoldsNoMoreIf (D.seen device).state (D.seen result.device).state
+        × (output.new ≡ output.old)) }
 {
     match begin(alloc, plan.limit, device) {
         Ok((room, broker)) => {
@@ -296,9 +310,10 @@ pub fn play<D: Device, I: Source, O: Sink>(
         (after D.seen I.left I.faults O.written O.faults result.device input.new output.new)
         result.status result.detail (option_map (λ journal. journal.entries) result.journal) }
     // Where the broker didn't begin there is no journal, the device holds no more than it did, and
-    // nothing was read or written.
+    // nothing was read or written. At 5 nothing was sent, or the device was started and flushed.
     ensures none { IfNone result.journal
-        (IsOfStart result.status × (result.status ≡ 5 → result.device ≡ device)
+        (IsOfStart result.status × (result.status ≡ 5
+        → (result.device ≡ device) ⊎ LackedMemory (D.seen device) (D.seen result.device))
         × HoldsNoMoreIf (D.seen device).state (D.seen result.device).state × (input.new ≡ input.old)
         × (output.new ≡ output.old)) }
 {

@@ -1,7 +1,7 @@
-ghost use Rattle.std.specs.Prelude.{◌≡◌, ◌↔◌, ◌≤◌, ◌<◌, [], None, map, IfNone, IfSome, IsNone};
+ghost use Rattle.std.specs.Prelude.{◌≡◌, ◌↔◌, ◌⊎◌, ◌≤◌, ◌<◌, [], None, map, IfNone, IfSome, IsNone};
 ghost use Rattle.std.specs.Option.{option_map};
 ghost use Rattle.std.specs.String.{string_bytes};
-ghost use Rattle.broker_core.specs.Broker.{IsAtBase};
+ghost use Rattle.broker_core.specs.Broker.{IsAtBase, LackedMemory, told_origin};
 ghost use Rattle.device_start.specs.Start.{HoldsNoMoreIf};
 ghost use Rattle.link_pool.specs.Services.{IsServed, client_of, given_of};
 ghost use Rattle.command_line.specs.Words.{accepted};
@@ -29,10 +29,12 @@ pub struct Ran<D: Device, A: Acceptor> {
     /// 2: the words were refused. Those of `run` and `workload` are those of [`Played`]. Those of
     /// `serve`, of which the first that applies is told: 7, the device gave a wrong answer; 3, the
     /// acceptor failed; 4, the output failed; 5, memory lacked, before the first connection or for
-    /// one of them; 0, none of these; and 6, the device failed at its start.
+    /// one of them; 0, none of these; 6, the device failed at its start; and 11, one of its numbers
+    /// is out of range.
     pub status: u8,
     /// The code of the wrong answer at 7, the fault count of the acceptor, the output or the device
-    /// at 3, 4 and 6, and 0 at 0, 2 and 5. For `run` and `workload` as in [`Played`].
+    /// at 3, 4 and 6, the property at 11, and 0 at 0, 2 and 5. For `run` and `workload` as in
+    /// [`Played`].
     pub detail: u64,
     pub device: D,
     /// The broker's journal, there where the broker began.
@@ -80,7 +82,7 @@ pub fn tabrmd<
     // Nobody is accepted.
     ensures leaves { IfSome (accepted (map string_bytes words.now))
         (λ plan. (IsServe plan.job → ⊥) → LeavesPlan plan (record {
-          base = (D.seen device).base;
+          base = told_origin (D.seen device).base (D.seen device).state;
           left = I.left input.old;
           written = O.written output.old;
           faults = record {
@@ -104,11 +106,11 @@ pub fn tabrmd<
     ensures serves { IfSome (accepted (map string_bytes words.now))
         (λ plan. IsServe plan.job → plan.connections ≤ LINKS_MOST
         → LeavesServe (IsLinkDone A.In.left A.Out.written A.In.faults A.Out.faults (record {
-          base = (D.seen device).base;
+          base = told_origin (D.seen device).base (D.seen device).state;
           limit = plan.limit;
           began = (D.seen device).faults;
         })) (λ link. link.client) (λ link. link.ending) plan.audit plan.connections
-        (before_of (D.seen device).base (D.seen device).faults
+        (before_of (told_origin (D.seen device).base (D.seen device).state) (D.seen device).faults
         (I.left input.old) (I.faults input.old) (O.written output.old) (O.faults output.old))
         (after_of (D.seen result.device)
         (I.left input.new) (I.faults input.new) (O.written output.new) (O.faults output.new))
@@ -120,11 +122,11 @@ pub fn tabrmd<
     ensures pool { IfSome (accepted (map string_bytes words.now))
         (λ plan. IsServe plan.job → LINKS_MOST < plan.connections → (result.links.items ≡ [])
         × LeavesPool (IsServed A.In.left A.Out.written A.In.faults A.Out.faults (record {
-          base = (D.seen device).base;
+          base = told_origin (D.seen device).base (D.seen device).state;
           limit = plan.limit;
           began = (D.seen device).faults;
         })) given_of client_of (λ s. s.ending) plan.audit plan.connections
-        (before_of (D.seen device).base (D.seen device).faults
+        (before_of (told_origin (D.seen device).base (D.seen device).state) (D.seen device).faults
         (I.left input.old) (I.faults input.old) (O.written output.old) (O.faults output.old))
         (after_of (D.seen result.device)
         (I.left input.new) (I.faults input.new) (O.written output.new) (O.faults output.new))
@@ -133,12 +135,15 @@ pub fn tabrmd<
         (option_map (λ journal. journal.entries) result.journal) result.served.value) }
     ensures unread { IfSome (accepted (map string_bytes words.now))
         (λ plan. IsServe plan.job → input.new ≡ input.old) }
-    // Where the broker didn't begin there is no journal, the device holds no more than it did, nothing
-    // was read or written, and nobody was accepted.
+    // Where the broker didn't begin there is no journal, the device holds no more than it did,
+    // nothing was read or written, and nobody was accepted. At 5 nothing was sent, or the device was
+    // started and flushed.
     ensures none { IfNone result.journal
-        (IsOfStart result.status × (result.status ≡ 5 → result.device ≡ device)
-        × HoldsNoMoreIf (D.seen device).state (D.seen result.device).state × (acceptor.new ≡ acceptor.old)
-        × (input.new ≡ input.old) × (output.new ≡ output.old) × (result.links.items ≡ [])) }
+        (IsOfStart result.status × (result.status ≡ 5
+        → (result.device ≡ device) ⊎ LackedMemory (D.seen device) (D.seen result.device))
+        × HoldsNoMoreIf (D.seen device).state (D.seen result.device).state
+        × (acceptor.new ≡ acceptor.old) × (input.new ≡ input.old) × (output.new ≡ output.old)
+        × (result.links.items ≡ [])) }
 {
     let Ok(plan) = read_words(words) else {
         return Ran {

@@ -1,6 +1,6 @@
 // The connections that an acceptor hands out, served over one broker.
 ghost use Rattle.std.specs.Prelude.{◌≡◌, ◌≤◌, ◌<◌, ℕ, List, Option, [], Some, None, length};
-ghost use Rattle.std.specs.Prelude.{IfNone, IsSome, IsTrue, OnOk, OnErr, false, true};
+ghost use Rattle.std.specs.Prelude.{◌⊎◌, IfNone, IsSome, IsTrue, OnOk, OnErr, false, true};
 ghost use Rattle.std.specs.List.{list_any};
 ghost use Rattle.std.specs.Option.{option_map};
 ghost use Rattle.tab_spec.specs.Count.{Rose};
@@ -8,7 +8,8 @@ ghost use Rattle.history_spec.specs.declared.TheConstants.{JOURNAL_MOST};
 ghost use Rattle.history_spec.specs.Entry.{IsLimit, clients_of};
 ghost use Rattle.link_port.specs.Port.{with_more};
 ghost use Rattle.audit_journal.specs.Text.{WroteFrontOf};
-ghost use Rattle.broker_core.specs.Broker.{IsAtBase};
+ghost use Rattle.broker_lock.specs.Known.{origin_of};
+ghost use Rattle.broker_core.specs.Broker.{IsAtBase, LackedMemory, told_origin};
 ghost use Rattle.device_start.specs.Start.{HoldsNoMoreIf};
 ghost use Rattle.link_pool.specs.Endings.{lacks_memory};
 ghost use Rattle.link_pool.specs.Services.{IsServed, client_of, given_of};
@@ -182,11 +183,11 @@ fn serve_begun<D: Device + Send, A: Acceptor, G: Gate, O: Sink, R: Threads + Wai
     requires audit { IsTrue plan.now.audit → broker.limit ≤ JOURNAL_MOST }
     ensures leaves { (left : Option (List ℕ)) (input : ℕ)
         → LeavesServe (IsLinkDone A.In.left A.Out.written A.In.faults A.Out.faults (record {
-          base = (D.seen broker.device).base;
+          base = origin_of (D.seen broker.device).base broker.held.sessions.numbers;
           limit = broker.limit;
           began = broker.began;
         })) (λ link. link.client) (λ link. link.ending) plan.now.audit plan.now.connections
-        (before_of (D.seen broker.device).base broker.began
+        (before_of (origin_of (D.seen broker.device).base broker.held.sessions.numbers) broker.began
         left input (O.written output.old) (O.faults output.old))
         (after_of (D.seen result.device) left input (O.written output.new) (O.faults output.new))
         (A.coming acceptor.old) (A.coming acceptor.new)
@@ -240,11 +241,11 @@ fn pool_begun<D: Device + Send, A: Acceptor + Send, G: Gate, O: Sink, R: Threads
     requires audit { IsTrue plan.now.audit → broker.limit ≤ JOURNAL_MOST }
     ensures leaves { (left : Option (List ℕ)) (input : ℕ)
         → LeavesPool (IsServed A.In.left A.Out.written A.In.faults A.Out.faults (record {
-          base = (D.seen broker.device).base;
+          base = origin_of (D.seen broker.device).base broker.held.sessions.numbers;
           limit = broker.limit;
           began = broker.began;
         })) given_of client_of (λ s. s.ending) plan.now.audit plan.now.connections
-        (before_of (D.seen broker.device).base broker.began
+        (before_of (origin_of (D.seen broker.device).base broker.held.sessions.numbers) broker.began
         left input (O.written output.old) (O.faults output.old))
         (after_of (D.seen result.device) left input (O.written output.new) (O.faults output.new))
         (A.coming acceptor.old) (A.coming acceptor.new)
@@ -330,11 +331,11 @@ pub(crate) fn serve_plan<
     requires audit { IsTrue plan.now.audit → plan.now.limit ≤ JOURNAL_MOST }
     ensures leaves { plan.now.connections ≤ LINKS_MOST → (left : Option (List ℕ)) (input : ℕ)
         → LeavesServe (IsLinkDone A.In.left A.Out.written A.In.faults A.Out.faults (record {
-          base = (D.seen device).base;
+          base = told_origin (D.seen device).base (D.seen device).state;
           limit = plan.now.limit;
           began = (D.seen device).faults;
         })) (λ link. link.client) (λ link. link.ending) plan.now.audit plan.now.connections
-        (before_of (D.seen device).base (D.seen device).faults
+        (before_of (told_origin (D.seen device).base (D.seen device).state) (D.seen device).faults
         left input (O.written output.old) (O.faults output.old))
         (after_of (D.seen result.device) left input (O.written output.new) (O.faults output.new))
         (A.coming acceptor.old) (A.coming acceptor.new)
@@ -342,11 +343,11 @@ pub(crate) fn serve_plan<
         (option_map (λ journal. journal.entries) result.journal) result.links.items }
     ensures pool { LINKS_MOST < plan.now.connections → (left : Option (List ℕ)) (input : ℕ)
         → LeavesPool (IsServed A.In.left A.Out.written A.In.faults A.Out.faults (record {
-          base = (D.seen device).base;
+          base = told_origin (D.seen device).base (D.seen device).state;
           limit = plan.now.limit;
           began = (D.seen device).faults;
         })) given_of client_of (λ s. s.ending) plan.now.audit plan.now.connections
-        (before_of (D.seen device).base (D.seen device).faults
+        (before_of (told_origin (D.seen device).base (D.seen device).state) (D.seen device).faults
         left input (O.written output.old) (O.faults output.old))
         (after_of (D.seen result.device) left input (O.written output.new) (O.faults output.new))
         (A.coming acceptor.old) (A.coming acceptor.new)
@@ -355,9 +356,10 @@ pub(crate) fn serve_plan<
     ensures links { LINKS_MOST < plan.now.connections → result.links.items ≡ [] }
     ensures taken { result.status ≡ REFUSED → ⊥ }
     ensures none { IfNone result.journal
-        (IsOfStart result.status × (result.status ≡ NO_MEMORY → result.device ≡ device)
-        × HoldsNoMoreIf (D.seen device).state (D.seen result.device).state × (acceptor.new ≡ acceptor.old)
-        × (output.new ≡ output.old) × (result.links.items ≡ [])) }
+        (IsOfStart result.status × (result.status ≡ NO_MEMORY
+        → (result.device ≡ device) ⊎ LackedMemory (D.seen device) (D.seen result.device))
+        × HoldsNoMoreIf (D.seen device).state (D.seen result.device).state
+        × (acceptor.new ≡ acceptor.old) × (output.new ≡ output.old) × (result.links.items ≡ [])) }
 {
     match begin_broker(alloc, plan.limit, device) {
         Ok(broker) => {

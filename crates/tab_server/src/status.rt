@@ -29,3 +29,6 @@ pub(crate) const INPUT_FAILED: u8 = 9;
 
 // The journal has no room for another client.
 pub(crate) const JOURNAL_FULL: u8 = 10;
+
+// One of the device's numbers is out of range.
+pub(crate) const OUT_OF_RANGE: u8 = 11;

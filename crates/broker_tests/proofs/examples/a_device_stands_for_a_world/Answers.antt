@@ -61,7 +61,6 @@ returns-clause-at_its_place c =
     record {
       persist = refl;
       most = refl;
-      profile = refl;
       settled = settled_empty (device_at 5) profile_numbers 0 refl sound_at refl refl;
       clients = λ client. rw (nobody client) refl;
       sessions = refl;

@@ -100,7 +100,6 @@ returns-clause-stand c =
     record {
       persist = refl;
       most = refl;
-      profile = refl;
       settled = settled;
       clients = nobody;
       sessions = refl;

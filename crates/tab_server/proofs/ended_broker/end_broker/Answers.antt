@@ -4,9 +4,9 @@ use Rattle.device_spec.specs.Answers.{IsRight, IsWrongAnswer}
 use Rattle.device_spec.specs.Slots.{held}
 use Rattle.history_spec.specs.Entry.{Entry}
 use Rattle.device_port.specs.Device.{asked_of, last_of}
-use Rattle.broker_core.specs.Broker.{AreWhole, FaultsCounted}
+use Rattle.broker_core.specs.Broker.{AreWhole, FaultsCounted, told_origin}
 use Rattle.tab_server.specs.Run.{IsHistory}
-use Rattle.tab_server.proofs.Causes.{is_history}
+use Rattle.tab_server.proofs.Causes.{is_history, origin_told}
 use Rattle.tab_server.proofs.ended_broker.end_broker.Goals as goal
 
 pub returns-clause-ended : goal.returns-clause-ended
@@ -20,12 +20,14 @@ returns-clause-ended g c =
     let wrong : c.wrong_answer-wrong.result ≡ broker.wrong_code = c.wrong_answer-wrong.ensures.code in
     let told = is_history (D.seen broker.device).base (D.seen broker.device).state broker.journal broker end.stands in
     record {
-      legal = λ b slots is_base is_state. subst (λ (h : List Entry). IsHistory b slots h) is_journal (told b slots is_base (ap (λ d. (D.seen d).state) is_device ∙ is_state));
+      legal = λ o slots is_base is_state. subst (λ (h : List Entry). IsHistory o slots h) is_journal (told o slots is_base (ap (λ d. (D.seen d).state) is_device ∙ is_state));
       faulted =
           subst (λ (h : List Entry). FaultsCounted broker.began (D.seen device).faults h 0) is_journal
           (subst (λ (d : _). FaultsCounted broker.began (D.seen d).faults broker.journal 0) is_device end.faulted);
       replies = subst AreWhole is_journal end.whole;
-      base_is = ap (λ d. (D.seen d).base) end.device;
+      base_is =
+          ap (λ d. told_origin (D.seen d).base (D.seen d).state) end.device
+          ∙ origin_told (D.seen broker.device).base (D.seen broker.device).state broker.journal broker (g.met.D.Device.told_together broker.device) end.stands;
       holds =
           subst (λ (h : List Entry). IfSome (D.seen device).state (λ slots. FaultsCounted broker.began (D.seen device).faults h (held slots))) is_journal
           (subst (λ (d : _). IfSome (D.seen d).state (λ slots. FaultsCounted broker.began (D.seen d).faults broker.journal (held slots))) is_device (end.held c.requires.closed));
