@@ -13,7 +13,7 @@ use Rattle.tab_spec.specs.Reply.{error_reply}
 use Rattle.device_spec.specs.Answers.{IsRight, IsWrongAnswer}
 use Rattle.device_spec.specs.Slots.{SlotState}
 use Rattle.device_port.specs.Device.{Seen, asked_of, last_of}
-use Rattle.device_start.specs.Start.{ClearedIf, IsStartable, IsStarted, SendsStart, StopsAtNumber}
+use Rattle.device_start.specs.Start.{ClearedIf, IsStartable, IsStarted, StopsAtNumber, StopsUnanswered}
 use Rattle.session_swap.specs.Items.{gap_kept, renewal_gap}
 use Rattle.history_spec.specs.declared.EntryKind.{EntryKind}
 use Rattle.history_spec.specs.declared.EntryKind.TheVariants.{Open, Command, Fault, Close, Canceled}
@@ -260,17 +260,18 @@ TellsLeft (closes.Orphans count) held new_held =
     (count ≡ orphan_count new_held) × (orphan_count held < orphan_count new_held) × HasLeft held new_held
 TellsLeft closes.Answer held new_held = Unit {0}
 
--- the device was started and flushed, and memory lacked for what is kept of its objects and sessions
+-- the device was started and flushed, its numbers are in range, and memory lacked for what is kept of its objects and sessions
 abbrev pub LackedMemory : (old new : Seen) → Type 0
-LackedMemory old new = (numbers : Numbers) × IsStarted old.trace new.trace numbers × ClearedIf old.state new.state
+LackedMemory old new = (numbers : Numbers) × IsStarted old.trace new.trace numbers × AreInRange numbers × ClearedIf old.state new.state
 
 -- why a broker didn't begin: a transmission failed, or the response to it is a wrong answer, and that was the last one; or memory
--- lacked; or a number of the device is out of range, and nothing was sent after the response that tells it
+-- lacked; or a number of the device is out of range, and nothing was sent after the response that tells it. In the other cases each
+-- number that the device told is in range.
 abbrev pub HasCause : {D : Type 0} (seen : D → Seen) → BeginError → (old new : D) → Type 0
 HasCause seen (begin_errors.Device count) old new =
-    SendsStart (seen old).trace (seen new).trace × (last_of (seen new) ≡ None) × Rose (seen old).faults (seen new).faults × (count ≡ (seen new).faults)
+    StopsUnanswered (seen old).trace (seen new).trace × (last_of (seen new) ≡ None) × Rose (seen old).faults (seen new).faults × (count ≡ (seen new).faults)
 HasCause seen (begin_errors.Answer code) old new =
-    SendsStart (seen old).trace (seen new).trace × IsWrongAnswer (asked_of (seen new)) (last_of (seen new)) code × ((seen new).state ≡ None)
+    StopsUnanswered (seen old).trace (seen new).trace × IsWrongAnswer (asked_of (seen new)) (last_of (seen new)) code × ((seen new).state ≡ None)
 HasCause seen begin_errors.Memory old new = (new ≡ old) ⊎ LackedMemory (seen old) (seen new)
 HasCause seen (begin_errors.Numbers property value) old new =
     StopsAtNumber (seen old).trace (seen new).trace property value

@@ -11,7 +11,7 @@ use Rattle.device_spec.specs.Answers.{takes, value_told}
 use Rattle.device_spec.specs.Numbers.{FitWords, are_in, is_out, number_command, number_properties, values_of}
 use Rattle.device_spec.specs.Slots.{SlotState, slot_step}
 use Rattle.device_port.specs.Device.{Answered, Seen, Transmission, asked_of, last_of}
-use Rattle.device_port.specs.Own.{Asks}
+use Rattle.device_port.specs.Own.{Asks, AsksSome}
 use Rattle.device_port.specs.declared.own.SwapError.{SwapError}
 use Rattle.device_port.proofs.Sending.{cause_then, sends_one}
 use Rattle.device_port.proofs.Telling.{own_number}
@@ -19,7 +19,7 @@ use Rattle.device_laws.specs.Remains.{IsTold}
 use Rattle.device_laws.proofs.Telling.{active_told, gap_told, loaded_told, slots_told}
 use Rattle.device_start.specs.declared.starting.StartError.{StartError}
 use Rattle.device_start.specs.declared.starting.StartError.TheVariants as errors
-use Rattle.device_start.specs.Start.{Attempts, HasNumber, HasValues, MissesNumber, NotStarted, Runs, Sends, TakenIf, Tells, answered, running}
+use Rattle.device_start.specs.Start.{Attempts, HasNumber, HasStartCause, HasValues, MissesNumber, NotStarted, Runs, Sends, TakenIf, Tells, answered, running}
 use Rattle.device_start.proofs.Found.{runs_few, runs_now, some_same, stays_few}
 use Rattle.device_start.proofs.Left.{few_then}
 use Rattle.device_start.proofs.Sent.{answered_one, attempts_then, some_of, startup_attempts, taken_as}
@@ -271,20 +271,51 @@ number_stops seen old mid new values value law fit has number out =
     }
 
 -- and at a question that isn't answered
-number_fails : {D : Type 0} (seen : D → Seen) (old mid new : D) (values : List ℕ) (command : List ℕ) (e : SwapError) → HasValues seen old mid values
-    → Asks {A = Unit {0}} seen mid new command (Err e) → NotStarted seen old new (errors.Unanswered e)
-number_fails seen old mid new values command e has asks = record {
-  attempts = attempts_then seen old mid new has.attempts (sends_one seen mid new command (Err e) asks) asks.base asks.count
+number_fails : {D : Type 0} (seen : D → Seen) (old mid new : D) (values : List ℕ) (e : SwapError) → length values < 4 → HasValues seen old mid values
+    → Asks {A = Unit {0}} seen mid new (number_command (property_at (length values))) (Err e) → NotStarted seen old new (errors.Unanswered e)
+number_fails seen old mid new values e within has asks = record {
+  attempts = attempts_then seen old mid new has.attempts (sends_one seen mid new (number_command (property_at (length values))) (Err e) asks) asks.base asks.count
       (few_then _ (seen mid).state _ (runs_few _ _ has.runs) (stays_few _ _ asks.err));
-  cause = cause_then seen old mid new e has.attempts.count asks.cause;
+  cause = (
+    cause_then seen old mid new e has.attempts.count asks.cause,
+    inr (record {
+      startup = has.startup;
+      values = values;
+      asked = (seen mid).trace;
+      later = record { command = number_command (property_at (length values)); response = last_of (seen new) } ∷ [];
+      startup_taken = has.startup_taken;
+      told = has.told;
+      range = has.range;
+      trace_is = asks.one;
+      next = inl (within, (last_of (seen new), refl));
+    }),
+  );
 }
+
+-- and at a command that isn't answered, behind all numbers
+pub later_fails : {D : Type 0} (seen : D → Seen) (old mid new : D) (numbers : Numbers) (e : SwapError) → HasValues seen old mid (values_of numbers)
+    → AsksSome {A = Unit {0}} seen mid new (Err e) → HasStartCause seen (errors.Unanswered e) old new
+later_fails seen old mid new numbers e has asks = (
+  cause_then seen old mid new e has.attempts.count asks.cause,
+  inr (record {
+    startup = has.startup;
+    values = values_of numbers;
+    asked = (seen mid).trace;
+    later = asks.own.sent;
+    startup_taken = has.startup_taken;
+    told = has.told;
+    range = has.range;
+    trace_is = asks.own.trace_is;
+    next = inr (refl, asks.own.own, asks.before);
+  }),
+)
 
 pub number_misses : {D : Type 0} (seen : D → Seen) (old mid new : D) (values : List ℕ) (least most : ℕ) (e : StartError) → IsToldAt (length values)
     → FitIf (seen old).state → HasValues seen old mid values
     → ((value : ℕ) → value < 2 ^ 32 → (nat_lt value least || nat_lt most value) ≡ true → is_out values value ≡ true)
     → MissesNumber seen mid new (property_at (length values)) least most e → NotStarted seen old new e
 number_misses seen old mid new values least most (errors.Unanswered e) law fit has outside asks =
-    number_fails seen old mid new values (number_command (property_at (length values))) e has asks
+    number_fails seen old mid new values e law.within has asks
 number_misses seen old mid new values least most (errors.Numbers property value) law fit has outside (same, number, out, word) =
     subst (λ (p : ℕ). NotStarted seen old new (errors.Numbers p value)) (sym same)
     (number_stops seen old mid new values value law fit has number (outside value word out))
@@ -294,7 +325,7 @@ pub startup_fails : {D : Type 0} (seen : D → Seen) (old new : D) (e : SwapErro
     → NotStarted seen old new (errors.Unanswered e)
 startup_fails seen old new e sends = record {
   attempts = startup_attempts {A = Unit {0}} seen old new (Err e) sends (stays_few _ _ sends.err);
-  cause = sends.cause;
+  cause = (sends.cause, inl (last_of (seen new), sends.one));
 }
 
 -- ---- all four

@@ -1,5 +1,5 @@
 -- What a start leaves of a device, and what it sent.
-use Rattle.std.specs.Prelude.{◌≡◌, ◌<◌, ◌≤◌, ◌*◌, ◌+◌, ◌^◌, ◌||◌, nat_lt, ℕ, true, List, [], ◌∷◌, ◌++◌, length, take, drop, Option, Some, IfSome, IsSomeAnd, Result, Err, OnOk, OnErr, IfErr}
+use Rattle.std.specs.Prelude.{◌≡◌, ◌<◌, ◌≤◌, ◌⊎◌, ◌*◌, ◌+◌, ◌^◌, ◌||◌, nat_lt, ℕ, true, List, [], ◌∷◌, ◌++◌, length, take, drop, get_or, Option, Some, IfSome, IsSomeAnd, Result, Err, OnOk, OnErr, IfErr}
 use Rattle.std.specs.List.{AllByRecursion}
 use Rattle.std.specs.Int.{w32, from_be_bytes}
 use Rattle.tab_spec.specs.declared.numbers.Numbers.{Numbers}
@@ -11,7 +11,7 @@ use Rattle.device_spec.specs.Numbers.{FitWords, IsOutOfRange, are_in, number_com
 use Rattle.device_spec.specs.Remains.{emptied, handles_command, remains}
 use Rattle.device_spec.specs.Slots.{HoldsNothing, IsSlots, SlotState, held, slot_step}
 use Rattle.device_port.specs.Device.{Answered, Seen, Transmission, last_of}
-use Rattle.device_port.specs.Own.{Asks, HasCause, IsOwn}
+use Rattle.device_port.specs.Own.{Asks, EndAtNewest, HasCause, IsOwn}
 use Rattle.device_port.specs.declared.own.SwapError.{SwapError}
 use Rattle.device_start.specs.declared.starting.StartError.{StartError}
 use Rattle.device_start.specs.declared.starting.StartError.TheVariants as errors
@@ -141,10 +141,40 @@ pub record StopsAtNumber (old new : List Transmission) (property value : ℕ) : 
   pub out : IsOutOfRange property value
   pub told : Tells number_properties (out.before ++ value ∷ []) (answered startup_command startup ∷ old) new
 
--- why a device wasn't started: a transmission failed or the response to it is a wrong answer, or a number of the device is out
--- of range
+-- behind these values one command was sent: it asks for the next number
+abbrev pub AsksNext : List ℕ → List Transmission → Type 0
+AsksNext values later =
+    (length values < 4)
+    × ((response : Option (List ℕ))
+    × (later ≡ record { command = number_command (get_or number_properties (length values) 0); response = response } ∷ []))
+
+-- behind all four values commands of the broker's own were sent, and the response to each but the newest was taken
+abbrev pub AsksLater : List ℕ → List Transmission → Type 0
+AsksLater values later = (length values ≡ 4) × AllByRecursion (λ one. IsOwn one.command) later × EndAtNewest later
+
+-- Startup was sent, and the device was asked for its first numbers. All responses were taken, and the numbers are in range. Then came
+-- the question for the next number, or commands behind all four. The start ended at that question, or at the newest of these.
+pub record StopsLater (old new : List Transmission) : Type 0 where
+  pub startup : List ℕ
+  pub values : List ℕ
+  -- the trace when these had come, and what was sent then
+  pub asked : List Transmission
+  pub later : List Transmission
+  pub startup_taken : takes true true startup_command startup ≡ true
+  pub told : Tells number_properties values (answered startup_command startup ∷ old) asked
+  pub range : are_in [] values ≡ true
+  pub trace_is : new ≡ later ++ asked
+  pub next : AsksNext values later ⊎ AsksLater values later
+
+-- how far a start came that ended at a command which wasn't answered: this was Startup, and nothing else was sent, or it came later
+abbrev pub StopsUnanswered : List Transmission → List Transmission → Type 0
+StopsUnanswered old new =
+    ((response : Option (List ℕ)) × (new ≡ record { command = startup_command; response = response } ∷ old)) ⊎ StopsLater old new
+
+-- why a device wasn't started, and how far it came: a transmission failed or the response to it is a wrong answer, and what the
+-- device told of its numbers before is in range; or a number of the device is out of range
 abbrev pub HasStartCause : {D : Type 0} (seen : D → Seen) → StartError → (old new : D) → Type 0
-HasStartCause seen (errors.Unanswered e) old new = HasCause seen e old new
+HasStartCause seen (errors.Unanswered e) old new = HasCause seen e old new × StopsUnanswered (seen old).trace (seen new).trace
 HasStartCause seen (errors.Numbers property value) old new =
     StopsAtNumber (seen old).trace (seen new).trace property value
     × IfSome (seen old).state (λ slots. AreInRange slots.numbers → ⊥)

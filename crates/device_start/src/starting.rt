@@ -270,6 +270,8 @@ pub fn start<D: Device>(
         (IsRight (asked_of (D.seen device.new)) (last_of (D.seen device.new))) }
     // Also after an error it holds no more than it did, and what was sent is known.
     ensures attempts { Attempts D.seen device.old device.new }
+    // Why it ended, and at which command. Each one before it was answered, and the numbers that
+    // these answers tell are in range.
     ensures cause { IfErr result (λ e. HasStartCause D.seen e device.old device.new) }
 {
     let numbers = ask_numbers(device, scratch)?;

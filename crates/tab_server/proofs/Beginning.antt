@@ -1,5 +1,5 @@
 -- How a broker begins, and what is left where none did.
-use Rattle.std.proofs.Common.{◌≡◌, ◌∙◌, ℕ, Bool, true, List, [], ◌∷◌, ◌++◌, length, Option, Some, None, refl, sym, ap, subst, inl, inr, arith}
+use Rattle.std.proofs.Common.{◌≡◌, ◌∙◌, ◌⊎◌, ℕ, Bool, true, List, [], ◌∷◌, ◌++◌, length, Option, Some, None, refl, sym, ap, subst, inl, inr, arith}
 use Rattle.std.specs.Prelude.{get_or, is_some, IfSome, IsSomeAnd}
 use Rattle.tab_spec.specs.declared.numbers.Numbers.{Numbers}
 use Rattle.tab_spec.specs.Count.{Rose}
@@ -11,8 +11,8 @@ use Rattle.device_spec.specs.Slots.{SlotState}
 use Rattle.device_port.specs.Device.{Seen, Transmission, asked_of, last_of, newest_command, newest_response}
 use Rattle.device_start.specs.Start.{HoldsNoMoreIf, StopsAtNumber, Tells, answered}
 use Rattle.broker_lock.specs.Known.{origin_of}
-use Rattle.broker_core.specs.Broker.{told_origin}
-use Rattle.tab_server.specs.Status.{HasCause, IsNumberOut}
+use Rattle.broker_core.specs.Broker.{LackedMemory, told_origin}
+use Rattle.tab_server.specs.Status.{EndsStart, HasCause, IsNumberOut}
 use Rattle.tab_server.specs.Run.{After, Before, Leaves, after_of, before_of}
 use Rattle.tab_server.proofs.Leaving.{unsaid}
 
@@ -79,6 +79,19 @@ number_out old new property value stops own =
       told = subst (λ (asked : List ℕ). IsSomeAnd (last_of new) (λ response. (takes true true asked response ≡ true) × (value_told response ≡ value))) (sym last.0) last.1;
       own = own;
     }
+
+-- ---- how far a start came, by its status
+
+pub ends_lacking : {D : Type 0} (seen : D → Seen) (old new : D) → (new ≡ old) ⊎ LackedMemory (seen old) (seen new)
+    → HoldsNoMoreIf (seen old).state (seen new).state → EndsStart seen 5 0 old new
+ends_lacking seen old new lacks few = record {
+  of_start = refl;
+  memory = λ is. lacks;
+  unanswered = λ is. elim is [ inl six ↦ absurd (omega arith) | inr seven ↦ absurd (omega arith) ];
+  failed = λ is. absurd (omega arith);
+  number = λ is. absurd (omega arith);
+  few = few;
+}
 
 -- ---- where no broker began
 

@@ -6,6 +6,9 @@ use Rattle.tab_spec.specs.Numbers.{AreInRange}
 use Rattle.device_spec.specs.Slots.{SlotState}
 use Rattle.device_spec.specs.Answers.{IsWrongAnswer, takes, value_told}
 use Rattle.device_spec.specs.Numbers.{IsOutOfRange, number_command}
+use Rattle.device_port.specs.Device.{Seen, last_of}
+use Rattle.device_start.specs.Start.{HoldsNoMoreIf, StopsAtNumber, StopsUnanswered}
+use Rattle.broker_core.specs.Broker.{LackedMemory}
 use Rattle.script_spec.specs.declared.TheConstants.{SCRIPT_BYTES}
 use Rattle.script_spec.specs.Script.{Ending, end, bad_line}
 use Rattle.script_player.specs.declared.stop.Stop.{Stop}
@@ -95,3 +98,14 @@ pub record HasCause (status detail : ℕ) (before after : Faults) (asked : List 
   pub answer : status ≡ WRONG_ANSWER → IsWrongAnswer asked last detail × (state ≡ None)
   pub numbers : status ≡ OUT_OF_RANGE → IsNumberOut detail asked last state
   pub input : status ≡ INPUT_FAILED → Rose before.input after.input × (detail ≡ after.input)
+
+-- How far a start came after which there is no broker, by the status. Each number that the device told before the last command is in
+-- range. At 11 the one that it told then isn't, and nothing was sent after it.
+pub record EndsStart {D : Type 0} (seen : D → Seen) (status detail : ℕ) (old new : D) : Type 0 where
+  pub of_start : IsOfStart status
+  pub memory : status ≡ NO_MEMORY → (new ≡ old) ⊎ LackedMemory (seen old) (seen new)
+  pub unanswered : (status ≡ START_FAILED) ⊎ (status ≡ WRONG_ANSWER) → StopsUnanswered (seen old).trace (seen new).trace
+  -- no response came to the last command
+  pub failed : status ≡ START_FAILED → last_of (seen new) ≡ None
+  pub number : status ≡ OUT_OF_RANGE → (value : ℕ) × StopsAtNumber (seen old).trace (seen new).trace detail value
+  pub few : HoldsNoMoreIf (seen old).state (seen new).state

@@ -1,4 +1,4 @@
-ghost use Rattle.std.specs.Prelude.{◌≡◌, ◌⊎◌, ◌≤◌, ◌<◌, ◌^◌, ℕ, List, Option, Bool, [], Some, None};
+ghost use Rattle.std.specs.Prelude.{◌≡◌, ◌≤◌, ◌<◌, ◌^◌, ℕ, List, Option, Bool, [], Some, None};
 ghost use Rattle.std.specs.Prelude.{false, length, IfErr, IfNone, IfOk, IsTrue, IsFalse};
 ghost use Rattle.std.specs.Option.{option_map};
 ghost use Rattle.history_spec.specs.declared.TheConstants.{JOURNAL_MOST};
@@ -6,9 +6,8 @@ ghost use Rattle.history_spec.specs.AuditText.{audit_text};
 ghost use Rattle.history_spec.specs.Entry.{IsLimit};
 ghost use Rattle.script_spec.specs.Summary.{HaveBytes, Reply, reply_lines, summary_line};
 ghost use Rattle.broker_lock.specs.Known.{origin_of};
-ghost use Rattle.broker_core.specs.Broker.{IsAtBase, LackedMemory, told_origin};
-ghost use Rattle.device_start.specs.Start.{HoldsNoMoreIf};
-ghost use Rattle.tab_server.specs.Status.{IsOfStart, status_of, detail_of};
+ghost use Rattle.broker_core.specs.Broker.{IsAtBase, told_origin};
+ghost use Rattle.tab_server.specs.Status.{EndsStart, status_of, detail_of};
 ghost use Rattle.tab_server.specs.Run.{Begins, Leaves, after, after_of, before, before_of};
 ghost use Rattle.tab_server.specs.Endings.{StandsToEnd, WroteBehind, is_end};
 ghost use Rattle.tab_server.specs.Workload.{LeavesWorkload};
@@ -75,10 +74,8 @@ pub(crate) fn begin_broker<D: Device>(
         left input written output)
         (after_of (D.seen played.device) left input written output)
         played.status played.detail None) }
-    ensures none { IfErr result (λ played. (played.journal ≡ None) × IsOfStart played.status
-        × (played.status ≡ NO_MEMORY
-        → (played.device ≡ device) ⊎ LackedMemory (D.seen device) (D.seen played.device))
-        × HoldsNoMoreIf (D.seen device).state (D.seen played.device).state) }
+    ensures none { IfErr result (λ played. (played.journal ≡ None)
+        × EndsStart D.seen played.status played.detail device played.device) }
 {
     match Broker::begin(alloc, device, limit) {
         Ok(broker) => Ok(broker),
@@ -108,10 +105,8 @@ fn begin<D: Device>(alloc: Global, limit: u64, device: D) -> Result<(Room, Broke
         left input written output)
         (after_of (D.seen played.device) left input written output)
         played.status played.detail None) }
-    ensures none { IfErr result (λ played. (played.journal ≡ None) × IsOfStart played.status
-        × (played.status ≡ NO_MEMORY
-        → (played.device ≡ device) ⊎ LackedMemory (D.seen device) (D.seen played.device))
-        × HoldsNoMoreIf (D.seen device).state (D.seen played.device).state) }
+    ensures none { IfErr result (λ played. (played.journal ≡ None)
+        × EndsStart D.seen played.status played.detail device played.device) }
 {
     let Ok(room) = Room::new(alloc) else {
         return Err(unplayed(NO_MEMORY, 0, device));
@@ -219,10 +214,8 @@ fn play_input<D: Device, I: Source, O: Sink>(
         (after D.seen I.left I.faults O.written O.faults result.device input.new output.new)
         result.status result.detail (option_map (λ journal. journal.entries) result.journal) }
     ensures none { IfNone result.journal
-        (IsOfStart result.status × (result.status ≡ NO_MEMORY
-        → (result.device ≡ device) ⊎ LackedMemory (D.seen device) (D.seen result.device))
-        × HoldsNoMoreIf (D.seen device).state (D.seen result.device).state × (input.new ≡ input.old)
-        × (output.new ≡ output.old)) }
+        (EndsStart D.seen result.status result.detail device result.device
+        × (input.new ≡ input.old) × (output.new ≡ output.old)) }
 {
     match begin(alloc, plan.limit, device) {
         Ok((room, broker)) => {
@@ -257,9 +250,7 @@ fn play_workload<D: Device, O: Sink>(
         (after_of (D.seen result.device) left input (O.written output.new) (O.faults output.new))
         result.status result.detail (option_map (λ journal. journal.entries) result.journal) }
     ensures none { IfNone result.journal
-        (IsOfStart result.status × (result.status ≡ NO_MEMORY
-        → (result.device ≡ device) ⊎ LackedMemory (D.seen device) (D.seen result.device))
-        × HoldsNoMoreIf (D.seen device).state (D.seen result.device).state
+        (EndsStart D.seen result.status result.detail device result.device
         × (output.new ≡ output.old)) }
 {
     match begin(alloc, plan.limit, device) {
@@ -310,12 +301,12 @@ pub fn play<D: Device, I: Source, O: Sink>(
         (after D.seen I.left I.faults O.written O.faults result.device input.new output.new)
         result.status result.detail (option_map (λ journal. journal.entries) result.journal) }
     // Where the broker didn't begin there is no journal, the device holds no more than it did, and
-    // nothing was read or written. At 5 nothing was sent, or the device was started and flushed.
+    // nothing was read or written. The status tells how far the start came: at 5 nothing was sent,
+    // or the device was started and flushed. Each number that it told before the last command is in
+    // range, and at 11 the one that it told then isn't.
     ensures none { IfNone result.journal
-        (IsOfStart result.status × (result.status ≡ 5
-        → (result.device ≡ device) ⊎ LackedMemory (D.seen device) (D.seen result.device))
-        × HoldsNoMoreIf (D.seen device).state (D.seen result.device).state × (input.new ≡ input.old)
-        × (output.new ≡ output.old)) }
+        (EndsStart D.seen result.status result.detail device result.device
+        × (input.new ≡ input.old) × (output.new ≡ output.old)) }
 {
     match plan.job {
         Verb::Run => play_input(alloc, plan, device, input, output),

@@ -1,11 +1,10 @@
-ghost use Rattle.std.specs.Prelude.{◌≡◌, ◌↔◌, ◌⊎◌, ◌≤◌, ◌<◌, [], None, map, IfNone, IfSome, IsNone};
+ghost use Rattle.std.specs.Prelude.{◌≡◌, ◌↔◌, ◌≤◌, ◌<◌, [], None, map, IfNone, IfSome, IsNone};
 ghost use Rattle.std.specs.Option.{option_map};
 ghost use Rattle.std.specs.String.{string_bytes};
-ghost use Rattle.broker_core.specs.Broker.{IsAtBase, LackedMemory, told_origin};
-ghost use Rattle.device_start.specs.Start.{HoldsNoMoreIf};
+ghost use Rattle.broker_core.specs.Broker.{IsAtBase, told_origin};
 ghost use Rattle.link_pool.specs.Services.{IsServed, client_of, given_of};
 ghost use Rattle.command_line.specs.Words.{accepted};
-ghost use Rattle.tab_server.specs.Status.{IsOfStart};
+ghost use Rattle.tab_server.specs.Status.{EndsStart};
 ghost use Rattle.tab_server.specs.Done.{IsServe, LeavesPlan};
 ghost use Rattle.tab_server.specs.Run.{after_of, before_of};
 ghost use Rattle.tab_server.specs.Serving.{IsLinkDone, LeavesPool, LeavesServe};
@@ -136,12 +135,11 @@ pub fn tabrmd<
     ensures unread { IfSome (accepted (map string_bytes words.now))
         (λ plan. IsServe plan.job → input.new ≡ input.old) }
     // Where the broker didn't begin there is no journal, the device holds no more than it did,
-    // nothing was read or written, and nobody was accepted. At 5 nothing was sent, or the device was
-    // started and flushed.
+    // nothing was read or written, and nobody was accepted. The status tells how far the start
+    // came: at 5 nothing was sent, or the device was started and flushed. Each number that it told
+    // before the last command is in range, and at 11 the one that it told then isn't.
     ensures none { IfNone result.journal
-        (IsOfStart result.status × (result.status ≡ 5
-        → (result.device ≡ device) ⊎ LackedMemory (D.seen device) (D.seen result.device))
-        × HoldsNoMoreIf (D.seen device).state (D.seen result.device).state
+        (EndsStart D.seen result.status result.detail device result.device
         × (acceptor.new ≡ acceptor.old) × (input.new ≡ input.old) × (output.new ≡ output.old)
         × (result.links.items ≡ [])) }
 {

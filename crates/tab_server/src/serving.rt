@@ -1,6 +1,6 @@
 // The connections that an acceptor hands out, served over one broker.
 ghost use Rattle.std.specs.Prelude.{◌≡◌, ◌≤◌, ◌<◌, ℕ, List, Option, [], Some, None, length};
-ghost use Rattle.std.specs.Prelude.{◌⊎◌, IfNone, IsSome, IsTrue, OnOk, OnErr, false, true};
+ghost use Rattle.std.specs.Prelude.{IfNone, IsSome, IsTrue, OnOk, OnErr, false, true};
 ghost use Rattle.std.specs.List.{list_any};
 ghost use Rattle.std.specs.Option.{option_map};
 ghost use Rattle.tab_spec.specs.Count.{Rose};
@@ -9,11 +9,10 @@ ghost use Rattle.history_spec.specs.Entry.{IsLimit, clients_of};
 ghost use Rattle.link_port.specs.Port.{with_more};
 ghost use Rattle.audit_journal.specs.Text.{WroteFrontOf};
 ghost use Rattle.broker_lock.specs.Known.{origin_of};
-ghost use Rattle.broker_core.specs.Broker.{IsAtBase, LackedMemory, told_origin};
-ghost use Rattle.device_start.specs.Start.{HoldsNoMoreIf};
+ghost use Rattle.broker_core.specs.Broker.{IsAtBase, told_origin};
 ghost use Rattle.link_pool.specs.Endings.{lacks_memory};
 ghost use Rattle.link_pool.specs.Services.{IsServed, client_of, given_of};
-ghost use Rattle.tab_server.specs.Status.{IsOfStart};
+ghost use Rattle.tab_server.specs.Status.{EndsStart};
 ghost use Rattle.tab_server.specs.Run.{after_of, before_of};
 ghost use Rattle.tab_server.specs.Serving.{IsLinkDone, LeavesPool, LeavesServe, TellsEnd};
 ghost use Rattle.tab_server.specs.Serving.{WroteOr, end_text, serve_detail, serve_status};
@@ -356,9 +355,7 @@ pub(crate) fn serve_plan<
     ensures links { LINKS_MOST < plan.now.connections → result.links.items ≡ [] }
     ensures taken { result.status ≡ REFUSED → ⊥ }
     ensures none { IfNone result.journal
-        (IsOfStart result.status × (result.status ≡ NO_MEMORY
-        → (result.device ≡ device) ⊎ LackedMemory (D.seen device) (D.seen result.device))
-        × HoldsNoMoreIf (D.seen device).state (D.seen result.device).state
+        (EndsStart D.seen result.status result.detail device result.device
         × (acceptor.new ≡ acceptor.old) × (output.new ≡ output.old) × (result.links.items ≡ [])) }
 {
     match begin_broker(alloc, plan.limit, device) {

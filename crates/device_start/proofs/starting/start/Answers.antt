@@ -1,13 +1,13 @@
-use Rattle.std.proofs.Common.{List, ap, sym, ◌∙◌, subst}
+use Rattle.std.proofs.Common.{List, Err, ap, sym, ◌∙◌, subst}
 use Rattle.std.specs.Prelude.{is_some}
 use Rattle.std.proofs.lemmas.Result.{err_from_is_err_and}
 use Rattle.device_port.specs.Device.{Transmission}
-use Rattle.device_port.proofs.Sending.{cause_then}
+use Rattle.device_port.proofs.Sending.{asks_then}
 use Rattle.device_start.specs.Start.{Flushes, HasStartCause, all_listed}
 use Rattle.device_start.proofs.Found.{running_now}
 use Rattle.device_start.proofs.Left.{cleared_since, few_then, found_listed, is_cleared}
 use Rattle.device_start.proofs.Sent.{attempts_then, err_carried, right_end}
-use Rattle.device_start.proofs.Values.{numbers_own, numbers_range}
+use Rattle.device_start.proofs.Values.{later_fails, numbers_own, numbers_range}
 use Rattle.device_start.proofs.starting.start.Goals as goal
 
 pub returns-in_err-numbers-clause-attempts : goal.returns-in_err-numbers-clause-attempts
@@ -36,7 +36,7 @@ returns-in-Err-clause-attempts g c =
 
 pub returns-in-Err-clause-cause : goal.returns-in-Err-clause-cause
 returns-in-Err-clause-cause g c =
-    cause_then g.D.Device.seen _ c.ask_numbers.new.device _ c.in-Err.e c.in_ok-numbers.ensures.values.attempts.count c.in-Err.ensures.asks.cause
+    later_fails g.D.Device.seen _ c.ask_numbers.new.device _ c.in_ok-numbers.numbers c.in-Err.e c.in_ok-numbers.ensures.values c.in-Err.ensures.asks
 
 pub flush_all-requires-clause-there : goal.flush_all-requires-clause-there
 flush_all-requires-clause-there g c =
@@ -56,10 +56,9 @@ returns-in-Err-flush_all-clause-attempts g c =
 pub returns-in-Err-flush_all-clause-cause : goal.returns-in-Err-flush_all-clause-cause
 returns-in-Err-flush_all-clause-cause g c =
     let seen = g.D.Device.seen in
-    let first = c.in_ok-numbers.ensures.values.attempts in
-    let found = c.in_default.ensures in
-    let second = attempts_then seen c.args.device.now c.ask_numbers.new.device c.find.new.device first found.asks.own found.asks.base found.asks.count (few_then _ (seen c.ask_numbers.new.device).state _ first.few found.few) in
-    cause_then seen _ c.find.new.device _ c.in-Err-flush_all.e second.count c.in-Err-flush_all.ensures.asks.cause
+    let e = c.in-Err-flush_all.e in
+    let asks = asks_then seen c.ask_numbers.new.device c.find.new.device c.flush_all.new.device tt (Err e) c.in_default.ensures.asks c.in-Err-flush_all.ensures.asks in
+    later_fails seen _ c.ask_numbers.new.device _ c.in_ok-numbers.numbers e c.in_ok-numbers.ensures.values asks
 
 pub returns-clause-started : goal.returns-clause-started
 returns-clause-started g c =

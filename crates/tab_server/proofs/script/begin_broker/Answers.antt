@@ -1,7 +1,7 @@
 use Rattle.std.proofs.Common.{arith, refl, subst}
 use Rattle.broker_core.specs.declared.broker.BeginError.{BeginError}
 use Rattle.broker_core.specs.Broker.{HasCause}
-use Rattle.tab_server.proofs.Beginning.{begins_from, lacked, number_out, out_of_range, out_still, tells_still}
+use Rattle.tab_server.proofs.Beginning.{begins_from, ends_lacking, lacked, number_out, out_of_range, out_still, tells_still}
 use Rattle.tab_server.proofs.script.begin_broker.Goals as goal
 
 pub returns-in-Ok-clause-broker : goal.returns-in-Ok-clause-broker
@@ -32,7 +32,7 @@ pub returns-in-Err-Memory-default-clause-none : goal.returns-in-Err-Memory-defau
 returns-in-Err-Memory-default-clause-none g c =
     let end = c.in-Err-Memory-default in
     let cause = subst (λ (e : BeginError). HasCause g.D.Device.seen e c.args.device end.device) end.field-0-0-is end.ensures.cause in
-    rw c.unplayed-in-Err-Memory-default.ensures (refl, refl, (λ five. cause), end.ensures.keeps_err.1)
+    rw c.unplayed-in-Err-Memory-default.ensures (refl, ends_lacking g.D.Device.seen c.args.device end.device cause end.ensures.keeps_err.1)
 
 pub returns-in-Err-Numbers-default-clause-leaves : goal.returns-in-Err-Numbers-default-clause-leaves
 returns-in-Err-Numbers-default-clause-leaves g c audit left written input output =

@@ -43,12 +43,12 @@ returns-else-are_kept-clause-taken g c two = never_refused_serve _ _ _ _ _ _ _ _
 pub returns-in-Err-clause-leaves : goal.returns-in-Err-clause-leaves
 returns-in-Err-clause-leaves g c few left input =
     leaves_unbegun _ _ c.args.plan.now.limit _ _ _ _ _ _ _ _ _ c.new.ensures.items
-    (c.in-Err.ensures.leaves c.args.plan.now.audit left _ input _) c.in-Err.ensures.none.1 refl refl (refl, refl)
+    (c.in-Err.ensures.leaves c.args.plan.now.audit left _ input _) c.in-Err.ensures.none.1.of_start refl refl (refl, refl)
 
 pub returns-in-Err-clause-pool : goal.returns-in-Err-clause-pool
 returns-in-Err-clause-pool g c many left input =
     leaves_unbegun _ _ c.args.plan.now.limit _ _ _ _ _ _ _ _ _ c.none.ensures
-    (c.in-Err.ensures.leaves c.args.plan.now.audit left _ input _) c.in-Err.ensures.none.1 refl refl (refl, refl)
+    (c.in-Err.ensures.leaves c.args.plan.now.audit left _ input _) c.in-Err.ensures.none.1.of_start refl refl (refl, refl)
 
 pub returns-in-Err-clause-links : goal.returns-in-Err-clause-links
 returns-in-Err-clause-links g c many = c.new.ensures.items

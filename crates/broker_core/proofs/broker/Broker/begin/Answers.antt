@@ -22,7 +22,7 @@ returns-clause-keeps g c =
 
 -- memory lacks when the device was started
 pub returns-in_default-new-4-clause-cause : goal.returns-in_default-new-4-clause-cause
-returns-in_default-new-4-clause-cause g c = let started = c.in-Ok-start.ensures in inr (c.in-Ok-start.numbers, started.started, started.cleared)
+returns-in_default-new-4-clause-cause g c = let started = c.in-Ok-start.ensures in inr (c.in-Ok-start.numbers, started.started, started.range, started.cleared)
 
 pub returns-in_default-new-4-clause-keeps_err : goal.returns-in_default-new-4-clause-keeps_err
 returns-in_default-new-4-clause-keeps_err g c =
@@ -30,7 +30,7 @@ returns-in_default-new-4-clause-keeps_err g c =
     attempted g.D.Device.seen c.args.device c.start.new.device (told c.args.device) (told c.start.new.device) c.in-Ok-start.ensures.attempts
 
 pub returns-in_default-new-5-clause-cause : goal.returns-in_default-new-5-clause-cause
-returns-in_default-new-5-clause-cause g c = let started = c.in-Ok-start.ensures in inr (c.in-Ok-start.numbers, started.started, started.cleared)
+returns-in_default-new-5-clause-cause g c = let started = c.in-Ok-start.ensures in inr (c.in-Ok-start.numbers, started.started, started.range, started.cleared)
 
 pub returns-in_default-new-5-clause-keeps_err : goal.returns-in_default-new-5-clause-keeps_err
 returns-in_default-new-5-clause-keeps_err g c =
