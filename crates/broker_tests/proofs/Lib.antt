@@ -1,3 +1,4 @@
+mod AtBase
 mod Driving
 mod Full
 mod Saved

@@ -11,12 +11,12 @@ use plain_machine::World;
 use std::alloc::Global;
 use std::test::Fail;
 use tab_bytes::Buffer;
-use tab_spec::{ACTIVE_SESSIONS, CC_CONTEXT_SAVE, CC_START_AUTH_SESSION};
+use tab_spec::{ACTIVE_SESSIONS, CC_CONTEXT_SAVE, CC_START_AUTH_SESSION, Numbers};
 use tab_values::Persist;
 use tab_wire::{code_of, response_handle};
 
 // More than a test writes.
-const AMPLE: u64 = 1 << 20;
+pub(crate) const AMPLE: u64 = 1 << 20;
 
 // CreatePrimary of an HMAC key by the owner, with an empty password. The byte at 51 is its unique
 // field.
@@ -82,9 +82,10 @@ pub(crate) fn save(handle: u32) -> [u8; 14] {
     [0x80, 0x01, 0, 0, 0, 14, 0, 0, 0x01, 0x62, a, b, c, d]
 }
 
-// A broker over a device that fails at these transmissions.
+// A broker over a device of the profile that fails at these transmissions.
 pub(crate) fn start(alloc: Global, failing: Vec<u64>) -> Result<Clients, Fail> {
-    Ok(Clients::begin(alloc, failing, AMPLE).ok_or("the broker begins")?)
+    let numbers = Numbers::of_the_profile();
+    Ok(Clients::begin(alloc, numbers, failing, AMPLE).ok_or("the broker begins")?)
 }
 
 // Opens so many clients; whether the last of them has the number before that.

@@ -1,13 +1,10 @@
 //! Contexts of sessions that clients save, load and flush.
-use crate::clients::{
-    START_SESSION, coded, flush, get_digest, new_world, open, run_both, save, start,
-};
-use crate::driver::Clients;
-use device_port::Device;
-use plain_machine::World;
+use crate::clients::{START_SESSION, flush, get_digest, save};
+use crate::numbers::WIDE_GAP;
+use crate::pair::Pair;
 use std::alloc::{AllocError, Global};
 use std::test::Fail;
-use tab_bytes::Buffer;
+use tab_spec::Numbers;
 
 // StartAuthSession of an HMAC session, with a nonce of 32 zeros.
 const START_HMAC: [u8; 59] = [
@@ -56,61 +53,6 @@ fn load_of(alloc: Global, saved: &[u8]) -> Result<Vec<u8>, AllocError> {
         command[9] = 0x61;
     }
     Ok(command)
-}
-
-// A broker over the device in memory, and the machine as its clients see it, with the same clients.
-struct Pair {
-    clients: Clients,
-    world: World,
-    wanted: Buffer,
-}
-
-impl Pair {
-    // With so many clients. There is none where memory lacks.
-    fn begin(alloc: Global, count: u32) -> Result<Pair, Fail> {
-        let world = new_world(alloc, count)?;
-        let wanted = Buffer::new(alloc)?;
-        let mut clients = start(alloc, Vec::new(alloc))?;
-        let _ = open(&mut clients, count);
-        Ok(Pair {
-            clients,
-            world,
-            wanted,
-        })
-    }
-
-    // Whether both answer a command alike, by bytes that begin so.
-    fn answers(&mut self, client: u32, command: &[u8], begin: &[u8]) -> bool {
-        let failures = run_both(
-            &mut self.clients,
-            &mut self.world,
-            client,
-            command,
-            &mut self.wanted,
-        );
-        failures == Some(0) && self.clients.reply().starts_with(begin)
-    }
-
-    // Whether both answer a command by this code alone.
-    fn tells(&mut self, client: u32, command: &[u8], code: u32) -> bool {
-        self.answers(client, command, &coded(code))
-    }
-
-    // What the last command was told.
-    fn reply(&self) -> &[u8] {
-        self.clients.reply()
-    }
-
-    // How many commands the device was sent.
-    fn finish(self) -> u64 {
-        let Pair {
-            clients,
-            world: _,
-            wanted: _,
-        } = self;
-        let (device, _) = clients.finish();
-        device.sent_count()
-    }
 }
 
 // Starts an HMAC session of the first client, and four policy sessions; whether all are there.
@@ -181,8 +123,8 @@ fn loads_once(alloc: Global, pair: &mut Pair, digests: u16) -> Result<bool, Allo
 }
 
 // The same over a new pair. The device is sent three commands for each digest.
-fn is_loaded_once(alloc: Global, digests: u16) -> Result<bool, Fail> {
-    let mut pair = Pair::begin(alloc, 2)?;
+fn is_loaded_once(alloc: Global, numbers: Numbers, digests: u16) -> Result<bool, Fail> {
+    let mut pair = Pair::begin(alloc, numbers, 2)?;
     let loaded = loads_once(alloc, &mut pair, digests);
     let sent = pair.finish();
     Ok(loaded? && sent > 3 * u64::from(digests))
@@ -190,10 +132,13 @@ fn is_loaded_once(alloc: Global, digests: u16) -> Result<bool, Fail> {
 
 // Four sessions share three places, so each digest saves one session and loads another. The device
 // saves no session under a number that is 255 above that of its oldest context. So within 300
-// digests the broker has to renew the context of the session that is away.
+// digests the broker has to renew the context of the session that is away. With a gap of 400 it has
+// to within 1,200 of them.
 #[test]
 fn a_saved_session_is_loaded_once(rt: HostRuntime) -> Result<(), Fail> {
-    assert!(rt; is_loaded_once(rt.alloc(), 0)?);
-    assert!(rt; is_loaded_once(rt.alloc(), 300)?);
+    let profile = Numbers::of_the_profile();
+    for (numbers, digests) in [(profile, 0), (profile, 300), (WIDE_GAP, 1200)] {
+        assert!(rt; is_loaded_once(rt.alloc(), numbers, digests)?);
+    }
     Ok(())
 }

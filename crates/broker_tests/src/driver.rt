@@ -1,13 +1,15 @@
 //! A broker over the device in memory, whose clients close in the order in which they were opened.
-ghost use Rattle.std.specs.Prelude.{◌≤◌};
+ghost use Rattle.std.specs.Prelude.{◌≤◌, IfOk, Some};
+ghost use Rattle.broker_core.specs.Broker.{IsAtBase};
 ghost use Rattle.history_spec.specs.declared.TheConstants.{JOURNAL_LEAST, JOURNAL_MOST};
 
 use audit_journal::Journal;
 use broker_core::{Broker, Closed, OpenClientError, Told};
 use device_memory::MemoryDevice;
-use std::alloc::Global;
+use std::alloc::{AllocError, Global};
 use std::marker::Model;
 use tab_bytes::Buffer;
+use tab_spec::Numbers;
 
 // A broker whose clients run commands that are numbered upwards, each with a number of its own.
 pub(crate) struct Clients {
@@ -31,17 +33,31 @@ impl Model for Clients {
     ghost invariant = { λ c. IsDriven c.broker.journal c.closed c.opened c.next };
 }
 
+// A device with the zero seed and these numbers, which fails at the listed transmissions. A broker
+// may begin on it.
+fn device_of(alloc: Global, numbers: Numbers, failing: Vec<u64>) -> Result<MemoryDevice, AllocError>
+    ensures { IfOk result (λ device. IsAtBase (Some device.base) (Some device.state)) }
+{
+    MemoryDevice::with_numbers(alloc, [0; 32], numbers, failing)
+}
+
 impl Clients {
-    // A broker over a device with the zero seed, which fails at the transmissions with these
-    // numbers. There is none where the device fails at its start, or memory lacks.
-    pub(crate) fn begin(alloc: Global, failing: Vec<u64>, limit: u64) -> Option<Clients>
+    // A broker over a device with the zero seed and these numbers, which fails at the listed
+    // transmissions. There is none where the device fails at its start or no broker serves it, or
+    // memory lacks.
+    pub(crate) fn begin(
+        alloc: Global,
+        numbers: Numbers,
+        failing: Vec<u64>,
+        limit: u64,
+    ) -> Option<Clients>
         requires least { JOURNAL_LEAST ≤ limit }
         requires most { limit ≤ JOURNAL_MOST }
     {
         let Ok(reply) = Buffer::new(alloc) else {
             return None;
         };
-        let Ok(device) = MemoryDevice::new(alloc, [0; 32], failing) else {
+        let Ok(device) = device_of(alloc, numbers, failing) else {
             return None;
         };
         match Broker::begin(alloc, device, limit) {
@@ -107,6 +123,11 @@ impl Clients {
         let client = self.closed as u32;
         self.closed += 1;
         Some(self.broker.close_client(client))
+    }
+
+    // How many commands the device was sent.
+    pub(crate) fn sent(&self) -> u64 {
+        self.broker.sent_count()
     }
 
     // How many objects without a client are left.

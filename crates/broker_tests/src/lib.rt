@@ -20,7 +20,11 @@ mod given_back;
 #[cfg(test)]
 mod kept;
 #[cfg(test)]
+mod numbers;
+#[cfg(test)]
 mod objects;
+#[cfg(test)]
+mod pair;
 #[cfg(test)]
 mod sent;
 #[cfg(test)]

@@ -8,6 +8,7 @@ use device_port::Device;
 use history_spec::{JOURNAL_LEAST, JOURNAL_MOST};
 use std::alloc::Global;
 use std::test::Fail;
+use tab_spec::Numbers;
 
 // What a client does.
 #[derive(Clone, Copy)]
@@ -168,7 +169,10 @@ fn sent_after(alloc: Global, limit: u64, acts: &[(Act, u64)]) -> Result<u64, Fai
     requires least { JOURNAL_LEAST ≤ limit }
     requires most { limit ≤ JOURNAL_MOST }
 {
-    let mut clients = Clients::begin(alloc, Vec::new(alloc), limit).ok_or("the broker begins")?;
+    let numbers = Numbers::of_the_profile();
+    let mut clients = Clients::begin(alloc, numbers, Vec::new(alloc), limit).ok_or(
+        "the broker begins",
+    )?;
     let _ = open(&mut clients, 1);
     for (one, _) in acts {
         carry_out(&mut clients, *one);

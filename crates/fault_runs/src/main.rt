@@ -2,16 +2,20 @@
 //! tells where the transmissions of each call were.
 //!
 //! Standard input has runs, one behind another. The first line of each is the seed, 64 hexadecimal
-//! digits, and behind it the numbers of the transmissions that fail, from 0. The others are lines
-//! of a script, as the program `tabrmd` plays them. A script that isn't played to its end, as one
-//! with a bad line, ends the program with status 1.
+//! digits. Behind it may stand `numbers=SLOTS,LOADED,ACTIVE,GAP`, in decimal digits: how much room
+//! the device has for objects, for loaded sessions and for active ones, and its gap. Without this
+//! word they are those of the profile. Then come the numbers of the transmissions that fail, from
+//! 0. The other lines are those of a script, as the program `tabrmd` plays them. A script that
+//! isn't played to its end, as one with a bad line, ends the program with status 1, and so does a
+//! first line that isn't right.
 //!
 //! Of each run these lines are written, where a count is that of the commands that the device was
 //! sent:
 //!
 //! - the replies, as `tabrmd` writes them.
-//! - `begun COUNT`: when the broker had begun. Or `failed FAULTS COUNT`: it didn't, since a
-//!   transmission failed, and this is the only line of the run.
+//! - `begun COUNT`: when the broker had begun. Or it didn't, and this is the only line of the run:
+//!   `failed FAULTS COUNT` where a transmission failed, and `out of range PROPERTY VALUE COUNT`
+//!   where one of the device's numbers is out of range.
 //! - for each command and each close, those at the end among them, in their order:
 //!   `command FIRST LAST ORPHANS` or `close FIRST LAST ORPHANS`: the count before it and after it,
 //!   and how many objects and sessions of nobody are in the device then.

@@ -1,4 +1,5 @@
-ghost use Rattle.std.specs.Prelude.{◌≡◌, ◌≤◌, [], None};
+ghost use Rattle.std.specs.Prelude.{◌≡◌, ◌≤◌, [], IfOk, None, Some};
+ghost use Rattle.broker_core.specs.Broker.{IsAtBase};
 ghost use Rattle.device_port.specs.Device.{sent_of};
 
 use crate::held::count_held;
@@ -12,9 +13,10 @@ use device_port::Device;
 use history_spec::JOURNAL_MOST;
 use link_port::{MemorySource, StdSink};
 use script_player::{PlayedScript, Room, Stop, play_script};
-use std::alloc::Global;
+use std::alloc::{AllocError, Global};
 use std::io::Write;
 use tab_server::PlayedBroker;
+use tab_spec::Numbers;
 
 // What came of a script.
 #[derive(Drop)]
@@ -31,7 +33,12 @@ struct Played<D: Device + Drop> {
 pub fn play<W: Write>(alloc: Global, script: &Script, output: &mut W) -> anyhow::Result<()> {
     let room = Room::new(alloc)?;
     let text = script.text.to_vec(alloc)?;
-    let device = MemoryDevice::new(alloc, script.seed, script.failing.to_vec(alloc)?)?;
+    let device = device_of(
+        alloc,
+        script.seed,
+        script.numbers,
+        script.failing.to_vec(alloc)?,
+    )?;
     match Broker::begin(alloc, device, JOURNAL_MOST) {
         Ok(broker) => {
             let mut played = play_over(alloc, room, broker, text, output);
@@ -41,10 +48,27 @@ pub fn play<W: Write>(alloc: Global, script: &Script, output: &mut W) -> anyhow:
             writeln!(output, "failed {faults} {}", device.sent_count())?;
             Ok(())
         }
+        Err((BeginError::Numbers { property, value }, device)) => {
+            let sent = device.sent_count();
+            writeln!(output, "out of range {property} {value} {sent}")?;
+            Ok(())
+        }
         Err((BeginError::Answer(_), _)) => bail!("the device gave a wrong answer"),
         Err((BeginError::Memory, _)) => bail!("there is no memory for a broker"),
-        Err((BeginError::Numbers { .. }, _)) => bail!("a number of the device is out of range"),
     }
+}
+
+// A device of this seed and these numbers, which fails at these transmissions. A broker may begin on
+// it.
+fn device_of(
+    alloc: Global,
+    seed: [u8; 32],
+    numbers: Numbers,
+    failing: Vec<u64>,
+) -> Result<MemoryDevice, AllocError>
+    ensures { IfOk result (λ device. IsAtBase (Some device.base) (Some device.state)) }
+{
+    MemoryDevice::with_numbers(alloc, seed, numbers, failing)
 }
 
 // Plays the lines of a script over a broker that has opened nobody, and closes all clients. Each

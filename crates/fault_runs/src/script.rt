@@ -1,17 +1,23 @@
 ghost use Rattle.std.specs.Prelude.{◌≡◌, ◌↔◌, [], length, IfOk, IfSome, IsSome, Ok};
+ghost use Rattle.std.specs.Prelude.{MatchOption};
 ghost use Rattle.hex.specs.Hex.{decode_of};
-ghost use Rattle.fault_runs.specs.Lines.{first_word};
+ghost use Rattle.fault_runs.specs.Lines.{AreNamed, HasNumbers, HasNoMark, before_comma};
+ghost use Rattle.fault_runs.specs.Lines.{behind_comma, behind_mark, decimal, first_word};
+ghost use Rattle.fault_runs.specs.Lines.{other_words};
 
-use anyhow::Context;
+use anyhow::{Context, ensure};
 use std::alloc::Global;
+use tab_spec::Numbers;
 
 // How many digits a seed has. No other first word of a line has as many.
 const SEED_DIGITS: usize = 64;
 
-/// A script, and the device that it is played over: its seed, and the transmissions that fail.
+/// A script, and the device that it is played over: its seed, its numbers, and the transmissions
+/// that fail.
 #[derive(Drop)]
 pub struct Script {
     pub seed: [u8; 32],
+    pub numbers: Numbers,
     pub failing: Vec<u64>,
     pub text: Vec<u8>,
 }
@@ -22,17 +28,34 @@ pub fn read_seed(alloc: Global, text: &str) -> anyhow::Result<Option<Script>>
         ↔ (length (first_word text.now) ≡ SEED_DIGITS)) }
     ensures seed { IfOk result (λ found. IfSome found
         (λ script. decode_of (first_word text.now) ≡ Ok script.seed)) }
+    ensures numbers { IfOk result (λ found. IfSome found
+        (λ script. HasNumbers (other_words text.now) script.numbers)) }
     ensures empty { IfOk result (λ found. IfSome found (λ script. script.text.items ≡ [])) }
 {
-    let (digits, numbers) = text.split_once(' ').unwrap_or((text, ""));
+    let (digits, words) = split_word(text);
     if digits.len() != SEED_DIGITS {
         return Ok(None);
     }
+    let seed = seed_of(digits)?;
+    let (numbers, failing) = read_words(alloc, words)?;
     Ok(Some(Script {
-        seed: seed_of(digits)?,
-        failing: read_numbers(alloc, numbers)?,
+        seed,
+        numbers,
+        failing,
         text: Vec::new(alloc),
     }))
+}
+
+// The first word of a text, and what stands behind the space after it.
+#[tactic(auto, using(std::proofs::lemmas::List::drop_all))]
+fn split_word(text: &str) -> (&str, &str)
+    ensures first { result.0.now ≡ first_word text.now }
+    ensures others { result.1.now ≡ other_words text.now }
+{
+    match text.split_once(' ') {
+        Some(words) => words,
+        None => (text, ""),
+    }
 }
 
 // A seed of 32 bytes.
@@ -44,11 +67,70 @@ fn seed_of(digits: &str) -> anyhow::Result<[u8; 32]>
     Ok(seed)
 }
 
-// Numbers with spaces between them.
-fn read_numbers(alloc: Global, text: &str) -> anyhow::Result<Vec<u64>> {
-    let mut numbers = Vec::new(alloc);
-    for word in text.split_ascii_whitespace() {
-        numbers.push(word.parse::<u64>().context("a transmission has a number")?)?;
+// The words behind a seed: the device's numbers, or none for those of the profile, and then the
+// transmissions that fail.
+fn read_words(alloc: Global, words: &str) -> anyhow::Result<(Numbers, Vec<u64>)>
+    ensures { IfOk result (λ read. HasNumbers words.now read.0) }
+{
+    let (first, others) = split_word(words);
+    match read_numbers(first)? {
+        Some(numbers) => Ok((numbers, read_failing(alloc, others)?)),
+        None => Ok((Numbers::of_the_profile(), read_failing(alloc, words)?)),
     }
-    Ok(numbers)
+}
+
+// The numbers of a device, where a word names them.
+fn read_numbers(word: &str) -> anyhow::Result<Option<Numbers>>
+    ensures { IfOk result (λ found. MatchOption found (HasNoMark word.now)
+        (λ numbers. AreNamed (behind_mark word.now) numbers)) }
+{
+    let Some((name, list)) = word.split_once('=') else {
+        return Ok(None);
+    };
+    ensure!(name == "numbers", "a device has numbers");
+    Ok(Some(numbers_of(list)?))
+}
+
+// Four numbers with a comma between each two: slots, places, sessions and the gap.
+fn numbers_of(list: &str) -> anyhow::Result<Numbers>
+    ensures { IfOk result (λ numbers. AreNamed list.now numbers) }
+{
+    let (slots, others) = first_of(list)?;
+    let (loaded, others) = first_of(others)?;
+    let (active, gap) = first_of(others)?;
+    Ok(Numbers {
+        slots: count_of(slots)?,
+        loaded: count_of(loaded)?,
+        active: count_of(active)?,
+        gap: gap_of(gap)?,
+    })
+}
+
+// The first number of several, and the others.
+fn first_of(list: &str) -> anyhow::Result<(&str, &str)>
+    ensures { IfOk result (λ parts. (parts.0.now ≡ before_comma list.now)
+        × (parts.1.now ≡ behind_comma list.now)) }
+{
+    list.split_once(',').context("a device has four numbers")
+}
+
+fn count_of(word: &str) -> anyhow::Result<u8>
+    ensures { IfOk result (λ n. n ≡ decimal word.now) }
+{
+    Ok(word.parse::<u8>()?)
+}
+
+fn gap_of(word: &str) -> anyhow::Result<u32>
+    ensures { IfOk result (λ n. n ≡ decimal word.now) }
+{
+    Ok(word.parse::<u32>()?)
+}
+
+// Transmissions with spaces between them.
+fn read_failing(alloc: Global, words: &str) -> anyhow::Result<Vec<u64>> {
+    let mut failing = Vec::new(alloc);
+    for word in words.split_ascii_whitespace() {
+        failing.push(word.parse::<u64>().context("a transmission has a number")?)?;
+    }
+    Ok(failing)
 }

@@ -13,6 +13,8 @@ mod linked;
 #[cfg(test)]
 mod mute;
 #[cfg(test)]
+mod numbers;
+#[cfg(test)]
 mod remains;
 #[cfg(test)]
 mod runs;

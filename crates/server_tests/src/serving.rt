@@ -79,7 +79,7 @@ fn link_of(alloc: Global, bytes: &[u8], pieces: Vec<u32>) -> Result<Ends, AllocE
 }
 
 // Two connections: over one a command comes in twelve pieces, and over the other two in one piece.
-fn two_links(alloc: Global) -> Result<Vec<Ends>, AllocError> {
+pub(crate) fn two_links(alloc: Global) -> Result<Vec<Ends>, AllocError> {
     let one = link_of(alloc, &ONCE, vec![in alloc; 1; 12]?)?;
     let other = link_of(alloc, &TWICE, Vec::new(alloc))?;
     Ok(vec![in alloc; one, other]?)
