@@ -8,7 +8,8 @@ answers.
 response. `World(seed, most)` is the machine as its clients see it: each has a table of
 objects, and the sessions of all of them have 64 numbers, of which as many may be active as
 `most` says. Without them it is the profile's. `step(client, command, pick)` gives the
-reply where the free choice is that of a journal; `command(client, command)` chooses itself.
+reply where the free choice is that of a journal; `command(client, command)` chooses itself;
+`close(client)` leaves the sessions that the client saved.
 
 `workload_lines(start, count)` gives the lines of the script that `tabrmd workload` plays.
 """
@@ -56,8 +57,14 @@ PROFILE = Numbers(3, 3, 64, 255)
 NUMBER_PROPERTIES = Numbers(0x10E, 0x110, 0x111, 0x114)
 SESSION_NUMBERS = 64
 CLIENT_OBJECTS = 4096
+MOST_LEFT = 8
 FIRST_TRANSIENT = 0x80000000
 LAST_PLACE = 1 << 62
+
+
+def left_most(active):
+    """How many sessions may be left by their clients at once, over a device that may have so many active."""
+    return min(MOST_LEFT, active // 4)
 
 
 def number_out(values):
@@ -1007,19 +1014,21 @@ class BadPick(Exception):
 
 
 Held = namedtuple("Held", "client session handed")
+Left = namedtuple("Left", "number session handed")
 
 
 class World(Machine):
     """The machine as its clients see it. It has no slots and no places. `most` says how many sessions may be active.
 
-    A session is `Held` under its number; `handed` is the context that was handed out, or
-    None while the session is in use.
+    A client's session is `Held` under its number; `handed` is the context that was handed
+    out, or None while the session is in use. `left` has the saved sessions of closed
+    clients, in the order in which they were left: they are active, and nobody's.
     """
 
     def __init__(self, seed, most=PROFILE.active):
         super().__init__(seed)
         self.started, self.most = True, most
-        self.tables, self.sessions = {}, {}
+        self.tables, self.sessions, self.left = {}, {}, []
         # the least sequences that may be handed out
         self.least_of_objects = self.least_of_sessions = 0
 
@@ -1044,8 +1053,17 @@ class World(Machine):
         self.tables.setdefault(client, {})
 
     def close(self, client):
+        """The client's saved sessions are left, and those that were left longest go where there are too many."""
         self.tables.pop(client, None)
-        self.sessions = {n: held for n, held in self.sessions.items() if held.client != client}
+        for number in [n for n, held in sorted(self.sessions.items()) if held.client == client]:
+            held = self.sessions.pop(number)
+            if held.handed is not None:
+                self.left.append(Left(number, held.session, held.handed))
+        del self.left[:max(0, len(self.left) - left_most(self.most))]
+
+    def _active(self):
+        """The numbers of all sessions, those of clients and those that are left."""
+        return self.sessions.keys() | {left.number for left in self.left}
 
     def _choose(self, sort, least, end, taken=()):
         """The number of this sort that the pick says; without a pick the least one that can be."""
@@ -1082,10 +1100,10 @@ class World(Machine):
         return uint32(FIRST_TRANSIENT + number)
 
     def _has_session_room(self):
-        need(len(self.sessions) < self.most, SESSION_HANDLES)
+        need(len(self._active()) < self.most, SESSION_HANDLES)
 
     def _keep_session(self, session):
-        number = self._choose("session", 0, SESSION_NUMBERS, self.sessions)
+        number = self._choose("session", 0, SESSION_NUMBERS, self._active())
         self.sessions[number] = Held(self.client, session, None)
         return uint32(session.octet() << 24 | number)
 
@@ -1119,12 +1137,21 @@ class World(Machine):
         given = parameters.data
         sequence, handle, hierarchy, blob = read_context(parameters)
         if handle >> 24 in SESSION_OCTETS:
-            held = self._own(handle)
-            need(held and held.handed == given, of_parameter(HANDLE, 1))
-            self._put_session(handle, held.session)
+            self._put_session(handle, self._taken_up(handle, given))
             return uint32(handle), b""
         plain = unwrap(context_keys(self.seed, sequence, handle, hierarchy), blob)
         return self._keep(unmarshal_object(plain)), b""
+
+    def _taken_up(self, handle, context):
+        """The session for which this context was handed out: one that the client has saved, or one that is left and
+        isn't any more."""
+        held = self._own(handle)
+        if held and held.handed == context:
+            return held.session
+        left = next((left for left in self.left if left.handed == context), None)
+        need(left, of_parameter(HANDLE, 1))
+        self.left.remove(left)
+        return left.session
 
     def _handles_of(self, octet):
         if octet == 0x80:
@@ -1134,7 +1161,7 @@ class World(Machine):
 
     def _properties(self):
         own = [held for held in self.sessions.values() if held.client == self.client]
-        free = self.most - len(self.sessions)
+        free = self.most - len(self._active())
         return {**dict(zip(NUMBER_PROPERTIES, (CLIENT_OBJECTS, self.most, self.most, 0xFFFFFFFF))),
                 0x203: sum(held.handed is None for held in own), 0x204: free, 0x205: len(own), 0x206: free,
                 0x207: CLIENT_OBJECTS - len(self.tables[self.client])}

@@ -146,7 +146,9 @@ class Script:
         told = [place for place, line in enumerate(ran.lines) if line.reply == FAULT_REPLY]
         if told != sorted(places):
             return f"lines {numbers_of(told)} are told of a fault, and not lines {numbers_of(sorted(places))}"
-        return self._fault_of_counts(ran) or self._fault_of_journal(ran) or self._fault_of_left(ran, failing)
+        judge = judge_audit.Judge(self.seed)
+        return (self._fault_of_counts(ran) or self._fault_of_journal(judge, ran)
+                or self._fault_of_held(judge, ran, failing))
 
     def _fault_of_counts(self, ran):
         ends = [ran.begun, *(line.last for line in ran.lines)]
@@ -154,30 +156,31 @@ class Script:
             return "the counts of transmissions of one line don't go on where those of the last one ended"
         return None
 
-    def _fault_of_journal(self, ran):
+    def _fault_of_journal(self, judge, ran):
         """The replies and the journal of the whole run, as the model judges them."""
         replies = [f"{label} {line.reply.hex()}\n".encode()
                    for (label, _), line in zip(self.lines, ran.lines) if line.reply is not None]
-        judge = judge_audit.Judge(self.seed)
         try:
             judge_audit.judge_run(judge, LIMIT, self.judged, replies + ran.texts)
         except judge_audit.Illegal as illegal:
             return "line {} of the replies and the journal: {}".format(*illegal.args)
         return None
 
-    def _fault_of_left(self, ran, failing):
-        """What is left in the device, and what of it is counted as nobody's."""
+    def _fault_of_held(self, judge, ran, failing):
+        """What the device holds in the end: the sessions that their clients left, as the judge of the journal has them, and
+        what is counted as nobody's."""
         for number, line in enumerate(ran.lines, 1):
             if line.reply not in (None, FAULT_REPLY) and line.last > line.first and line.orphans:
-                return f"line {number} has used the device, and left {line.orphans} of nobody's in it"
+                return f"line {number} has used the device, and {line.orphans} orphans are still in it"
         if ran.faults != len(failing):
             return f"the device failed {ran.faults} times"
-        last = ran.lines[-1]
+        last, left = ran.lines[-1], len(judge.world.left)
         at_end = sum(number >= last.last for number in failing)
         entries = sum(audit_text.entry_of(text).kind == "fault" for text in ran.texts)
-        if ran.held != last.orphans + at_end or ran.held + entries > ran.faults:
-            return (f"the device holds {ran.held} at the end: {last.orphans} were nobody's behind the last line, and {at_end} "
-                    f"of its {ran.faults} failures came behind it")
+        if ran.held != last.orphans + at_end + left or ran.held + entries > ran.faults + left:
+            return (f"the device holds {ran.held} at the end: {left} sessions are left, there were "
+                    f"{last.orphans} orphans behind the last line, and {at_end} of its {ran.faults} failures "
+                    "came behind it")
         return None
 
 

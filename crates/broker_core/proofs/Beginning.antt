@@ -84,7 +84,7 @@ none_left (suc count) = omega (arith, count_cons sessions.is_orphan None (replic
 abbrev pub held_nothing : Numbers → ℕ → Held
 held_nothing numbers next = record {
   objects = record { items = []; slots = numbers.slots; order = []; owners = []; left = [] };
-  sessions = record { numbers = numbers; items = no_items; next = next; order = []; saved = [] };
+  sessions = record { numbers = numbers; items = no_items; next = next; order = []; saved = []; left = [] };
 }
 
 pub settled_empty : (slots : SlotState) (numbers : Numbers) (next : ℕ) → slots.started ≡ true → IsSlots slots → slots.numbers ≡ numbers → HoldsNothing slots → IsSettled slots (held_nothing numbers next)
@@ -127,6 +127,7 @@ stands_begun base (Some s) new numbers next same at_base clears own b slots is_b
         settled = settled_empty slots numbers next cleared.started cleared.sound are cleared.empty;
         clients = λ client. refl;
         sessions = sym (none_owned slots 64);
+        left = refl;
         handed = record { of_objects = omega arith; of_sessions = omega arith };
         object_counter = omega (arith, ap (λ (t : SlotState). t.object_counter) cleared.kept, at_base.object_counter);
         counter = omega (arith, ap (λ (t : SlotState). t.counter) cleared.kept, at_base.counter);
@@ -134,7 +135,7 @@ stands_begun base (Some s) new numbers next same at_base clears own b slots is_b
     }
 
 nothing_held : (held : Held) (numbers : Numbers) (next : ℕ) → held.objects ≡ record { items = []; slots = numbers.slots; order = []; owners = []; left = [] }
-    → held.sessions ≡ record { numbers = numbers; items = no_items; next = next; order = []; saved = [] } → held_nothing numbers next ≡ held
+    → held.sessions ≡ record { numbers = numbers; items = no_items; next = next; order = []; saved = []; left = [] } → held_nothing numbers next ≡ held
 nothing_held held numbers next objects sessions = λ i. record { objects = sym objects i; sessions = sym sessions i }
 
 not_own : {client : ℕ} → ◌≡◌ {A = Option ℕ} None (Some client) → ⊥
@@ -163,6 +164,7 @@ holds_nothing began base old new limit numbers next same at_base clears base_sam
     listed = refl;
     lists_stand = record { own = λ client some. absurd (false≢true some); owned = λ list client own. absurd (not_own own) };
     owners = none_open 64;
+    left_few = omega arith;
     counted = inl (omega (arith, risen, none_left 64));
   };
   answers = record { answer = tt; right = λ none. right; taken = λ told. refl };
@@ -176,7 +178,7 @@ holds_nothing began base old new limit numbers next same at_base clears base_sam
 pub holds_begun : (began : ℕ) (base : Option Persist) (old : Option SlotState) (new : Seen) (limit : ℕ) (held : Held) (numbers : Numbers)
     → is_some old ≡ is_some new.state → IsAtBase base old → ClearedIf old new.state → new.base ≡ base → began ≤ new.faults → IsRight (asked_of new) (last_of new)
     → limit ≤ SILENT_LIMIT → AreInRange numbers → IfSome old (λ slots. slots.numbers ≡ numbers) → held.objects ≡ record { items = []; slots = numbers.slots; order = []; owners = []; left = [] }
-    → held.sessions ≡ record { numbers = numbers; items = no_items; next = 0; order = []; saved = [] } → Holds began new [] limit [] [] held 0 None
+    → held.sessions ≡ record { numbers = numbers; items = no_items; next = 0; order = []; saved = []; left = [] } → Holds began new [] limit [] [] held 0 None
 holds_begun began base old new limit held numbers same at_base clears base_same risen right most range own objects sessions =
     subst (λ (h : Held). Holds began new [] limit [] [] h 0 None) (nothing_held held numbers 0 objects sessions)
     (holds_nothing began base old new limit numbers 0 same at_base clears base_same risen right most range own)

@@ -1,9 +1,9 @@
--- A client closes: what it had is dropped, and what couldn't be flushed is nobody's.
+-- A client closes: what it had in use is dropped, what it saved is left, and what couldn't be flushed is an orphan.
 use Rattle.std.proofs.Common.{◌≡◌, ◌<◌, ◌≤◌, ◌+◌, ◌-◌, ℕ, true, false, List, [], ◌∷◌, ◌++◌, length, Option, Some, None, refl, sym, ap, subst, ◌∙◌, arith, inl}
 use Rattle.std.specs.Prelude.{is_some, set}
 use Rattle.std.specs.List.{list_any}
 use Rattle.std.proofs.lemmas.List.{length-set}
-use Rattle.tab_spec.specs.Numbers.{AreInRange}
+use Rattle.tab_spec.specs.Numbers.{AreInRange, left_most}
 use Rattle.device_spec.specs.Answers.{IsWrongAnswer}
 use Rattle.device_spec.specs.Slots.{SlotState}
 use Rattle.device_port.specs.Device.{Seen, asked_of, last_of}
@@ -21,7 +21,7 @@ use Rattle.client_machine.specs.Tables.{AreOpenOwners}
 use Rattle.broker_core.specs.Tables.{TablesStand, list_of}
 use Rattle.object_swap.specs.Items.{HasNone}
 use Rattle.broker_core.proofs.Journaling.{counted-left, counted-push, journal-close, journal-later}
-use Rattle.broker_core.proofs.Holding.{Entries, after-push, counters_in, fewer-counted, longer, moves_now, no_answer, no_state, none_is, not_told, others_in, slots_still, still_right, told_before}
+use Rattle.broker_core.proofs.Holding.{Entries, after-push, counters_in, few_left, fewer-counted, longer, moves_now, no_answer, no_state, none_is, not_told, others_in, slots_still, still_right, told_before}
 use Rattle.client_machine.proofs.Settling.{settled_at}
 use Rattle.broker_core.proofs.Tabling.{open_inside, owners-close, tables-close}
 use Rattle.broker_core.proofs.Listing.{lists-close, lists_same}
@@ -38,10 +38,10 @@ counts_on old new counts = record {
 
 stands_closed : {D : Type 0} (seen : D → Seen) {device new : D} (history : Entries) (tables : List (List (Option ℕ))) {held new_held : Held}
     {owners : List (Option ℕ)} (client failed : ℕ) → StandsFor (seen device).base (seen device).state history tables held → TablesStand (clients_of history).present tables held.objects.items
-    → IsOpen history client → client < length tables → times_open client (clients_of history).present ≤ 1
+    → length held.sessions.left ≤ left_most held.sessions.numbers.active → IsOpen history client → client < length tables → times_open client (clients_of history).present ≤ 1
     → Drops seen client device new held new_held owners failed → list_any (is_owned client) new_held.sessions.items ≡ false
     → StandsFor (seen new).base (seen new).state (history ++ close_entry client ∷ []) (set tables client []) new_held
-stands_closed seen {device = device} {new = new} history tables {held} {new_held} {owners} client failed stands tables_stand opened inside one drops none = λ b after is_base is_after.
+stands_closed seen {device = device} {new = new} history tables {held} {new_held} {owners} client failed stands tables_stand few opened inside one drops none = λ b after is_base is_after.
     let before = told_before (seen device).state (seen new).state after drops.keeps.tells is_after in
     let slots = before.0 in
     let so_far = stands b slots (sym drops.keeps.base_is ∙ is_base) before.1 in
@@ -51,7 +51,7 @@ stands_closed seen {device = device} {new = new} history tables {held} {new_held
     (stands-close (world_of b slots.numbers.active history) slots after tables held new_held client (length history) so_far.stands (subst (λ (n : ℕ). n ≤ 1) (sym (once b slots.numbers.active history client)) one) inside (clients_of history).present tables_stand
     (settled_at (seen new).state after new_held drops.settled is_after) drops.numbers (counters_in (seen device).state (seen new).state slots after (counts_on (seen device).state (seen new).state drops.counts) before.1 is_after)
     (others_in client (seen device).state (seen new).state slots after held.objects.items new_held.objects.items drops.other_objects before.1 is_after) (drops.persist slots after before.1 is_after)
-    (drops.other_sessions slots after before.1 is_after) none)
+    (drops.closes slots after before.1 is_after) (drops.few_left few) none)
 
 held_closed : {D : Type 0} (seen : D → Seen) {device new : D} {began : ℕ} (history : Entries) (tables : List (List (Option ℕ))) {lists : List ℕ} {held new_held : Held}
     (client failed : ℕ) → HeldHolds began (seen device).faults history tables lists held → times_open client (clients_of history).present ≤ 1 → IsOpen history client → client < length tables
@@ -69,6 +69,7 @@ held_closed seen {new = new} {began = began} history tables {lists} {held} {new_
       lists_stand = lists_same present_is drops.lists (lists-close (clients_of history).present lists held.objects.owners client h.lists_stand one opened);
       owners = subst (λ (p : List ℕ). AreOpenOwners p new_held.sessions.items) (sym present_is)
           (owners-close client (clients_of history).present new_held.sessions.items none (drops.owners (clients_of history).present h.owners));
+      left_few = few_left drops.numbers (drops.few_left h.left_few);
       counted = fewer-counted began (history ++ e ∷ [])
           (counted-push began history e (orphan_count held + failed) (counted-left began history (orphan_count held) failed h.counted drops.failures drops.keeps.count) (omega arith) refl)
           (omega (arith, drops.orphans));
@@ -94,7 +95,7 @@ holds_closed seen {device = device} {new = new} {began = began} {history = histo
     let inside = open_inside (clients_of history).present client (length tables) h.journal.below opened in
     let one = h.journal.once client in
     record {
-      stands = stands_closed seen history tables client failed h.stands holds.each opened inside one drops unowned;
+      stands = stands_closed seen history tables client failed h.stands holds.each holds.left_few opened inside one drops unowned;
       journal = journal_closed _ client h.journal opened drops.keeps.count;
       objects = λ _. held_closed seen history tables client failed holds one opened inside drops empty unowned;
       answers = record {

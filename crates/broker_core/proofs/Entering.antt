@@ -74,9 +74,10 @@ pub entered_faulted : {D : Type 0} (seen : D → Seen) (old new : BrokerView D) 
     → checked old client bytes ≡ Ok a → reply ≡ error_reply RC_DEVICE_FAULT → count ≡ (seen new.device).faults → HasRoom old.limit old.journal bytes
     → new.journal ≡ old.journal ++ fault_entry client number count bytes reply ∷ [] → Rose (seen old.device).faults (seen new.device).faults × (last_of (seen new.device) ≡ None)
     → FailsAtLast seen old.device new.device → new.tables ≡ old.tables
-    → owned_handles new.held.sessions.items ≡ owned_handles old.held.sessions.items → KeepsOwners any_client old.held.objects.items new.held.objects.items
+    → owned_handles new.held.sessions.items ≡ owned_handles old.held.sessions.items → new.held.sessions.left ≡ old.held.sessions.left
+    → KeepsOwners any_client old.held.objects.items new.held.objects.items
     → IsEntered seen old new client number bytes reply
-entered_faulted seen old new client number count bytes reply a admitted is_reply is_count room entered failed sent tables sessions objects = record {
+entered_faulted seen old new client number count bytes reply a admitted is_reply is_count room entered failed sent tables sessions left objects = record {
   e = fault_entry client number count bytes reply;
   entered = entered;
   reply_is = refl;
@@ -90,6 +91,7 @@ entered_faulted seen old new client number count bytes reply a admitted is_reply
     sent = sent;
     tables = tables;
     sessions = sessions;
+    left = left;
     objects = objects;
   }));
 }
@@ -148,7 +150,7 @@ stays_more held {new_held = new_held} more saves are is_held stays = λ narrow.
       sessions = there.sessions;
     }
 
--- nor how much is nobody's
+-- nor how many orphans there are
 count_more : (held : Held) (more : List Item) → AreMore held.objects.items more → orphan_count (with_items held more) ≡ orphan_count held
 count_more held more are = refl
 
@@ -210,7 +212,7 @@ pub owners_more : (items more new_items : List Item) → AreMore items more → 
 owners_more items more new_items (inl same) keeps = subst (λ (i : List Item). KeepsOwners any_client i new_items) same keeps
 owners_more items more new_items (inr longer) keeps = owners_pushed items new_items (subst (λ (i : List Item). KeepsOwners any_client i new_items) longer keeps)
 
--- no more is nobody's after a call that began with a vacant item more
+-- there are no more orphans after a call that began with a vacant item more
 pub left_more : (held roomier new_held : Held) → AreMore held.objects.items roomier.objects.items → with_items held roomier.objects.items ≡ roomier
     → orphan_count new_held ≤ orphan_count roomier → orphan_count new_held ≤ orphan_count held
 left_more held roomier new_held are is_held fewer = omega (arith, fewer, ap orphan_count is_held, count_more held roomier.objects.items are)
@@ -235,6 +237,7 @@ carries_more seen client old new held new_held more table new_table a bytes repl
         nobodys = λ some. flushed.nobodys (ap (λ (slot : Option ℕ). is_some slot) (flush_more tables table held.objects.items more (flush_of a bytes) are) ∙ some);
         table_is = flushed.table_is;
         owners = flushed.owners;
+        left = flushed.left;
       },
     )
 carries_more seen client old new held new_held more table new_table a bytes reply are same (inr (inl replied)) = inr (inl (record {
@@ -264,6 +267,7 @@ carries_more seen client old new held new_held more table new_table a bytes repl
   object_is = ran.object_is;
   taken = ran.taken;
   sessions_are = ran.sessions_are;
+  left = ran.left;
   nobodys = ran.nobodys;
   used = λ calm.
       used_more held new_held more table a bytes ran.answer ran.item are (ran.used (calm_more held more are calm));

@@ -9,17 +9,17 @@ use Rattle.tab_spec.specs.declared.numbers.Numbers.{Numbers}
 use Rattle.tab_spec.specs.Admission.{client_admitted}
 use Rattle.tab_spec.specs.Count.{Rose}
 use Rattle.tab_spec.specs.Frame.{is_frame, is_size}
-use Rattle.tab_spec.specs.Numbers.{AreInRange}
+use Rattle.tab_spec.specs.Numbers.{AreInRange, left_most}
 use Rattle.tab_spec.specs.Persist.{Persist}
 use Rattle.tab_spec.specs.Reply.{error_reply}
 use Rattle.device_spec.specs.Answers.{IsRight, IsWrongAnswer}
-use Rattle.device_spec.specs.Slots as device
 use Rattle.device_spec.specs.Slots.{SlotState}
 use Rattle.device_port.specs.Device.{Seen, asked_of, last_of}
 use Rattle.device_laws.proofs.Frames.{error_is_frame}
 use Rattle.object_swap.specs.Items as objects
 use Rattle.object_swap.specs.Items.{Item, ObjectsView, has_list, is_vacant, no_item, owner_at}
 use Rattle.session_swap.specs.Items as sessions
+use Rattle.session_swap.specs.Items.{ListsThose, is_left}
 use Rattle.history_spec.specs.declared.Pick.{Pick}
 use Rattle.history_spec.specs.declared.Pick.TheVariants.{Nothing}
 use Rattle.history_spec.specs.Entry.{Entry, HasRoom, HasRoomForClient, canceled_entry, clients_of, command_entry, fault_entry, is_fault, open_entry, present_by, IsNextNumber, IsOpen}
@@ -28,7 +28,7 @@ use Rattle.world_spec.specs.World.{World, after_step, client_step, opened_world,
 use Rattle.world_laws.proofs.Clients.{is_open}
 use Rattle.world_laws.proofs.Histories.{clients_of-push, legal-push, next_count, world_of-push}
 use Rattle.client_machine.specs.declared.held.Held.{Held}
-use Rattle.broker_core.specs.Broker.{FaultsCounted, HeldHolds, Holds, JournalHolds, StandsAfter, StandsFor}
+use Rattle.broker_core.specs.Broker.{FaultsCounted, HeldHolds, Holds, HoldsLeft, JournalHolds, StandsAfter, StandsFor}
 use Rattle.client_machine.specs.Moves.{CountsOn, KeepsObjectsOf, MayMove, Moves, Stays, StaysAs, StepsAs, client_state, other_than}
 use Rattle.client_machine.specs.Settled.{IsSettled, Settled, orphan_count}
 use Rattle.broker_core.specs.Stands.{Stands, sequences_of}
@@ -41,7 +41,7 @@ use Rattle.client_machine.proofs.Keeping.{right_none}
 use Rattle.broker_core.proofs.Placing.{present_same, tables_same}
 use Rattle.client_machine.proofs.Settling.{settled_at}
 use Rattle.broker_core.proofs.Tabling.{AreNowhere, none_rests, open_inside, open_none, owners-open, tables-more, tables-open, tables-step}
-use Rattle.broker_core.proofs.WorldStands.{RoseBoth, Stepped, held_slots, numbers_stay, stands-longer, stands-more, stands-open, stands-stay, stands-step, steps-refused, with_items}
+use Rattle.broker_core.proofs.WorldStands.{RoseBoth, Stepped, held_only, held_slots, numbers_stay, stands-longer, stands-more, stands-open, stands-stay, stands-step, steps-refused, with_items}
 
 -- ---- what a device tells
 
@@ -216,6 +216,10 @@ stands_opened base state history tables held owners number is_next stands = λ b
 pub longer : (history : Entries) (e : Entry) → length (history ++ e ∷ []) ≡ length history + 1
 longer history e = length-append history (e ∷ [])
 
+-- no more are left than may be, by how much the device has room for
+pub few_left : {numbers new_numbers : Numbers} {few : ℕ} → new_numbers ≡ numbers → few ≤ left_most numbers.active → few ≤ left_most new_numbers.active
+few_left {few = few} same most = subst (λ (n : Numbers). few ≤ left_most n.active) (sym same) most
+
 held_carried : {D : Type 0} {seen : D → Seen} {device new : D} {began before after : ℕ} (history : Entries) (e : Entry) (tables : List (List (Option ℕ))) {lists : List ℕ} {held new_held : Held} {more : List Item} {client : ℕ} {new_table : List (Option ℕ)}
     → HeldHolds began before history tables lists held → AreMore held.objects.items more → present_by e.kind e.client (clients_of history).present ≡ (clients_of history).present
     → IsOpen history client → client < length tables → Moves seen client device new (with_items held more) new_held new_table
@@ -232,6 +236,7 @@ held_carried {began = began} history e tables {lists} {held} {new_held} {more} {
       listed = h.listed ∙ sym (length-set tables client new_table);
       lists_stand = lists_same present_is moves.lists h.lists_stand;
       owners = subst (λ (p : List ℕ). AreOpenOwners p new_held.sessions.items) (sym present_is) (moves.owners (clients_of history).present opened h.owners);
+      left_few = few_left moves.numbers (omega (arith, h.left_few, moves.left));
       counted = fewer-counted began (history ++ e ∷ []) counted (omega (arith, moves.orphans));
     }
 
@@ -244,6 +249,7 @@ held_refused {began = began} history e {tables} {lists} {held} h same no_fault =
   listed = h.listed;
   lists_stand = lists_same (present_same history e same) refl h.lists_stand;
   owners = subst (λ (p : List ℕ). AreOpenOwners p held.sessions.items) (sym (present_same history e same)) h.owners;
+  left_few = h.left_few;
   counted = counted-push began history e (orphan_count held) h.counted (omega arith) no_fault;
 }
 
@@ -259,25 +265,33 @@ held_opened {began = began} history {tables} {lists} {held} list owners below h 
       listed = omega (arith, h.listed, length-append tables ([] ∷ []), length-append lists (list ∷ []));
       lists_stand = lists_same present_is refl (lists-opened (clients_of history).present lists held.objects.owners owners list (length tables) (sym h.listed) below h.lists_stand gives);
       owners = subst (λ (p : List ℕ). AreOpenOwners p held.sessions.items) (sym present_is) (owners-open (clients_of history).present (length tables) held.sessions.items h.owners);
+      left_few = h.left_few;
       counted = counted-push began history e (orphan_count held) h.counted (omega arith) refl;
     }
 
 -- what the device holds where no client is open
 held_closed : {began faults : ℕ} (history : Entries) (tables : List (List (Option ℕ))) {lists : List ℕ} (held : Held) (slots : SlotState)
     → HeldHolds began faults history tables lists held → (clients_of history).present ≡ [] → IsSettled slots held → AreNowhere held.objects.items
-    → FaultsCounted began faults history (device.held slots)
-held_closed {began = began} {faults = faults} history tables held slots h none settled nowhere =
+    → ListsThose is_left held.sessions.left held.sessions.items → HoldsLeft began faults history slots held.sessions.left
+held_closed {began = began} {faults = faults} history tables held slots h none settled nowhere listed =
     let nobody = none_rests tables held.objects.items (subst (λ (p : List ℕ). TablesStand p tables held.objects.items) none h.each) nowhere in
     let owners = subst (λ (p : List ℕ). AreOpenOwners p held.sessions.items) none h.owners in
-    fewer-counted began history h.counted (held_slots slots held settled owners nobody)
+    record {
+      few = few_left settled.sessions.numbers h.left_few;
+      orphans = orphan_count held;
+      held_is = held_slots slots held settled owners nobody listed;
+      counted = h.counted;
+      only = held_only slots held settled owners nobody listed;
+    }
 
 pub held_told : (began : ℕ) (base : Option Persist) (state : Option SlotState) (faults : ℕ) (history : Entries) (tables : List (List (Option ℕ))) {lists : List ℕ} (held : Held) (wrong_code : Option ℕ)
     → is_some state ≡ is_some base → StandsFor base state history tables held → (wrong_code ≡ None → HeldHolds began faults history tables lists held) → (IsSome state → wrong_code ≡ None)
-    → AreNowhere held.objects.items → (clients_of history).present ≡ [] → IfSome state (λ slots. FaultsCounted began faults history (device.held slots))
-held_told began base None faults history tables held wrong_code same stands holds taken nowhere none = tt
-held_told began (Some b) (Some slots) faults history tables held wrong_code same stands holds taken nowhere none =
-    held_closed history tables held slots (holds (taken refl)) none (stands b slots refl refl).stands.settled nowhere
-held_told began None (Some slots) faults history tables held wrong_code same stands holds taken nowhere none = absurd cc
+    → AreNowhere held.objects.items → ListsThose is_left held.sessions.left held.sessions.items → (clients_of history).present ≡ []
+    → IfSome state (λ slots. HoldsLeft began faults history slots held.sessions.left)
+held_told began base None faults history tables held wrong_code same stands holds taken nowhere listed none = tt
+held_told began (Some b) (Some slots) faults history tables held wrong_code same stands holds taken nowhere listed none =
+    held_closed history tables held slots (holds (taken refl)) none (stands b slots refl refl).stands.settled nowhere listed
+held_told began None (Some slots) faults history tables held wrong_code same stands holds taken nowhere listed none = absurd cc
 
 -- ---- a broker
 

@@ -1,14 +1,15 @@
 -- The tables of the clients alone, and whose the sessions are: what becomes of them where a client opens, runs a command or closes, and
 -- where an item is added.
-use Rattle.std.proofs.Common.{◌≡◌, ◌<◌, ◌≤◌, inl, inr, ℕ, zero, suc, Bool, true, false, cond, List, [], ◌∷◌, ◌++◌, length, set, refl, sym, ap, subst, ◌∙◌, arith}
+use Rattle.std.proofs.Common.{◌≡◌, ◌+◌, ◌<◌, ◌≤◌, inl, inr, ℕ, zero, suc, Bool, true, false, cond, List, [], ◌∷◌, ◌++◌, length, set, refl, sym, ap, subst, ◌∙◌, arith}
 use Rattle.std.specs.Prelude.{◌==◌, ◌&&◌, not, Option, Some, None, IfSome, is_some}
 use Rattle.std.specs.List.{AllByRecursion, count_by, list_any}
 use Rattle.std.proofs.lemmas.Bool.{cases_Bool, eqb-false, eqb-true, ne_eqb, or_cases, or_from, or_left, or_parts, or_right, true≢false}
 use Rattle.std.proofs.lemmas.List.{get_or-set_other, get_or-set_same, length_push}
-use Rattle.std.proofs.lemmas.List.Sums.{sum_by-cons, sum_by_push}
+use Rattle.std.proofs.lemmas.List.Sums.{sum_by_push}
 use Rattle.object_swap.specs.Items.{HasNone, Item, Names, is_vacant, item_at, no_item, is_resident, residents}
 use Rattle.session_swap.specs.Items as sessions
 use Rattle.session_swap.specs.Items.{is_owned, is_owner, owner_by}
+use Rattle.history_laws.proofs.Counts.{count_cons, one_if}
 use Rattle.history_spec.specs.Entry.{without}
 use Rattle.world_laws.proofs.Clients.{stay}
 use Rattle.world_laws.proofs.Histories.{each-weaker}
@@ -241,23 +242,36 @@ owners-close client present (item ∷ items) none are =
     let parts = or_parts (is_owned client item) (list_any (is_owned client) items) none in
     (session_left client present item parts.0 are.0, owners-close client present items parts.1 are.1)
 
--- where no client is open, each session is nobody's
-nobodys : (owner : Option ℕ) → IfSome owner (λ client. is_open client [] ≡ true) → not (is_some owner) ≡ true
-nobodys None is = refl
-nobodys (Some client) is = absurd cc
+-- where no client is open, each session was left, or is an orphan
+nobodys : (owner : Option ℕ) (handed : Bool) → IfSome owner (λ client. is_open client [] ≡ true)
+    → one_if (not (is_some owner) && not handed) + one_if (not (is_some owner) && handed) ≡ 1
+nobodys None true is = refl
+nobodys None false is = refl
+nobodys (Some client) handed is = absurd cc
 
-nobodys_session : (item : Option sessions.Item) → IsOpenOwner [] item → is_some item ≡ sessions.is_orphan item
+nobodys_session : (item : Option sessions.Item) → IsOpenOwner [] item → one_if (sessions.is_orphan item) + one_if (sessions.is_left item) ≡ one_if (is_some item)
 nobodys_session None is = refl
-nobodys_session (Some item) is = sym (nobodys item.client is)
+nobodys_session (Some item) is = nobodys item.client (is_some item.handed) is
 
 pub nobodys_sessions : (items : List (Option sessions.Item)) → AreOpenOwners [] items
-    → count_by (λ (item : Option sessions.Item). is_some item) items ≡ count_by sessions.is_orphan items
+    → count_by (λ (item : Option sessions.Item). is_some item) items ≡ count_by sessions.is_orphan items + count_by sessions.is_left items
 nobodys_sessions [] are = refl
 nobodys_sessions (item ∷ items) are =
     omega (
       arith,
-      sum_by-cons (λ (item : Option sessions.Item). cond (is_some item) 1 0) item items,
-      sum_by-cons (λ (item : Option sessions.Item). cond (sessions.is_orphan item) 1 0) item items,
-      ap {B = ℕ} (λ (b : Bool). cond b 1 0) (nobodys_session item are.0),
+      count_cons (λ (item : Option sessions.Item). is_some item) item items,
+      count_cons sessions.is_orphan item items,
+      count_cons sessions.is_left item items,
+      nobodys_session item are.0,
       nobodys_sessions items are.1,
     )
+
+left_by : (owner : Option ℕ) (handed : Bool) → IfSome owner (λ client. is_open client [] ≡ true) → (not (is_some owner) && not handed) ≡ false
+    → true ≡ (not (is_some owner) && handed)
+left_by None true is held = refl
+left_by None false is held = absurd cc
+left_by (Some client) handed is held = absurd cc
+
+pub left_there : (item : Option sessions.Item) → IsOpenOwner [] item → sessions.is_orphan item ≡ false → is_some item ≡ sessions.is_left item
+left_there None is held = refl
+left_there (Some item) is held = left_by item.client (is_some item.handed) is held

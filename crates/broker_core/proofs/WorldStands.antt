@@ -1,37 +1,40 @@
 -- What a device tells of the objects and the sessions stands for the world, after each sort of entry.
 use Rattle.std.proofs.Common.{◌≡◌, ◌+◌, ◌*◌, ◌^◌, ◌<◌, ◌≤◌, ◌∙◌, ℕ, zero, suc, Bool, true, false, List, [], ◌∷◌, ◌++◌, length, set, refl, sym, ap, subst, arith}
-use Rattle.std.specs.Prelude.{◌==◌, not, Option, Some, None, Err, get_or, is_some, if◌then◌else◌}
+use Rattle.std.specs.Prelude.{◌==◌, Option, Some, None, Err, get_or, is_some, if◌then◌else◌}
 use Rattle.std.specs.List.{count_by, list_any}
-use Rattle.std.proofs.lemmas.Bool.{eq-eqb, eqb-false, eqb-true, ne_eqb, or_parts}
+use Rattle.std.proofs.lemmas.Bool.{eq-eqb, eqb-false, eqb-true, ne_eqb}
 use Rattle.std.proofs.lemmas.List.Sums.{sum_by_push}
 use Rattle.tab_spec.specs.declared.numbers.Numbers.{Numbers}
 use Rattle.tab_spec.specs.Admission.{client_admitted}
 use Rattle.tab_spec.specs.Object.{Object}
 use Rattle.tab_spec.specs.Reply.{error_reply}
-use Rattle.tab_spec.specs.Session.{Session}
-use Rattle.tab_spec.specs.Shape.{octet_of}
+use Rattle.tab_spec.specs.Numbers.{left_most}
 use Rattle.device_spec.specs.Slots.{SlotState, active_count, inactive, is_active}
 use Rattle.device_spec.specs.Slots as device
 use Rattle.object_swap.specs.Items.{Item, ItemStands, ObjectsStand, is_named, is_resident, item_at, item_object, naming, no_item}
 use Rattle.session_swap.specs.Items as sessions
-use Rattle.session_swap.specs.Items.{SessionsStand, is_owned, is_owner, item_session, owner_by, place_at}
-use Rattle.session_swap.proofs.Counts.{count_same}
+use Rattle.session_swap.specs.Items.{ListsThose, SessionsStand, is_left, is_owned, place_at}
+use Rattle.session_swap.proofs.Counts.{count_same, is_false, none_counted}
+use Rattle.object_swap.proofs.Counts.{list_some}
 use Rattle.history_spec.specs.declared.Pick.{Pick}
 use Rattle.history_spec.specs.declared.Pick.TheVariants.{Nothing}
-use Rattle.world_spec.specs.World.{Client, ClientState, ClientStep, Owned, World, client_step, closed_world, opened_world, plain_step, state_in, step_in, table_in, tables_of, unless_owned, with_table, without_owner, world_with_state}
+use Rattle.world_spec.specs.World.{Client, ClientState, ClientStep, Owned, World, client_step, closed_sessions, closed_world, opened_world, plain_step, state_in, step_in, table_in, tables_of, with_table, world_with_state}
 use Rattle.world_laws.proofs.Clients.{opened_table, other_table, other_without, own_table, own_without}
-use Rattle.history_laws.proofs.Counts.{count_cons, one_if}
+use Rattle.history_laws.proofs.Counts.{count_cons, count_one, one_if}
 use Rattle.world_laws.proofs.Histories.{each-push, each-weaker}
 use Rattle.history_laws.proofs.Tables.{mapped}
 use Rattle.client_laws.proofs.Steps.{step_refused}
 use Rattle.client_machine.specs.declared.held.Held.{Held}
 use Rattle.client_machine.specs.Moves.{KeepsObjectsOf, client_state, other_than}
-use Rattle.client_machine.specs.Settled.{AreBelow, IsSettled, Sequences, most_contexts, orphan_count, owned_by_client, owned_in, sessions_in}
+use Rattle.client_machine.specs.Settled.{AreBelow, IsSettled, Sequences, most_contexts, orphan_count, sessions_in}
+use Rattle.broker_core.specs.Broker.{HoldsOnly}
 use Rattle.broker_core.specs.Stands.{Stands, sequences_of}
-use Rattle.client_machine.specs.Tables.{AreOpenOwners, IsPlaceOf, IsTable, objects_in, place_object, tables_seen}
+use Rattle.client_machine.specs.Tables.{AreOpenOwners, IsOpenOwner, IsPlaceOf, IsTable, objects_in, place_object, tables_seen}
 use Rattle.broker_core.specs.Tables.{TablesStand, table_of, with_owners}
+use Rattle.client_machine.proofs.Leaving.{closed_already}
+use Rattle.client_machine.proofs.Ran.{each_at}
 use Rattle.client_machine.proofs.Seeing.{admitted_seen}
-use Rattle.broker_core.proofs.Tabling.{is_other, item_pushed, nobodys_sessions, table_other, table_own, table_pushed}
+use Rattle.broker_core.proofs.Tabling.{is_other, item_pushed, left_there, nobodys_sessions, table_other, table_own, table_pushed}
 
 -- ---- how much the device has room for
 
@@ -106,6 +109,7 @@ stands-open world slots tables held owners n number stands = record {
       opened_table world.clients number client ∙ stands.clients client
       ∙ ap (λ (table : List (Option ℕ)). objects_in slots held.objects.items table) (sym (table_pushed tables client));
   sessions = stands.sessions;
+  left = stands.left;
   handed = stands.handed;
   object_counter = later_counter slots.object_counter n stands.object_counter;
   counter = later_counter slots.counter n stands.counter;
@@ -119,6 +123,7 @@ stands-longer world slots tables held n stands = record {
   settled = stands.settled;
   clients = stands.clients;
   sessions = stands.sessions;
+  left = stands.left;
   handed = stands.handed;
   object_counter = later_counter slots.object_counter n stands.object_counter;
   counter = later_counter slots.counter n stands.counter;
@@ -139,6 +144,7 @@ state_stands world slots tables held n client stands =
       most = (stands.most ∙ ap (λ (numbers : Numbers). numbers.active) stands.settled.sessions.numbers) i;
       objects = stands.clients client i;
       sessions = stands.sessions i;
+      left = stands.left i;
       object_sequence = world.object_sequence;
       session_sequence = world.session_sequence;
     }
@@ -180,6 +186,7 @@ stands-step world slots new tables held new_held client new_table handed bytes r
         clients_stepped (client == other) world slots new tables held.objects.items new_held.objects.items client other new_table refl (stands.clients other) some inside
         (tabled.each other) keeps;
     sessions = refl;
+    left = refl;
     handed = below;
     object_counter = moved_counter slots.object_counter new.object_counter n stands.object_counter rose.objects_on;
     counter = moved_counter slots.counter new.counter n stands.counter rose.sessions_on;
@@ -210,6 +217,7 @@ stands-stay world slots new tables held new_held client n stands present tabled 
       stands.clients other
       ∙ sym (clients_stay (client == other) slots new tables held.objects.items new_held.objects.items client other refl (tabled.each other) keeps (ap (λ (s : ClientState). s.objects) own));
   sessions = stands.sessions ∙ sym (ap (λ (s : ClientState). s.sessions) own);
+  left = stands.left ∙ sym (ap (λ (s : ClientState). s.left) own);
   handed = below_still (sequences_of world) slots new stands.handed rose;
   object_counter = moved_counter slots.object_counter new.object_counter n stands.object_counter rose.objects_on;
   counter = moved_counter slots.counter new.counter n stands.counter rose.sessions_on;
@@ -230,46 +238,32 @@ clients_closed true world slots new tables items new_items client other here is 
 clients_closed false world slots new tables items new_items client other here is once inside table keeps =
     other_without world.clients client other here ∙ is ∙ other_stays slots new tables items new_items client other [] keeps here table
 
--- where no session is a client's, the sessions without those of the client are all
-unowned_by : (client : ℕ) (used : Bool) (owner : Option ℕ) (handle : ℕ) (handed : Option (List ℕ)) (found : Option Session)
-    → is_owner client (owner_by used owner) ≡ false
-    → unless_owned client (owned_by_client owner handle handed found) ≡ owned_by_client owner handle handed found
-unowned_by client used None handle handed found apart = refl
-unowned_by client used (Some other) handle handed None apart = refl
-unowned_by client used (Some other) handle handed (Some s) apart =
-    ap (λ (own : Bool). if own then None else Some (record { client = other; octet = octet_of handle; session = s; handed = handed })) apart
-
-unowned : (slots : SlotState) (client : ℕ) (item : Option sessions.Item) → is_owned client item ≡ false → unless_owned client (owned_in slots item) ≡ owned_in slots item
-unowned slots client None apart = refl
-unowned slots client (Some item) apart = unowned_by client (not (is_some item.handed)) item.client item.handle item.handed (item_session slots (Some item)) apart
-
-none_owned : (slots : SlotState) (client : ℕ) (items : List (Option sessions.Item)) → list_any (is_owned client) items ≡ false
-    → without_owner client (sessions_in slots items) ≡ sessions_in slots items
-none_owned slots client [] none = refl
-none_owned slots client (item ∷ items) none =
-    let parts = or_parts (is_owned client item) (list_any (is_owned client) items) none in
-    λ i. unowned slots client item parts.0 i ∷ none_owned slots client items parts.1 i
-
 pub stands-close : (world : World) (slots new : SlotState) (tables : List (List (Option ℕ))) (held new_held : Held) (client n : ℕ)
     → Stands world slots tables held n → count_by (λ (c : Client). c.number == client) world.clients ≤ 1 → client < length tables
     → (present : List ℕ) → TablesStand present tables held.objects.items → IsSettled new new_held → new_held.sessions.numbers ≡ held.sessions.numbers → RoseBoth slots new
     → KeepsObjectsOf (other_than client) (Some slots) (Some new) held.objects.items new_held.objects.items → new.persist ≡ slots.persist
-    → without_owner client (sessions_in new new_held.sessions.items) ≡ without_owner client (sessions_in slots held.sessions.items)
-    → list_any (is_owned client) new_held.sessions.items ≡ false
+    → closed_sessions client held.sessions.numbers.active (sessions_in new new_held.sessions.items) new_held.sessions.left
+    ≡ closed_sessions client held.sessions.numbers.active (sessions_in slots held.sessions.items) held.sessions.left
+    → length new_held.sessions.left ≤ left_most held.sessions.numbers.active → list_any (is_owned client) new_held.sessions.items ≡ false
     → Stands (closed_world world client) new (set tables client []) new_held (n + 1)
-stands-close world slots new tables held new_held client n stands once inside present tabled settled numbers rose keeps persist others none = record {
-  persist = persist ∙ stands.persist;
-  most = active_stays world slots new tables held new_held n stands settled numbers;
-  settled = settled;
-  clients = λ other.
-      clients_closed (client == other) world slots new tables held.objects.items new_held.objects.items client other refl (stands.clients other) once inside (tabled.each other) keeps;
-  sessions =
-      ap (λ (all : List (Option Owned)). without_owner client all) stands.sessions ∙ sym others
-      ∙ none_owned new client new_held.sessions.items none;
-  handed = below_still (sequences_of world) slots new stands.handed rose;
-  object_counter = moved_counter slots.object_counter new.object_counter n stands.object_counter rose.objects_on;
-  counter = moved_counter slots.counter new.counter n stands.counter rose.sessions_on;
-}
+stands-close world slots new tables held new_held client n stands once inside present tabled settled numbers rose keeps persist closes few none =
+    let active = held.sessions.numbers.active in
+    let most : world.most ≡ active = stands.most ∙ ap (λ (numbers : Numbers). numbers.active) stands.settled.sessions.numbers in
+    let closed : closed_sessions client world.most world.sessions world.left ≡ (sessions_in new new_held.sessions.items, new_held.sessions.left) =
+    (λ i. closed_sessions client (most i) (stands.sessions i) (stands.left i)) ∙ sym closes
+    ∙ closed_already client active new new_held.sessions.items new_held.sessions.left none few in
+    record {
+      persist = persist ∙ stands.persist;
+      most = active_stays world slots new tables held new_held n stands settled numbers;
+      settled = settled;
+      clients = λ other.
+          clients_closed (client == other) world slots new tables held.objects.items new_held.objects.items client other refl (stands.clients other) once inside (tabled.each other) keeps;
+      sessions = ap (λ (p : List (Option Owned) × List ℕ). p.0) closed;
+      left = ap (λ (p : List (Option Owned) × List ℕ). p.1) closed;
+      handed = below_still (sequences_of world) slots new stands.handed rose;
+      object_counter = moved_counter slots.object_counter new.object_counter n stands.object_counter rose.objects_on;
+      counter = moved_counter slots.counter new.counter n stands.counter rose.sessions_on;
+    }
 
 -- ---- one more item, and one more entry
 
@@ -310,6 +304,7 @@ stands-more world slots tables held n stands = record {
   settled = settled_pushed slots held stands.settled;
   clients = λ client. stands.clients client ∙ sym (objects_pushed slots held.objects.items (table_of tables client));
   sessions = stands.sessions;
+  left = stands.left;
   handed = stands.handed;
   object_counter = stands.object_counter;
   counter = stands.counter;
@@ -346,17 +341,23 @@ lowered_count slot (suc n ∷ left) =
       lowered_count slot left,
     )
 
--- where each slot that is taken is among these, no more are taken than these are
-taken_most : (held : List (Option Object)) (left : List ℕ)
-    → ((slot : ℕ) → one_if (is_some (get_or held slot None)) ≤ count_by (λ (n : ℕ). n == slot) left) → count_by is_some held ≤ length left
-taken_most [] left each = omega arith
-taken_most (o ∷ held) left each =
+-- none are there of which none is counted
+none_there : (left : List ℕ) → ((slot : ℕ) → count_by (λ (n : ℕ). n == slot) left ≡ 0) → length left ≡ 0
+none_there [] none = refl
+none_there (n ∷ left) none =
+    absurd (omega (arith, none n, count_cons (λ (m : ℕ). m == n) n left, ap one_if (eq-eqb n n refl)))
+
+-- where just these slots are taken, each once, as many are
+taken_exact : (held : List (Option Object)) (left : List ℕ)
+    → ((slot : ℕ) → count_by (λ (n : ℕ). n == slot) left ≡ one_if (is_some (get_or held slot None))) → count_by is_some held ≡ length left
+taken_exact [] left each = sym (none_there left each)
+taken_exact (o ∷ held) left each =
     omega (
       arith,
       count_cons (λ (slot : Option Object). is_some slot) o held,
       each 0,
       lowered_length left,
-      taken_most held (lowered left) (λ slot. omega (arith, each (suc slot), lowered_count slot left)),
+      taken_exact held (lowered left) (λ slot. omega (arith, each (suc slot), lowered_count slot left)),
     )
 
 names_none : (named : Option ℕ) (slot : ℕ) → is_some named ≡ false → one_if (is_named named slot) ≡ 0
@@ -373,10 +374,10 @@ naming_none (item ∷ items) slot none =
       naming_none items slot (λ index. none (suc index)),
     )
 
--- where no item is in a slot, each slot that is taken is that of an object of nobody
+-- where no item is in a slot, each slot that is taken is that of an orphan
 slots_left : (slots : SlotState) (items : List Item) (left : List ℕ) → ObjectsStand slots items left → ((index : ℕ) → is_resident (item_at items index) ≡ false)
-    → count_by is_some slots.slots ≤ length left
-slots_left slots items left stand none = taken_most slots.slots left (λ slot. omega (arith, stand.owned slot, naming_none items slot none))
+    → count_by is_some slots.slots ≡ length left
+slots_left slots items left stand none = taken_exact slots.slots left (λ slot. omega (arith, stand.owned slot, naming_none items slot none))
 
 flags_same : (a b : Bool) → sessions.flag a ≡ sessions.flag b → a ≡ b
 flags_same true true is = refl
@@ -390,16 +391,42 @@ sessions_held slots view stand =
     count_same (λ (item : Option sessions.Item). is_some item) is_active view.items slots.sessions None inactive (stand.count ∙ sym stand.sound.numbers)
     (λ number inside. flags_same (is_some (sessions.item_at view.items number)) (is_active (place_at slots number)) (omega (arith, stand.owned number)))
 
--- where no client is open, it holds what is nobody's
+-- where no client is open, it holds the sessions that were left, and orphans
 pub held_slots : (slots : SlotState) (held : Held) → IsSettled slots held → AreOpenOwners [] held.sessions.items
-    → ((index : ℕ) → is_resident (item_at held.objects.items index) ≡ false) → device.held slots ≤ orphan_count held
-held_slots slots held settled owners none =
+    → ((index : ℕ) → is_resident (item_at held.objects.items index) ≡ false) → ListsThose is_left held.sessions.left held.sessions.items
+    → device.held slots ≡ length held.sessions.left + orphan_count held
+held_slots slots held settled owners none listed =
     omega (
       arith,
       slots_left slots held.objects.items held.objects.left settled.objects none,
       sessions_held slots held.sessions settled.sessions,
       nobodys_sessions held.sessions.items owners,
+      listed.count,
     )
+
+any_is : {X : Type 0} (p : X → Bool) (xs : List X) (b : Bool) → count_by p xs ≡ sessions.flag b → list_any p xs ≡ b
+any_is p xs true is = list_some p xs (omega (arith, is))
+any_is p xs false is = none_counted p xs is
+
+no_orphan : (items : List (Option sessions.Item)) (number : ℕ) → count_by sessions.is_orphan items ≡ 0 → sessions.is_orphan (sessions.item_at items number) ≡ false
+no_orphan items number none = is_false (sessions.is_orphan (sessions.item_at items number)) (omega (arith, none, count_one sessions.is_orphan items number None refl))
+
+-- and where there are no orphans, just those sessions
+pub held_only : (slots : SlotState) (held : Held) → IsSettled slots held → AreOpenOwners [] held.sessions.items
+    → ((index : ℕ) → is_resident (item_at held.objects.items index) ≡ false) → ListsThose is_left held.sessions.left held.sessions.items
+    → orphan_count held ≡ 0 → HoldsOnly slots held.sessions.left
+held_only slots held settled owners none listed no_orphans =
+    let items = held.sessions.items in
+    record {
+      empty = omega (arith, slots_left slots held.objects.items held.objects.left settled.objects none, no_orphans);
+      just = λ number.
+          let item = sessions.item_at items number in
+          let there : is_some item ≡ is_left item =
+          left_there item (each_at (λ (item : Option sessions.Item). IsOpenOwner [] item) items number owners tt)
+          (no_orphan items number (omega (arith, no_orphans))) in
+          sym (flags_same (is_some item) (is_active (place_at slots number)) (omega (arith, settled.sessions.owned number))) ∙ there
+          ∙ sym (any_is (λ (one : ℕ). one == number) held.sessions.left (is_left item) (listed.each number));
+    }
 
 -- ---- a command that the broker refuses by itself
 
@@ -439,6 +466,7 @@ steps-refused world slots tables held client bytes code n stands present tabled 
     settled = stands.settled;
     clients = λ other. ap (λ (clients : List Client). table_in clients other) (same_clients world.clients client) ∙ stands.clients other;
     sessions = stands.sessions;
+    left = stands.left;
     handed = stands.handed;
     object_counter = later_counter slots.object_counter n stands.object_counter;
     counter = later_counter slots.counter n stands.counter;

@@ -1,17 +1,18 @@
 -- What is seen of a broker, and what holds of each one.
-use Rattle.std.specs.Prelude.{◌≡◌, ◌<◌, ◌≤◌, ◌⊎◌, ℕ, ◌+◌, ◌^◌, ◌==◌, true, List, [], ◌∷◌, ◌++◌, length, set, Option, Some, None, IsSome, IfSome, Result, Ok, Err}
-use Rattle.std.specs.List.{AllByRecursion, count_by}
+use Rattle.std.specs.Prelude.{◌≡◌, ◌<◌, ◌≤◌, ◌⊎◌, ℕ, ◌+◌, ◌^◌, ◌==◌, true, List, [], ◌∷◌, ◌++◌, get_or, length, set, Option, Some, None, is_some, IsSome, IfSome, Result, Ok, Err}
+use Rattle.std.specs.List.{AllByRecursion, count_by, list_any}
 use Rattle.tab_spec.specs.declared.TheConstants.{MOST_BYTES, RC_CANCELED, RC_DEVICE_ANSWER, RC_DEVICE_FAULT, RC_JOURNAL_FULL}
 use Rattle.tab_spec.specs.declared.Admitted.{Admitted}
 use Rattle.tab_spec.specs.Count.{Rose, largest_count}
 use Rattle.tab_spec.specs.Admission.{Tables, client_admitted}
 use Rattle.tab_spec.specs.Frame.{is_frame}
 use Rattle.tab_spec.specs.declared.numbers.Numbers.{Numbers}
-use Rattle.tab_spec.specs.Numbers.{AreInRange}
+use Rattle.tab_spec.specs.Numbers.{AreInRange, left_most}
 use Rattle.tab_spec.specs.Persist.{Persist}
 use Rattle.tab_spec.specs.Reply.{error_reply}
 use Rattle.device_spec.specs.Answers.{IsRight, IsWrongAnswer}
-use Rattle.device_spec.specs.Slots.{SlotState}
+use Rattle.device_spec.specs.Slots as device
+use Rattle.device_spec.specs.Slots.{SlotState, inactive, is_active}
 use Rattle.device_port.specs.Device.{Seen, asked_of, last_of}
 use Rattle.device_start.specs.Start.{ClearedIf, IsStartable, IsStarted, StopsAtNumber, StopsUnanswered}
 use Rattle.session_swap.specs.Items.{gap_kept, renewal_gap}
@@ -80,7 +81,7 @@ abbrev pub StandsFor : Option Persist → Option SlotState → List Entry → Li
 StandsFor base state history tables held =
     (b : Persist) (slots : SlotState) → base ≡ Some b → state ≡ Some slots → StandsAfter b slots history tables held
 
--- these entries and these objects that are left are together not more than the count rose, unless it stands at its type's end
+-- these entries and these orphans are together not more than the count rose, unless it stands at its type's end
 abbrev pub FaultsCounted : ℕ → ℕ → List Entry → ℕ → Type 0
 FaultsCounted old new history left = (faults_in history + left + old ≤ new) ⊎ (largest_count ≤ new)
 
@@ -120,8 +121,10 @@ pub record HeldHolds (began faults : ℕ) (history : List Entry) (tables : List 
   pub short : length held.objects.items ≤ length history
   pub listed : length lists ≡ length tables
   pub lists_stand : ListsStand (clients_of history).present lists held.objects.owners
-  -- a session is that of an open client, or nobody's
+  -- a session is that of an open client, or it was left, or it is an orphan
   pub owners : AreOpenOwners (clients_of history).present held.sessions.items
+  -- no more are left than may be
+  pub left_few : length held.sessions.left ≤ left_most held.sessions.numbers.active
   pub counted : FaultsCounted began faults history (orphan_count held)
 
 -- what holds of the last answer
@@ -145,6 +148,22 @@ pub record Holds (began : ℕ) (seen : Seen) (history : List Entry) (limit : ℕ
   -- a command that met a wrong answer may have made an item, and has no entry
   pub few : length held.objects.items ≤ length history + 1
   pub placed : length held.objects.items ≤ PLACES_MOST
+
+-- ---- what is held in the end
+
+-- no slot is taken, and the active session numbers are just these
+pub record HoldsOnly (slots : SlotState) (left : List ℕ) : Type 0 where
+  pub empty : count_by is_some slots.slots ≡ 0
+  pub just : (number : ℕ) → is_active (get_or slots.sessions number inactive) ≡ list_any (λ one. one == number) left
+
+-- what the device holds where no client is open: the sessions that were left, no more than may be, and orphans, no more than
+-- transmissions failed; where there are none, just what was left
+pub record HoldsLeft (began faults : ℕ) (history : List Entry) (slots : SlotState) (left : List ℕ) : Type 0 where
+  pub few : length left ≤ left_most slots.numbers.active
+  pub orphans : ℕ
+  pub held_is : device.held slots ≡ length left + orphans
+  pub counted : FaultsCounted began faults history orphans
+  pub only : orphans ≡ 0 → HoldsOnly slots left
 
 -- ---- what becomes of a command
 
@@ -187,8 +206,9 @@ pub record IsFaulted {D : Type 0} (seen : D → Seen) (old new : BrokerView D) (
   pub failed : last_of (seen new.device) ≡ None
   pub sent : FailsAtLast seen old.device new.device
   pub tables : new.tables ≡ old.tables
-  -- each client has the sessions and the objects that it had
+  -- each client has the sessions and the objects that it had, and the same sessions are left
   pub sessions : owned_handles new.held.sessions.items ≡ owned_handles old.held.sessions.items
+  pub left : new.held.sessions.left ≡ old.held.sessions.left
   pub objects : KeepsOwners any_client old.held.objects.items new.held.objects.items
 
 -- The command was carried out, and the entry has the client's own reply.
@@ -248,12 +268,12 @@ TellsCanceled tolds.Memory old new client number upto bytes reply = ⊥
 TellsCanceled (tolds.JournalFull count limit) old new client number upto bytes reply = IsFull old new bytes reply count limit
 TellsCanceled tolds.Answer old new client number upto bytes reply = (new ≡ old) × (reply ≡ error_reply RC_DEVICE_ANSWER)
 
--- what was left in slots before stays there, with at most so many more as there are orphans more
+-- orphans that were in slots before stay there, with at most so many more as there are orphans more
 abbrev pub HasLeft : (held new_held : Held) → Type 0
 HasLeft held new_held =
     (more : List ℕ) × (new_held.objects.left ≡ held.objects.left ++ more) × (orphan_count held + length more ≤ orphan_count new_held)
 
--- what a close tells of what is nobody's: nothing more is, or more, and how much
+-- what a close tells of orphans: that there are no more, or that there are more, and how many
 abbrev pub TellsLeft : Closed → (held new_held : Held) → Type 0
 TellsLeft closes.Clean held new_held = (orphan_count new_held ≡ orphan_count held) × (new_held.objects.left ≡ held.objects.left)
 TellsLeft (closes.Orphans count) held new_held =

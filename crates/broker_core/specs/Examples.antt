@@ -25,11 +25,11 @@ first_table = Some 1 ∷ None ∷ Some 0 ∷ []
 abbrev pub second_table : List (Option ℕ)
 second_table = Some 2 ∷ []
 
--- a loaded session of nobody, under the number 1
+-- an orphan, which is loaded, under the number 1
 abbrev pub nobodys_session : sessions.Item
 nobodys_session = record { client = None; handle = 0x02000001; saved = None; handed = None }
 
--- the number 0 is that of a loaded session of the client 0, and the number 1 that of one of nobody
+-- the number 0 is that of a loaded session of the client 0, and the number 1 that of an orphan
 abbrev pub two_sessions : List (Option sessions.Item)
 two_sessions = Some (record { client = Some 0; handle = 0x03000000; saved = None; handed = None })
     ∷ Some nobodys_session ∷ []
@@ -38,10 +38,10 @@ two_sessions = Some (record { client = Some 0; handle = 0x03000000; saved = None
 abbrev pub held_with : List Item → List (Option sessions.Item) → Held
 held_with items first = record {
   objects = record { items = items; slots = 3; order = []; owners = []; left = [] };
-  sessions = record { numbers = profile_numbers; items = first ++ replicate (64 - length first) None; next = 0; order = []; saved = [] };
+  sessions = record { numbers = profile_numbers; items = first ++ replicate (64 - length first) None; next = 0; order = []; saved = []; left = [] };
 }
 
--- the same with an object of nobody in the slot 2
+-- the same with an orphan in the slot 2
 abbrev pub held_beside : List Item → List (Option sessions.Item) → Held
 held_beside items first =
     let held = held_with items first in
@@ -63,6 +63,10 @@ handed_session =
 abbrev pub handed_sessions : List (Option sessions.Item)
 handed_sessions = Some handed_session ∷ Some nobodys_session
     ∷ Some (record { client = Some 0; handle = 0x03000002; saved = None; handed = None }) ∷ []
+
+-- it closed, and left the one that it had saved
+abbrev pub left_sessions : List (Option sessions.Item)
+left_sessions = Some (record handed_session { client = None }) ∷ Some nobodys_session ∷ []
 
 -- the parameters of GetCapability
 abbrev pub asked : ℕ → ℕ → ℕ → List ℕ

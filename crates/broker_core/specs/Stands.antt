@@ -22,6 +22,8 @@ pub record Stands (world : World) (slots : SlotState) (tables : List (List (Opti
   pub clients : (client : ℕ) → table_in world.clients client ≡ objects_in slots held.objects.items (table_of tables client)
   -- and each session number is in the world what it is here
   pub sessions : world.sessions ≡ sessions_in slots held.sessions.items
+  -- those that clients left are the same, in the same order
+  pub left : world.left ≡ held.sessions.left
   -- the next context that the device makes may be handed out
   pub handed : AreBelow (sequences_of world) slots
   -- the numbers of contexts don't come to their end

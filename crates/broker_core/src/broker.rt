@@ -11,7 +11,6 @@ ghost use Rattle.device_start.specs.Start.{ClearedIf, HoldsNoMoreIf, IsStarted};
 ghost use Rattle.session_swap.specs.Items.{no_items};
 ghost use Rattle.client_machine.specs.Dropping.{AreLeftByFaults, KeepsOthers, SendsFlushes};
 ghost use Rattle.client_machine.specs.Settled.{orphan_count};
-ghost use Rattle.device_spec.specs.Slots.{held};
 ghost use Rattle.history_spec.specs.declared.TheConstants.{ENTRY_BYTES, SILENT_LIMIT};
 ghost use Rattle.history_spec.specs.Entry.{open_entry, close_entry, canceled_entry, command_entry};
 ghost use Rattle.history_spec.specs.Entry.{fault_entry, clients_of, HasRoom, HasRoomForClient};
@@ -23,8 +22,8 @@ ghost use Rattle.broker_lock.specs.declared.calls.OpenClientError.TheVariants as
 ghost use Rattle.broker_lock.specs.declared.calls.Told.TheVariants as tolds;
 ghost use Rattle.broker_lock.specs.declared.calls.Closed.TheVariants as closes;
 ghost use Rattle.broker_core.specs.Broker.{AnswersHold, AreWhole, Costs, FaultsCounted};
-ghost use Rattle.broker_core.specs.Broker.{HasCause, IsAtBase, IsReadyFor, StandsFor, Tells};
-ghost use Rattle.broker_core.specs.Broker.{TellsCanceled, TellsLeft, TellsNoRoom};
+ghost use Rattle.broker_core.specs.Broker.{HasCause, HoldsLeft, IsAtBase, IsReadyFor, StandsFor};
+ghost use Rattle.broker_core.specs.Broker.{Tells, TellsCanceled, TellsLeft, TellsNoRoom};
 ghost use Rattle.broker_core.specs.Tables.{AddsList, with_owners};
 ghost use Rattle.client_machine.specs.Costs.{SendsUpTo, close_bound, own_objects};
 ghost use Rattle.client_machine.specs.Moves as moves;
@@ -489,8 +488,11 @@ impl<D: Device> Broker<D> {
         Told::Entered
     }
 
-    /// Closes a client: flushes its sessions and what of its objects is in the device, and forgets
-    /// the others. What can't be flushed is nobody's then, and the next command that needs the
+    /// Closes a client: flushes its sessions in use and what of its objects is in the device, and
+    /// forgets its other objects. The sessions that it saved are left, by rising number: whoever
+    /// gives back the context that was handed out for one gets it. While more are left than the
+    /// lesser of 8 and a quarter of the sessions that may be active, the one that was left longest
+    /// is flushed. What can't be flushed is an orphan then, and the next command that needs the
     /// device flushes it first. Objects of other clients aren't looked at. It takes no memory.
     pub fn close_client(&mut self, client: u32) -> Closed
         requires { IsOpen self.old.journal client }
@@ -503,7 +505,7 @@ impl<D: Device> Broker<D> {
           tables = set self.old.tables client [];
         } }
         ensures left { TellsLeft result self.old.held self.new.held }
-        // No more objects and sessions are left than transmissions failed.
+        // No more orphans are added than transmissions failed.
         ensures more { AreLeftByFaults (orphan_count self.old.held) (D.seen self.old.device).faults
             (orphan_count self.new.held) (D.seen self.new.device).faults }
         // The sessions of other clients stay where they are.
@@ -533,7 +535,7 @@ impl<D: Device> Broker<D> {
           tables = set self.old.tables client [];
         } }
         ensures left { TellsLeft result self.old.held self.new.held }
-        // No more objects and sessions are left than transmissions failed.
+        // No more orphans are added than transmissions failed.
         ensures more { AreLeftByFaults (orphan_count self.old.held) (D.seen self.old.device).faults
             (orphan_count self.new.held) (D.seen self.new.device).faults }
         // The sessions of other clients stay where they are.
@@ -553,8 +555,8 @@ impl<D: Device> Broker<D> {
         self.close_by(client, steps)
     }
 
-    /// How many objects and sessions of nobody are in the device: closed clients left them, since
-    /// their flush failed.
+    /// How many orphans are in the device: objects and sessions of closed clients whose flush
+    /// failed.
     pub fn orphans(&self) -> u32
         ensures { result ≡ orphan_count self.now.held }
     {
@@ -585,14 +587,18 @@ impl<D: Device> Broker<D> {
         ensures stands { StandsFor (D.seen self.device).base (D.seen self.device).state self.journal
             self.tables self.held }
         ensures faulted { FaultsCounted self.began (D.seen self.device).faults self.journal 0 }
-        // Where no client is open, the device holds no more than its failures left.
+        // Where no client is open, the device holds the sessions that were left, and orphans, no
+        // more than its failures.
         ensures held { (clients_of self.journal).present ≡ []
             → IfSome (D.seen self.device).state (λ slots.
-            FaultsCounted self.began (D.seen self.device).faults self.journal (held slots)) }
+            HoldsLeft self.began (D.seen self.device).faults self.journal slots
+            self.held.sessions.left) }
         ensures whole { AreWhole self.journal }
         ensures last_answer { AnswersHold (D.seen self.device) self.wrong_code }
     {
         self.machine.held.objects.show_vacant();
+        // So which sessions are left is known here.
+        let _ = self.machine.held.sessions.left();
         let Broker {
             machine,
             journal,
@@ -624,7 +630,7 @@ impl<D: Device> Broker<D> {
           tables = set self.old.tables client [];
         } }
         ensures left { TellsLeft result self.old.held self.new.held }
-        // No more objects and sessions are left than transmissions failed.
+        // No more orphans are added than transmissions failed.
         ensures more { AreLeftByFaults (orphan_count self.old.held) (D.seen self.old.device).faults
             (orphan_count self.new.held) (D.seen self.new.device).faults }
         // The sessions of other clients stay where they are.

@@ -55,25 +55,30 @@ fn load_of(alloc: Global, saved: &[u8]) -> Result<Vec<u8>, AllocError> {
     Ok(command)
 }
 
-// Starts an HMAC session of the first client, and four policy sessions; whether all are there.
-fn starts_five(pair: &mut Pair) -> bool {
-    let mut all = pair.answers(0, &START_HMAC, &STARTED_HMAC);
+// Starts four policy sessions of a client beside the HMAC session; whether all are there.
+fn starts_four(pair: &mut Pair, client: u32) -> bool {
+    let mut all = true;
     for number in 1..5u8 {
         let begin = [
             0x80, 0x01, 0, 0, 0, 0x20, 0, 0, 0, 0, 0x03, 0, 0, number, 0, 0x10,
         ];
-        all = pair.answers(0, &START_SESSION, &begin) && all;
+        all = pair.answers(client, &START_SESSION, &begin) && all;
     }
     all
 }
 
 // Asks the four policy sessions for their digests in turn, so many times; whether all are told.
-fn asks(pair: &mut Pair, times: u16) -> bool {
+fn asks(pair: &mut Pair, client: u32, times: u16) -> bool {
     let mut all = true;
     for number in 0..times {
-        all = pair.answers(0, &get_digest(1 + (number & 3) as u8), &DIGEST) && all;
+        all = pair.answers(client, &get_digest(1 + (number & 3) as u8), &DIGEST) && all;
     }
     all
+}
+
+// Whether the first client starts the HMAC session.
+fn starts_session(pair: &mut Pair) -> bool {
+    pair.answers(0, &START_HMAC, &STARTED_HMAC)
 }
 
 // Whether the HMAC session is saved: a context of 128 bytes.
@@ -108,11 +113,11 @@ fn is_flushed(pair: &mut Pair, load: &[u8]) -> bool {
 // Whether the session is saved and loaded, saved again and flushed so. While it is saved first, so
 // many digests are asked for.
 fn loads_once(alloc: Global, pair: &mut Pair, digests: u16) -> Result<bool, AllocError> {
-    if !starts_five(pair) || !saves_session(pair) {
+    if !starts_session(pair) || !starts_four(pair, 0) || !saves_session(pair) {
         return Ok(false);
     }
     let load = load_of(alloc, pair.reply())?;
-    if !is_away(pair, &load) || !asks(pair, digests) || !is_away(pair, &load) {
+    if !is_away(pair, &load) || !asks(pair, 0, digests) || !is_away(pair, &load) {
         return Ok(false);
     }
     if !is_back(pair, &load) || !saves_session(pair) {
@@ -140,5 +145,47 @@ fn a_saved_session_is_loaded_once(rt: HostRuntime) -> Result<(), Fail> {
     for (numbers, digests) in [(profile, 0), (profile, 300), (WIDE_GAP, 1200)] {
         assert!(rt; is_loaded_once(rt.alloc(), numbers, digests)?);
     }
+    Ok(())
+}
+
+// Whether the first client starts the HMAC session, saves it, and closes.
+fn leaves_session(pair: &mut Pair) -> bool {
+    starts_session(pair) && saves_session(pair) && pair.closes()
+}
+
+// Whether the second client takes the left session up, and uses it. A third one is refused.
+fn is_taken_up(pair: &mut Pair, load: &[u8]) -> bool {
+    pair.answers(1, load, &LOADED)
+        && pair.tells(2, load, NOT_THERE)
+        && pair.answers(1, &EXTEND_BY_HMAC, &EXTENDED_BY_HMAC)
+}
+
+// Whether the session is left and taken up so. While it is left, the second client asks its own
+// four for so many digests.
+fn takes_up(alloc: Global, pair: &mut Pair, digests: u16) -> Result<bool, AllocError> {
+    if !leaves_session(pair) {
+        return Ok(false);
+    }
+    let load = load_of(alloc, pair.reply())?;
+    Ok(starts_four(pair, 1) && asks(pair, 1, digests) && is_taken_up(pair, &load))
+}
+
+// The same over a new pair: how many commands the device is sent, if all is so.
+fn sent_until_taken_up(alloc: Global, digests: u16) -> Result<Option<u64>, Fail> {
+    let mut pair = Pair::begin(alloc, Numbers::of_the_profile(), 3)?;
+    let taken = takes_up(alloc, &mut pair, digests);
+    let sent = pair.finish();
+    Ok(if taken? { Some(sent) } else { None })
+}
+
+// The device is sent eight commands at the start, the session's start and its save, five for four
+// more starts, and three for the session's use, but none when it is left or given back. Each digest
+// costs three, as above, and takes one context number. The left session is saved under the number
+// 0, and renewed before the digests 246, 493, 740 and 987, for two commands each: then the next
+// number is 247 above that of its context.
+#[test]
+fn a_left_session_is_taken_up(rt: HostRuntime) -> Result<(), Fail> {
+    assert_eq!(rt; sent_until_taken_up(rt.alloc(), 0)?, Some(18));
+    assert_eq!(rt; sent_until_taken_up(rt.alloc(), 1000)?, Some(3026));
     Ok(())
 }

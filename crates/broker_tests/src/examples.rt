@@ -8,16 +8,18 @@ ghost use Rattle.history_spec.specs.Examples.{two_clients, zero_persist};
 ghost use Rattle.world_spec.specs.Examples.{a_key, begun_policy, first_context};
 ghost use Rattle.world_spec.specs.World.{load_parameters, world_of};
 ghost use Rattle.broker_core.specs.Examples.{asked, first_table, handed_session, handed_sessions};
-ghost use Rattle.broker_core.specs.Examples.{held_beside, held_with, nobodys_session};
+ghost use Rattle.broker_core.specs.Examples.{held_beside, held_with, left_sessions};
+ghost use Rattle.broker_core.specs.Examples.{nobodys_session};
 ghost use Rattle.broker_core.specs.Examples.{one_session_world, second_table, three_items};
 ghost use Rattle.broker_core.specs.Examples.{two_session_device, two_sessions};
 ghost use Rattle.client_machine.specs.Listing.{sessions_had};
 ghost use Rattle.client_machine.specs.Moves.{told_sequence};
 ghost use Rattle.client_machine.specs.Replies.{given_back, own_capability, with_given};
+ghost use Rattle.client_machine.specs.Replies.{without_given};
 ghost use Rattle.client_machine.specs.Settled.{AreBelow, IsSettled, orphan_count, sessions_in};
 ghost use Rattle.broker_core.specs.Stands.{Stands};
 ghost use Rattle.client_machine.specs.Tables.{AreOpenOwners, IsTable, device_handle, flush_sent};
-ghost use Rattle.client_machine.specs.Tables.{flushed_sessions, flushed_table};
+ghost use Rattle.client_machine.specs.Tables.{flushed_sessions, flushed_table, owned_handles};
 ghost use Rattle.client_machine.specs.Tables.{tables_had, tables_seen};
 ghost use Rattle.broker_core.specs.Tables.{ListsStand};
 
@@ -36,7 +38,7 @@ fn a_device_stands_for_a_world()
     ensures nobodys_session { IsSettled two_session_device (held_with [] []) → ⊥ }
 {}
 
-// A client's session stands for the world's, and one of nobody for none.
+// A client's session stands for the world's, and an orphan for none.
 fn sessions_stand_for_those_of_the_world()
     ensures seen { sessions_in two_session_device two_sessions ≡ Some (begun_policy 0) ∷ None ∷ [] }
     ensures stand { Stands one_session_world
@@ -77,14 +79,38 @@ fn contexts_are_given_back()
     ensures changed { given_back 0 handed_sessions (set first_context 7 1)
         (load_parameters (set first_context 7 1))
         ≡ Err 0x1cb }
-    ensures again { given_back 0 (with_given handed_sessions (Ok 0x02000000)) first_context
+    ensures again { given_back 0 (with_given 0 handed_sessions (Ok 0x02000000)) first_context
         (load_parameters first_context) ≡ Err 0x1cb }
     ensures other_handle { given_back 0 handed_sessions (set first_context 8 4)
         (load_parameters (set first_context 8 4))
         ≡ Err 0x1c4 }
     ensures short { given_back 0 handed_sessions [] (load_parameters []) ≡ Err 0x1da }
-    ensures left { with_given handed_sessions (Ok 0x02000000) ≡ set handed_sessions 0
+    ensures left { with_given 0 handed_sessions (Ok 0x02000000) ≡ set handed_sessions 0
         (Some (record handed_session { handed = None })) }
+{}
+
+// A session that its client left is nobody's, and no orphan: it counts as active. Whoever gives back
+// its context gets it, and has it in use.
+#[tactic(auto, unfolding(client_machine::specs::Listing::sessions_had, effect_spec::specs::Capabilities::from_number, effect_spec::specs::Capabilities::property_items))]
+fn left_sessions_are_taken_up()
+    ensures held { owned_handles left_sessions
+        ≡ Some (None, 0x02000000, Some first_context) ∷ None ∷ [] }
+    ensures orphans { orphan_count (held_with [] left_sessions) ≡ 1 }
+    ensures active { own_capability (zero_persist 0) 0 first_table
+        (held_with [] left_sessions).sessions (asked 6 0x206 1)
+        ≡ Ok (bytes_of 17 0x010000000600000001000002060000003f) }
+    ensures listed { sessions_had 0 left_sessions ≡ [] }
+    ensures own { (tables_had 0 first_table left_sessions).has_session 0x02000000 ≡ false }
+    ensures given { given_back 1 left_sessions first_context (load_parameters first_context)
+        ≡ Ok 0x02000000 }
+    ensures changed { given_back 1 left_sessions (set first_context 7 1)
+        (load_parameters (set first_context 7 1))
+        ≡ Err 0x1cb }
+    ensures taken { with_given 1 left_sessions (Ok 0x02000000) ≡ set left_sessions 0
+        (Some (record handed_session { client = Some 1; handed = None })) }
+    ensures listed_no_more { without_given (2 ∷ 0 ∷ []) (Ok 0x02000000) ≡ 2 ∷ [] }
+    ensures third { given_back 2 (with_given 1 left_sessions (Ok 0x02000000)) first_context
+        (load_parameters first_context) ≡ Err 0x1cb }
 {}
 
 // The lists of GetCapability, with the bytes of Part 2, "TPML_HANDLE" and

@@ -71,13 +71,16 @@ impl Desk {
         self.sessions.owner_of(FIRST) == Some((7, in_use))
     }
 
-    // Saves the first one for its client.
+    // Saves the first one for its client; false where nobody has it.
     fn save(&mut self) -> bool
         requires { is_loaded_item (item_of self.old.sessions.items FIRST) ≡ true }
         ensures named { Names self.new.sessions.items FIRST }
         ensures other { item_of self.new.sessions.items SECOND
             ≡ item_of self.old.sessions.items SECOND }
     {
+        if self.sessions.owner_of(FIRST).is_none() {
+            return false;
+        }
         self.sessions
             .client_save(&mut self.device, FIRST, &mut self.reply)
             .is_ok()
@@ -90,6 +93,9 @@ impl Desk {
         ensures other { item_of self.new.sessions.items FIRST
             ≡ item_of self.old.sessions.items FIRST }
     {
+        if self.sessions.owner_of(SECOND).is_none() {
+            return false;
+        }
         self.sessions
             .client_save(&mut self.device, SECOND, &mut self.reply)
             .is_ok()

@@ -1,6 +1,7 @@
 //! A broker over the device in memory, beside the machine that its clients see.
 use crate::clients::{AMPLE, coded, new_world, open, run_both};
 use crate::driver::Clients;
+use broker_core::Closed;
 use device_port::Device;
 use plain_machine::World;
 use std::alloc::Global;
@@ -59,6 +60,15 @@ impl Pair {
         let succeeds = self.agrees(0, command)
             && self.reply().get(6..10) == Some([0; 4].as_slice());
         succeeds && self.clients.sent().checked_sub(before) == Some(count)
+    }
+
+    // Closes the first client; whether nothing of it is an orphan.
+    pub(crate) fn closes(&mut self) -> bool {
+        if !self.world.is_open(0) {
+            return false;
+        }
+        self.world.close_client(0);
+        self.clients.close() == Some(Closed::Clean)
     }
 
     // What the last command was told.

@@ -136,8 +136,39 @@ const ASKED_AGAIN: Acts = &[
     (Act::Ask(2), 23),
 ];
 
-// The same where the journal may keep 8,192 bytes. Behind the third one there is no room for a
-// command, so the object isn't read. The close has room, and flushes the session and the object.
+// The session that is saved is left: the close flushes the other one alone.
+const LEFT: Acts = &[
+    (Act::Start, 9),
+    (Act::Start, 10),
+    (Act::Save(0), 11),
+    (Act::Close, 12),
+];
+
+// Nine saved sessions, of which eight are left: the close flushes one.
+const NINE_SAVED: Acts = &[
+    (Act::Start, 9),
+    (Act::Save(0), 10),
+    (Act::Start, 11),
+    (Act::Save(1), 12),
+    (Act::Start, 13),
+    (Act::Save(2), 14),
+    (Act::Start, 15),
+    (Act::Save(3), 16),
+    (Act::Start, 17),
+    (Act::Save(4), 18),
+    (Act::Start, 19),
+    (Act::Save(5), 20),
+    (Act::Start, 21),
+    (Act::Save(6), 22),
+    (Act::Start, 23),
+    (Act::Save(7), 24),
+    (Act::Start, 25),
+    (Act::Save(8), 26),
+    (Act::Close, 27),
+];
+
+// Over a journal that may keep 8,192 bytes. Behind the third one there is no room for a command, so
+// the object isn't read. The close has room, and flushes the session and the object.
 const FULL: Acts = &[
     (Act::Make(0), 9),
     (Act::Start, 10),
@@ -203,6 +234,8 @@ fn no_more_is_sent_than_has_to_be(rt: HostRuntime) -> Result<(), Fail> {
         READ_AGAIN,
         FOUR_SESSIONS,
         ASKED_AGAIN,
+        LEFT,
+        NINE_SAVED,
     ];
     for acts in lists {
         assert!(rt; are_sent(rt.alloc(), JOURNAL_MOST, acts)?);

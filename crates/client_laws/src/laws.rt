@@ -80,9 +80,9 @@ pub fn clients_steps_go_by_their_code()
 /// A client's command that is admitted over the client's objects and sessions, and that is none of
 /// those that a resource manager carries out by itself, does the same on a device that is ready
 /// for it, with the handle of a slot in place of the client's: it is refused where as many sessions
-/// are active as may be, or it does its effect over them. A broker takes the response if its
-/// clients have fewer sessions than may be active, and none with the number of a new one. The
-/// effect tells the handle of what it made.
+/// are active as may be, or it does its effect over them. A broker takes the response if it knows
+/// of fewer sessions than may be active, and of none with the number of a new one. The effect tells
+/// the handle of what it made.
 pub fn clients_commands_run_over_slots()
     ensures full { (slots : SlotState) (client : ℕ) (state : ClientState) (bytes : List ℕ)
         (a : Admitted) (first code : ℕ) → client_admitted (tables_of client state) bytes ≡ Ok a

@@ -89,7 +89,7 @@ no_items : {X : Type 0} (xs : List X) → length xs ≡ 0 → xs ≡ []
 no_items [] none = refl
 no_items (x ∷ xs) none = absurd (omega (arith, none))
 
--- where nothing is nobody's no object is
+-- where there are no orphans no object is one
 pub none_left : (held : Held) → orphan_count held ≡ 0 → held.objects.left ≡ []
 none_left held none = no_items held.objects.left (omega (arith, none))
 
@@ -131,6 +131,7 @@ objects_moved seen most old new held view moved none counter settled =
       orphans = omega (arith, ap (λ (l : List ℕ). length l) moved.left);
       slots = moved.slots;
       numbers = refl;
+      left = refl;
       length_is = length_same held.objects.items view.items owners;
     }
 

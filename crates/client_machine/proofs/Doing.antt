@@ -167,6 +167,7 @@ saved_runs slots held client table a bytes may alone saves sound =
                     most = held.sessions.numbers.active;
                     objects = sym (same_objects slots after items table refl refl) i;
                     sessions = sym (ap (sessions_in after) items_are ∙ sessions_over_objects slots after old refl) i;
+                    left = held.sessions.left;
                     object_sequence = number + 1;
                     session_sequence = least.session;
                   },

@@ -1,4 +1,4 @@
--- A client's object is flushed, or left to nobody since its flush failed: every other item as it was, and the client's table without
+-- A client's object is flushed, or an orphan since its flush failed: every other item as it was, and the client's table without
 -- its handle. What is dropped one after another is dropped in one.
 use Rattle.std.proofs.Common.{◌≡◌, ◌≢◌, ◌⊎◌, ◌+◌, ◌≤◌, ◌<◌, ◌++◌, ◌∷◌, inl, inr, ℕ, suc, Bool, true, false, List, [], length, get_or, set, map, refl, ap, sym, ◌∙◌, subst, append-nil, append_assoc, arith}
 use Rattle.std.specs.Prelude.{◌==◌, ◌&&◌, nat_lt, not, Option, Some, None, is_some, Result, Ok, Err, is_err, OnErr, if◌then◌else◌}
@@ -18,8 +18,10 @@ use Rattle.object_swap.specs.Records.{number}
 use Rattle.object_swap.proofs.Counts.{count_cons, all_but, count_one, count_set, number_true}
 use Rattle.object_swap.proofs.Orphans.{orphaned_last, orphaned_stand}
 use Rattle.session_swap.specs.Items as sessions
+use Rattle.tab_spec.specs.declared.numbers.Numbers.{Numbers}
+use Rattle.tab_spec.specs.Numbers.{left_most}
 use Rattle.history_spec.specs.Table.{held_under, number_of_object, without_handle}
-use Rattle.world_spec.specs.World.{without_owner}
+use Rattle.world_spec.specs.World.{closed_sessions}
 use Rattle.history_laws.proofs.Counts.{one_false, one_if}
 use Rattle.history_laws.proofs.Tables.{held_all, named, without_by, without_count}
 use Rattle.client_machine.specs.declared.held.Held.{Held}
@@ -28,7 +30,7 @@ use Rattle.client_machine.specs.Dropping.{AreLeftByFaults, Disowns, Drops, Leave
 use Rattle.client_machine.specs.Moves.{GainsNone, KeepsObjectsOf, KeepsOwners, other_than}
 use Rattle.client_machine.specs.Settled.{Settled, sessions_in}
 use Rattle.client_machine.specs.Tables.{IsPlaceOf, IsTable, is_item, naming_in}
-use Rattle.client_machine.proofs.Keeping.{KeepsOtherSessions, counted_both, counted_once, left_then, objects_same, other_sessions_same, other_sessions_then, owners_same, persist_same, right_none, rightly}
+use Rattle.client_machine.proofs.Keeping.{ClosesAs, Forgets, closes_same, closes_then, counted_both, counted_once, left_then, objects_same, owners_same, persist_same, right_none, rightly}
 use Rattle.client_machine.proofs.Orphans.{answered_then, gains_then, keeps_same, keeps_then, objects_then, owners_then, persist_then}
 use Rattle.client_machine.proofs.Prepared.{counts_same, counts_then}
 use Rattle.client_machine.proofs.Settling.{counter_over_objects, keeps_over_objects, persist_over_objects, rest_over_objects, settled_over_objects, some_same}
@@ -109,7 +111,7 @@ gone_others old new items client item own same =
     ))
     names.inside (another items client item index owner own is other)
 
--- where one is left to nobody
+-- where one is an orphan then
 left_others : (old new : Option SlotState) (items : List Item) (client item : ℕ) → (item_at items item).client ≡ Some client → new ≡ old
     → KeepsObjectsOf (other_than client) old new items (set items item no_item)
 left_others old new items client item own same =
@@ -310,11 +312,12 @@ pub record Dropped {D : Type 0} (seen : D → Seen)
   pub left : new_view.left ≡ view.left
 
 -- the sessions are the same in a device whose objects changed
-sessions_unmoved : (client : ℕ) (old new : Option SlotState) (items : List (Option sessions.Item)) → rest_of new ≡ rest_of old
-    → KeepsOtherSessions client old new items items
-sessions_unmoved client old new items same =
+sessions_unmoved : (client : ℕ) (old new : Option SlotState) (view : sessions.SessionsView) → rest_of new ≡ rest_of old
+    → ClosesAs client view.numbers.active old new view.items view.items view.left view.left
+sessions_unmoved client old new view same =
     λ slots after is_old is_new.
-    ap (λ (s : SlotState). without_owner client (sessions_in s items)) (rest_over_objects old new slots after same is_old is_new)
+    ap (λ (s : SlotState). closed_sessions client view.numbers.active (sessions_in s view.items) view.left)
+    (rest_over_objects old new slots after same is_old is_new)
 
 pub dropped : {D : Type 0} (seen : D → Seen) (client : ℕ) (old new : D) (held : Held) (new_view : ObjectsView) (item : ℕ)
     → Dropped seen old new held.objects new_view item → IsNamed held.objects.items client item → Settled (seen old).state held
@@ -333,7 +336,8 @@ dropped seen client old new held new_view item d at settled =
           (gone_others (seen old).state (seen new).state items client item at.own
           (subst (λ (l : List Item). objects_of (seen new).state l ≡ without_object item (objects_of (seen old).state items)) d.items_are d.objects));
       lists = d.owners;
-      other_sessions = sessions_unmoved client (seen old).state (seen new).state held.sessions.items d.rest.rest;
+      closes = sessions_unmoved client (seen old).state (seen new).state held.sessions d.rest.rest;
+      few_left = λ few. few;
       owners = λ present owners. owners;
       persist = persist_over_objects (seen old).state (seen new).state d.rest.rest;
       orphans = omega (arith, ap (λ (l : List ℕ). length l) d.left);
@@ -347,7 +351,7 @@ dropped seen client old new held new_view item d at settled =
 
 -- ---- a flush failed
 
--- what leaving one object to nobody gives: its record is free, and its slot is that of an object of nobody
+-- what making one object an orphan gives: its record is free, and its slot is that of an orphan
 abbrev pub orphaned : ObjectsView → (item slot : ℕ) → ObjectsView
 orphaned view item slot =
     record view { items = set view.items item no_item; order = without_one item view.order; left = view.left ++ slot ∷ [] }
@@ -382,7 +386,8 @@ left seen client old new held new_view item slot view_is slot_is same rest rose 
       other_objects = subst (λ (l : List Item). KeepsObjectsOf (other_than client) (seen old).state (seen new).state items l) back
           (left_others (seen old).state (seen new).state items client item at.own same);
       lists = ap (λ (v : ObjectsView). v.owners) view_is;
-      other_sessions = sessions_unmoved client (seen old).state (seen new).state held.sessions.items rest.rest;
+      closes = sessions_unmoved client (seen old).state (seen new).state held.sessions rest.rest;
+      few_left = λ few. few;
       owners = λ present owners. owners;
       persist = persist_over_objects (seen old).state (seen new).state rest.rest;
       orphans = omega (arith, ap (λ (v : ObjectsView). length v.left) view_is, length-append held.objects.left (slot ∷ []));
@@ -406,7 +411,8 @@ drops_none seen client old held settled = record {
   gained = λ index owner own other. own;
   other_objects = objects_same (other_than client) (seen old).state held.objects.items;
   lists = refl;
-  other_sessions = other_sessions_same client (seen old).state held.sessions.items;
+  closes = closes_same client held.sessions.numbers.active (seen old).state held.sessions.items held.sessions.left;
+  few_left = λ few. few;
   owners = λ present owners. owners;
   persist = persist_same (seen old).state;
   orphans = omega arith;
@@ -417,6 +423,11 @@ drops_none seen client old held settled = record {
   numbers = refl;
   length_is = refl;
 }
+
+few_then : {active still between new_left : ℕ} → still ≡ active → between ≤ left_most active → (between ≤ left_most still → new_left ≤ left_most still)
+    → new_left ≤ left_most active
+few_then {between = between} {new_left = new_left} same few more =
+    subst (λ (n : ℕ). new_left ≤ left_most n) same (more (subst (λ (n : ℕ). between ≤ left_most n) (sym same) few))
 
 pub drops_then : {D : Type 0} (seen : D → Seen) (client : ℕ) (old middle new : D) (held between new_held : Held) (n m : ℕ)
     → Drops seen client old middle held between held.objects.owners n
@@ -431,8 +442,10 @@ drops_then {D} seen client old middle new held between new_held n m first second
   other_objects = objects_then (other_than client) (seen old).state (seen middle).state (seen new).state held.objects.items between.objects.items
       new_held.objects.items first.keeps.tells first.others first.other_objects second.other_objects;
   lists = second.lists ∙ first.lists;
-  other_sessions = other_sessions_then client (seen old).state (seen middle).state (seen new).state held.sessions.items between.sessions.items new_held.sessions.items
-      first.keeps.tells first.other_sessions second.other_sessions;
+  closes = closes_then client held.sessions.numbers.active between.sessions.numbers.active (seen old).state (seen middle).state (seen new).state
+      held.sessions.items between.sessions.items new_held.sessions.items held.sessions.left between.sessions.left new_held.sessions.left
+      first.keeps.tells (ap (λ (n : Numbers). n.active) first.numbers) first.closes second.closes;
+  few_left = λ few. few_then (ap (λ (n : Numbers). n.active) first.numbers) (first.few_left few) second.few_left;
   owners = λ present owners. second.owners present (first.owners present owners);
   persist = persist_then (seen old).state (seen middle).state (seen new).state first.keeps.tells first.persist second.persist;
   orphans = omega (arith, first.orphans, second.orphans);
@@ -465,7 +478,8 @@ drops_ended seen client old new held new_held view list n drops view_is =
       gained = drops.gained;
       other_objects = drops.other_objects;
       lists = ap (λ (owners : List (Option ℕ)). set owners list None) drops.lists;
-      other_sessions = drops.other_sessions;
+      closes = drops.closes;
+      few_left = drops.few_left;
       owners = drops.owners;
       persist = drops.persist;
       orphans = drops.orphans;
@@ -476,6 +490,26 @@ drops_ended seen client old new held new_held view list n drops view_is =
       numbers = drops.numbers;
       length_is = drops.length_is;
     })
+
+-- one object of the client's, for FlushContext
+pub drops_object : {D : Type 0} (seen : D → Seen) (client : ℕ) (old new : D) (held : Held) (view : ObjectsView)
+    → Drops seen client old new held (with_objects held view) held.objects.owners 0 → Forgets seen client old new held (with_objects held view)
+drops_object seen client old new held view drops = record {
+  keeps = drops.keeps;
+  settled = drops.settled;
+  counts = drops.counts;
+  others = drops.others;
+  gained = drops.gained;
+  other_objects = drops.other_objects;
+  lists = drops.lists;
+  owners = drops.owners;
+  persist = drops.persist;
+  orphans = omega (arith, drops.orphans);
+  slots = drops.slots;
+  numbers = refl;
+  left = omega arith;
+  length_is = drops.length_is;
+}
 
 -- ---- what couldn't be flushed
 

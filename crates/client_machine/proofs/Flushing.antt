@@ -1,4 +1,4 @@
--- FlushContext of a client's object, after what was nobody's was flushed: the client has what it had but for the object, and each
+-- FlushContext of a client's object, after orphans were flushed: the client has what it had but for the object, and each
 -- other client what it had.
 use Rattle.std.proofs.Common.{◌≡◌, ℕ, Bool, true, false, List, length, get_or, set, refl, ap, sym, ◌∙◌, subst, arith}
 use Rattle.std.specs.Prelude.{◌==◌, nat_lt, Option, Some, None, is_some, IfSome, IsSome, MatchOption, Ok, if◌then◌else◌}
@@ -19,10 +19,10 @@ use Rattle.history_laws.proofs.Tables.{at_all, held_all, named, without}
 use Rattle.history_spec.specs.Table.{held_under, number_of_object, without_handle}
 use Rattle.world_spec.specs.World.{ClientState, Owned, without_named}
 use Rattle.client_machine.specs.declared.held.Held.{Held}
-use Rattle.client_machine.specs.Dropping.{Drops}
 use Rattle.client_machine.specs.Moves.{FlushesSome, IsFlushSent, KeepsOwners, LeavesState, Moves, Prepares, StaysAs, any_client, client_state, other_than}
 use Rattle.client_machine.specs.Settled.{Sequences, Settled, orphan_count, sessions_in}
 use Rattle.client_machine.specs.Tables.{IsPlaceOf, IsTable, flushed_handle, is_item, objects_in, place_object, slot_handle}
+use Rattle.client_machine.proofs.Keeping.{Forgets}
 use Rattle.client_machine.proofs.Orphans.{dropped_object, keeps_then, objects_then, owners_then, zero_set}
 use Rattle.client_machine.proofs.Prepared.{counts_then}
 use Rattle.client_machine.proofs.Ran.{open_same}
@@ -31,19 +31,21 @@ use Rattle.client_machine.proofs.Settling.{persist_over_objects, rest_over_objec
 
 -- ---- what a client has, after another step
 
-abbrev state_of : ℕ → Persist → List (Option Object) → List (Option Owned) → Sequences → ClientState
-state_of most persist objects sessions least = record {
+abbrev state_of : ℕ → Persist → List (Option Object) → List (Option Owned) → List ℕ → Sequences → ClientState
+state_of most persist objects sessions left least = record {
   persist = persist;
   most = most;
   objects = objects;
   sessions = sessions;
+  left = left;
   object_sequence = least.object;
   session_sequence = least.session;
 }
 
-pub state_is : (most there : ℕ) (persist other : Persist) (objects others : List (Option Object)) (owned own : List (Option Owned)) (least : Sequences)
-    → most ≡ there → persist ≡ other → objects ≡ others → owned ≡ own → state_of most persist objects owned least ≡ state_of there other others own least
-state_is most there persist other objects others owned own least m p o s = λ i. state_of (m i) (p i) (o i) (s i) least
+pub state_is : (most there : ℕ) (persist other : Persist) (objects others : List (Option Object)) (owned own : List (Option Owned)) (left still : List ℕ)
+    (least : Sequences) → most ≡ there → persist ≡ other → objects ≡ others → owned ≡ own → left ≡ still
+    → state_of most persist objects owned left least ≡ state_of there other others own still least
+state_is most there persist other objects others owned own left still least m p o s l = λ i. state_of (m i) (p i) (o i) (s i) (l i) least
 
 leaves_by : (change : ClientState → ClientState) (old middle new : Option SlotState) (held between new_held : Held)
     (table new_table : List (Option ℕ)) → is_some middle ≡ is_some old → StaysAs old middle held between table
@@ -66,9 +68,9 @@ any_other : (client : ℕ) (items new_items : List Item) → KeepsOwners any_cli
     → KeepsOwners (other_than client) items new_items
 any_other client items new_items keeps = λ index owner names own other. keeps index owner names own refl
 
--- what is dropped for a client, after what was nobody's
+-- what goes for a client, after orphans were flushed
 pub moves_after : {D : Type 0} (seen : D → Seen) (client : ℕ) (old middle new : D) (held between new_held : Held) (new_table : List (Option ℕ))
-    → Prepares 0 seen old middle held between → Drops seen client middle new between new_held between.objects.owners 0
+    → Prepares 0 seen old middle held between → Forgets seen client middle new between new_held
     → IsTable new_held.objects.items client new_table → Moves seen client old new held new_held new_table
 moves_after seen client old middle new held between new_held new_table p d is = record {
   keeps = keeps_then seen old middle new p.keeps d.keeps;
@@ -88,6 +90,7 @@ moves_after seen client old middle new held between new_held new_table p d is = 
   orphans = omega (arith, p.orphans, d.orphans);
   slots = d.slots ∙ p.slots;
   numbers = d.numbers ∙ p.numbers;
+  left = omega (arith, ap length p.left, d.left);
   length_is = d.length_is ∙ p.length_is;
 }
 
@@ -163,11 +166,11 @@ object_leaves seen client old new held new_view table new_table handle item same
     let rest = rest_over_objects (seen old).state (seen new).state slots after keeps.rest is_old is_new in
     state_is held.sessions.numbers.active held.sessions.numbers.active after.persist slots.persist (objects_in after new_view.items new_table)
     (without_handle (objects_in slots held.objects.items table) handle) (sessions_in after held.sessions.items)
-    (sessions_in slots held.sessions.items) least refl (persist_over_objects (seen old).state (seen new).state keeps.rest slots after is_old is_new)
+    (sessions_in slots held.sessions.items) held.sessions.left held.sessions.left least refl (persist_over_objects (seen old).state (seen new).state keeps.rest slots after is_old is_new)
     (ap (λ (l : List (Option ℕ)). objects_in after new_view.items l) without_is
     ∙ objects_left (seen old).state (seen new).state slots after held.objects.items new_view.items client table handle item same are is_old is_new
     settled_here.objects is held_here)
-    (sessions_over_objects slots after held.sessions.items rest)
+    (sessions_over_objects slots after held.sessions.items rest) refl
     ∙ sym (chosen (octet_of handle == HT_TRANSIENT) (record now { objects = without_handle now.objects handle })
     (record now { sessions = set now.sessions (number_of_session handle) None }) transient)
 
@@ -236,9 +239,9 @@ object_unsent done Sent seen nobodys table items handle item old new transient h
       ap (λ (slot : Option ℕ). is_some slot) slot ∙ out,
     )
 
--- ---- what is nobody's
+-- ---- orphans
 
--- where nothing is nobody's, nothing is after a flush
+-- where there are no orphans, there are none after a flush
 pub none_without_session : (held : Held) (new_view : sessions.SessionsView) (n : ℕ) → new_view.items ≡ set held.sessions.items n None
     → orphan_count held ≡ 0 → orphan_count (record { objects = held.objects; sessions = new_view }) ≡ 0
 none_without_session held new_view n are none =

@@ -1,4 +1,4 @@
--- FlushContext of a client's session, after what was nobody's was flushed. And what a client may flush over its table and the sessions
+-- FlushContext of a client's session, after orphans were flushed. And what a client may flush over its table and the sessions
 -- in the broker is what it may flush over what it has.
 use Rattle.std.proofs.Common.{◌≡◌, ◌+◌, ℕ, Bool, true, false, List, [], set, map, refl, ap, sym, ◌∙◌, subst, arith}
 use Rattle.std.specs.Prelude.{◌==◌, ◌&&◌, Option, Some, None, is_some, Result, Ok, Err, if◌then◌else◌}
@@ -19,7 +19,8 @@ use Rattle.client_laws.specs.Ready.{tells_session}
 use Rattle.client_laws.proofs.Steps.{step_flushed}
 use Rattle.object_swap.specs.Items as objects
 use Rattle.object_swap.specs.Items.{ObjectsStand}
-use Rattle.session_swap.specs.Items.{Item, KeepsRest, Names, SessionsView, is_orphan, is_owned, is_owner, item_at, item_session, owner_in, sessions_of, with_handle, without_session}
+use Rattle.device_port.specs.Use.{without_one}
+use Rattle.session_swap.specs.Items.{Item, KeepsRest, ListsThose, Names, SessionsView, is_left, is_orphan, is_owned, is_owner, item_at, item_session, owner_in, sessions_of, with_handle, without_session}
 use Rattle.history_spec.specs.declared.Pick.{Pick}
 use Rattle.history_spec.specs.declared.Pick.TheVariants.{Nothing}
 use Rattle.history_spec.specs.Table.{held_under, without_handle}
@@ -31,7 +32,7 @@ use Rattle.client_machine.specs.Moves.{CountsOn, Flushed, Flushes, IsFlushSent, 
 use Rattle.client_machine.specs.Settled.{AreBelow, IsSettled, Sequences, Settled, orphan_count, sessions_in}
 use Rattle.client_machine.specs.Tables.{IsPlaceOf, IsTable, OwnedHandle, flush_fault_of, flush_sent_unless, objects_in, owned_handle, owned_handles, place_object, sessions_unless, sessions_without, table_unless, tables_had, tables_seen}
 use Rattle.client_machine.proofs.Flushing.{other_chosen, state_is}
-use Rattle.client_machine.proofs.Disowning.{owned_orphan}
+use Rattle.client_machine.proofs.Leaving.{owned_held, owned_unleft, unleft}
 use Rattle.client_machine.proofs.Orphans.{sessions_told, sessions_without_one}
 use Rattle.client_machine.proofs.Ran.{below_on}
 use Rattle.client_machine.proofs.Running.{picks_none}
@@ -64,15 +65,22 @@ owned_at : (client handle : ℕ) (item : Option Item) → is_owned client (with_
 owned_at client handle None own = own
 owned_at client handle (Some item) own = owned_by client handle item (item.handle == handle) own
 
--- a client's session isn't nobody's
+-- a client's session is no orphan
 pub owned_stays : (client handle : ℕ) (items : List (Option Item)) → is_owner client (owner_in items handle) ≡ true
     → is_orphan (item_at items (number_of_session handle)) ≡ false
 owned_stays client handle items own =
-    let item = item_at items (number_of_session handle) in owned_orphan client item (owned_at client handle item own)
+    let item = item_at items (number_of_session handle) in owned_held client item (owned_at client handle item own)
 
 pub owner_again : (client handle : ℕ) (items between : List (Option Item)) → is_owner client (owner_in items handle) ≡ true
     → item_at between (number_of_session handle) ≡ item_at items (number_of_session handle) → is_owner client (owner_in between handle) ≡ true
 owner_again client handle items between own same = ap (λ (i : Option Item). is_owned client (with_handle handle i)) same ∙ own
+
+-- and wasn't left, so the list of those that were is the same without it
+pub owner_unleft : (client handle : ℕ) (items : List (Option Item)) (left : List ℕ) → ListsThose is_left left items
+    → is_owner client (owner_in items handle) ≡ true → without_one (number_of_session handle) left ≡ left
+owner_unleft client handle items left listed own =
+    let n = number_of_session handle in
+    unleft items left n listed (owned_unleft client (item_at items n) (owned_at client handle (item_at items n) own))
 
 there_by : (client : ℕ) (item : Option Item) → is_owned client item ≡ true → is_some item ≡ true
 there_by client None own = absurd cc
@@ -86,18 +94,19 @@ owner_named client handle items own = there_by client (with_handle handle (item_
 pub session_leaves : {D : Type 0} (seen : D → Seen) (old new : D)
     (held : Held) (new_view : SessionsView) (table : List (Option ℕ)) (handle : ℕ)
     → sessions_of (seen new).state new_view.items ≡ without_session (number_of_session handle) (sessions_of (seen old).state held.sessions.items)
-    → new_view.numbers ≡ held.sessions.numbers → new_view.items ≡ set held.sessions.items (number_of_session handle) None → KeepsRest seen old new
+    → new_view.numbers ≡ held.sessions.numbers → new_view.items ≡ set held.sessions.items (number_of_session handle) None
+    → new_view.left ≡ held.sessions.left → KeepsRest seen old new
     → (octet_of handle == HT_TRANSIENT) ≡ false
     → LeavesState (λ client_state. without_named client_state handle) (seen old).state (seen new).state held
     (record { objects = held.objects; sessions = new_view }) table table
-session_leaves seen old new held new_view table handle same numbers are keeps plain =
+session_leaves seen old new held new_view table handle same numbers are left keeps plain =
     λ slots after least is_old is_new.
     let now = client_state slots held table least in
     let n = number_of_session handle in
     let items = held.sessions.items in
     state_is new_view.numbers.active held.sessions.numbers.active after.persist slots.persist (objects_in after held.objects.items table)
     (objects_in slots held.objects.items table)
-    (sessions_in after new_view.items) (set (sessions_in slots items) n None) least (ap (λ (n : Numbers). n.active) numbers)
+    (sessions_in after new_view.items) (set (sessions_in slots items) n None) new_view.left held.sessions.left least (ap (λ (n : Numbers). n.active) numbers)
     (persist_over_sessions (seen old).state (seen new).state keeps.rest slots after is_old is_new)
     (table_over_sessions slots after held.objects.items table
     (rest_over_sessions (seen old).state (seen new).state slots after keeps.rest is_old is_new))
@@ -105,6 +114,7 @@ session_leaves seen old new held new_view table handle same numbers are keeps pl
     ∙ sessions_without_one slots after items n
     (ap (λ (l : List (Option Item)). map (λ item. item_session after item) l) (sym are)
     ∙ sessions_told (seen old).state (seen new).state items new_view.items n slots after same is_old is_new))
+    left
     ∙ sym (other_chosen (octet_of handle == HT_TRANSIENT) (record now { objects = without_handle now.objects handle })
     (record now { sessions = set now.sessions n None }) plain)
 
@@ -246,6 +256,7 @@ flushed_so seen client handle old new held new_held table new_table named reply 
       nobodys = λ some. done.nobodys (ap (λ (f : Option ℕ). is_some (flush_sent_unless table held.objects.items handle f)) none ∙ some);
       table_is = done.table_is ∙ ap (table_unless table handle) none;
       owners = done.owners ∙ ap (λ (f : Option ℕ). owned_handles (sessions_unless held.sessions.items handle f)) none;
+      left = done.left;
     })
 
 -- it is refused
@@ -257,6 +268,7 @@ refused_so seen tables device held table (Err other) code reply refused reply_is
   nobodys = λ some. absurd (cc some);
   table_is = refl;
   owners = refl;
+  left = refl;
 }
 refused_so seen tables device held table (Ok handle) code reply refused reply_is =
     let fault = sym refused in
@@ -267,4 +279,5 @@ refused_so seen tables device held table (Ok handle) code reply refused reply_is
           let none : false ≡ true = ap (λ (f : Option ℕ). is_some (flush_sent_unless table held.objects.items handle f)) fault ∙ some in absurd cc;
       table_is = ap (table_unless table handle) fault;
       owners = ap (λ (f : Option ℕ). owned_handles (sessions_unless held.sessions.items handle f)) fault;
+      left = refl;
     }

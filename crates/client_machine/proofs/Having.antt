@@ -21,7 +21,7 @@ use Rattle.fx_capability.specs.declared.viewed.Viewed.TheVariants.{Answered, Dev
 use Rattle.fx_capability.specs.Views.{listed_of}
 use Rattle.fx_capability.proofs.Numbered.{first_of_items, session_found}
 use Rattle.fx_capability.proofs.Objects.{objects_counted}
-use Rattle.session_swap.specs.Items.{Item, SessionsView, has_owner}
+use Rattle.session_swap.specs.Items.{Item, SessionsView, is_held}
 use Rattle.history_spec.specs.declared.TheConstants.{CLIENT_OBJECTS}
 use Rattle.world_spec.specs.World.{load_parameters, save_parameters}
 use Rattle.history_spec.specs.Table.{count_held, first_taken, handle_from, handle_of_number, number_of_object}
@@ -146,13 +146,13 @@ told_of client table items active most params persist =
     capability_of (client_limits most) all_commands persist (objects_had table) (sessions_had client items) active params
 
 own_told : (client : ℕ) (table : List (Option ℕ)) (view : SessionsView) (active most : ℕ) (params : List ℕ) (persist : Persist)
-    → length table ≤ CLIENT_OBJECTS → active ≡ count_by has_owner view.items → most ≡ view.numbers.active
+    → length table ≤ CLIENT_OBJECTS → active ≡ count_by is_held view.items → most ≡ view.numbers.active
     → told_of client table view.items active most params persist ≡ own_capability persist client table view params
 own_told client table view active most params persist short count limit =
     λ i. capability_of (client_limits (limit i)) all_commands persist (objects_all table short i) (sessions_had client view.items) (count i) params
 
 pub answered_had : (client : ℕ) (table : List (Option ℕ)) (view : SessionsView) (active most : ℕ) (params begun whole reply : List ℕ)
-    → length table ≤ CLIENT_OBJECTS → active ≡ count_by has_owner view.items → most ≡ view.numbers.active → begun ≡ response ST_NO_SESSIONS RC_SUCCESS []
+    → length table ≤ CLIENT_OBJECTS → active ≡ count_by is_held view.items → most ≡ view.numbers.active → begun ≡ response ST_NO_SESSIONS RC_SUCCESS []
     → AppendsAlways (told_of client table view.items active most params) begun whole
     → reply ≡ take 2 whole ++ to_be_bytes w32 (length whole) ++ drop 6 whole
     → (persist : Persist) → reply ≡ reply_of (own_capability persist client table view params)
@@ -161,7 +161,7 @@ answered_had client table view active most params begun whole reply short count 
     ∙ sym (ap reply_of (sym (own_told client table view active most params persist short count limit) ∙ told.1 persist))
 
 pub refused_had : (client : ℕ) (table : List (Option ℕ)) (view : SessionsView) (active most code : ℕ) (params reply : List ℕ)
-    → length table ≤ CLIENT_OBJECTS → active ≡ count_by has_owner view.items → most ≡ view.numbers.active
+    → length table ≤ CLIENT_OBJECTS → active ≡ count_by is_held view.items → most ≡ view.numbers.active
     → ((persist : Persist) → told_of client table view.items active most params persist ≡ Err code) → reply ≡ error_reply code
     → (persist : Persist) → reply ≡ reply_of (own_capability persist client table view params)
 refused_had client table view active most code params reply short count limit told reply_is = λ persist.

@@ -1,5 +1,5 @@
 -- What calls keep of a device, and of the objects and the sessions of clients, they keep one after another.
-use Rattle.std.proofs.Common.{◌≡◌, ◌⊎◌, ◌+◌, ◌≤◌, inl, inr, ℕ, Bool, true, false, List, refl, ap, ◌∙◌, subst, arith}
+use Rattle.std.proofs.Common.{◌≡◌, ◌⊎◌, ◌+◌, ◌≤◌, inl, inr, ℕ, Bool, true, false, List, length, refl, ap, sym, ◌∙◌, subst, arith}
 use Rattle.std.specs.Prelude.{Option, Some, None, is_some}
 use Rattle.tab_spec.specs.Count.{Rose, largest_count}
 use Rattle.device_spec.specs.Answers.{IsRight}
@@ -12,10 +12,12 @@ use Rattle.device_port.specs.Own.{HasCause, IsAnswered}
 use Rattle.device_laws.proofs.AnswerForms.{takes_more}
 use Rattle.object_swap.specs.Items.{Item, item_at, item_object}
 use Rattle.session_swap.specs.Items as sessions
-use Rattle.world_spec.specs.World.{without_owner}
+use Rattle.world_spec.specs.World.{closed_sessions}
+use Rattle.client_machine.specs.declared.held.Held.{Held}
 use Rattle.client_machine.specs.Dropping.{AreLeftByFaults}
-use Rattle.client_machine.specs.Moves.{KeepsObjectsOf, KeepsOwners, KeepsPersist}
-use Rattle.client_machine.specs.Settled.{sessions_in}
+use Rattle.client_machine.specs.Moves.{CountsOnBy, GainsNone, Keeps, KeepsObjectsOf, KeepsOwners, KeepsPersist, other_than}
+use Rattle.client_machine.specs.Settled.{Settled, orphan_count, sessions_in}
+use Rattle.client_machine.specs.Tables.{AreOpenOwners}
 
 -- ---- the device
 
@@ -41,23 +43,47 @@ objects_same whose state items =
     λ slots new index owner is_old is_new names is own.
     let same : new ≡ slots = cc in ap (λ (s : SlotState). item_object s (item_at items index)) same
 
--- ---- the sessions of the other clients
+-- ---- what the client's close leaves of all sessions
 
-abbrev pub KeepsOtherSessions : (client : ℕ) (old_state new_state : Option SlotState) (items new_items : List (Option sessions.Item)) → Type 0
-KeepsOtherSessions client old_state new_state items new_items =
+-- where so many may be active
+abbrev pub ClosesAs : (client active : ℕ) (old_state new_state : Option SlotState) (items new_items : List (Option sessions.Item)) (left new_left : List ℕ) → Type 0
+ClosesAs client active old_state new_state items new_items left new_left =
     (slots after : SlotState) → old_state ≡ Some slots → new_state ≡ Some after
-    → without_owner client (sessions_in after new_items) ≡ without_owner client (sessions_in slots items)
+    → closed_sessions client active (sessions_in after new_items) new_left ≡ closed_sessions client active (sessions_in slots items) left
 
-pub other_sessions_same : (client : ℕ) (state : Option SlotState) (items : List (Option sessions.Item)) → KeepsOtherSessions client state state items items
-other_sessions_same client state items =
-    λ slots new is_old is_new. let same : new ≡ slots = cc in ap (λ (s : SlotState). without_owner client (sessions_in s items)) same
+pub closes_same : (client active : ℕ) (state : Option SlotState) (items : List (Option sessions.Item)) (left : List ℕ)
+    → ClosesAs client active state state items items left left
+closes_same client active state items left =
+    λ slots new is_old is_new. let same : new ≡ slots = cc in ap (λ (s : SlotState). closed_sessions client active (sessions_in s items) left) same
 
-pub other_sessions_then : (client : ℕ) (old middle new : Option SlotState) (items between new_items : List (Option sessions.Item)) → is_some middle ≡ is_some old
-    → KeepsOtherSessions client old middle items between → KeepsOtherSessions client middle new between new_items
-    → KeepsOtherSessions client old new items new_items
-other_sessions_then client old middle new items between new_items tells first second =
+pub closes_then : (client active still : ℕ) (old middle new : Option SlotState) (items between new_items : List (Option sessions.Item))
+    (left mid_left new_left : List ℕ) → is_some middle ≡ is_some old → still ≡ active
+    → ClosesAs client active old middle items between left mid_left → ClosesAs client still middle new between new_items mid_left new_left
+    → ClosesAs client active old new items new_items left new_left
+closes_then client active still old middle new items between new_items left mid_left new_left tells same first second =
     λ slots after is_old is_new.
-    told_between old middle slots tells is_old (λ held is_middle. second held after is_middle is_new ∙ first slots held is_old is_middle)
+    told_between old middle slots tells is_old (λ held is_middle.
+    (λ i. closed_sessions client (sym same i) (sessions_in after new_items) new_left) ∙ second held after is_middle is_new
+    ∙ (λ i. closed_sessions client (same i) (sessions_in held between) mid_left) ∙ first slots held is_old is_middle)
+
+-- ---- what one client loses
+
+-- an object or a session of it is gone, and what others have stays
+pub record Forgets {D : Type 0} (seen : D → Seen) (client : ℕ) (old new : D) (held new_held : Held) : Type 0 where
+  pub keeps : Keeps seen old new
+  pub settled : Settled (seen new).state new_held
+  pub counts : CountsOnBy 0 (seen old).state (seen new).state
+  pub others : KeepsOwners (other_than client) held.objects.items new_held.objects.items
+  pub gained : GainsNone (other_than client) held.objects.items new_held.objects.items
+  pub other_objects : KeepsObjectsOf (other_than client) (seen old).state (seen new).state held.objects.items new_held.objects.items
+  pub lists : new_held.objects.owners ≡ held.objects.owners
+  pub owners : (present : List ℕ) → AreOpenOwners present held.sessions.items → AreOpenOwners present new_held.sessions.items
+  pub persist : KeepsPersist (seen old).state (seen new).state
+  pub orphans : orphan_count new_held ≡ orphan_count held
+  pub slots : new_held.objects.slots ≡ held.objects.slots
+  pub numbers : new_held.sessions.numbers ≡ held.sessions.numbers
+  pub left : length new_held.sessions.left ≤ length held.sessions.left
+  pub length_is : length new_held.objects.items ≡ length held.objects.items
 
 -- ---- the last response
 

@@ -1,4 +1,5 @@
 pub mod Settling
+pub mod Leaving
 pub mod Prepared
 pub mod Loading
 pub mod Bringing

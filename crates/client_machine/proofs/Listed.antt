@@ -1,6 +1,6 @@
 -- What GetCapability tells a client over its table and the sessions in the broker is what it tells over its objects and sessions.
 use Rattle.std.proofs.Common.{◌≡◌, ◌+◌, ◌*◌, ◌^◌, ◌<◌, ℕ, suc, Bool, true, false, List, [], ◌∷◌, ◌++◌, length, get_or, map, refl, ap, sym, ◌∙◌, subst, arith}
-use Rattle.std.specs.Prelude.{◌==◌, ◌||◌, not, Option, Some, None, is_some, IfSome, if◌then◌else◌}
+use Rattle.std.specs.Prelude.{◌==◌, ◌&&◌, ◌||◌, not, Option, Some, None, is_some, IfSome, if◌then◌else◌}
 use Rattle.std.specs.List.{AllByRecursion, count_by}
 use Rattle.std.specs.Option.{option_or}
 use Rattle.std.proofs.lemmas.Bool.{eq-eqb, eqb-true, ne_eqb}
@@ -12,7 +12,7 @@ use Rattle.tab_spec.specs.Session.{Session}
 use Rattle.tab_spec.specs.Shape.{number_of_session, octet_of}
 use Rattle.effect_spec.specs.Capabilities.{Listed, capability_of, client_limits, transient_from}
 use Rattle.device_spec.specs.Slots.{SlotState}
-use Rattle.session_swap.specs.Items.{Item, ItemStands, SessionsStand, SessionsView, has_owner, item_at, item_session, owner_by, owner_of_item, with_handle}
+use Rattle.session_swap.specs.Items.{Item, ItemStands, SessionsStand, SessionsView, is_held, item_at, item_session, owner_by, owner_of_item, with_handle}
 use Rattle.session_swap.proofs.Counts as flags
 use Rattle.history_laws.proofs.Tables.{get_or_mapped}
 use Rattle.world_spec.specs.World.{Owned, active, client_capability, listed_owned, listed_sessions}
@@ -44,7 +44,7 @@ objects_listed f handle (place ∷ table) all =
 -- under its own handle it is listed as it stands in the world, and under no other
 own_by : (client handle number : ℕ) (c octet : ℕ) (s : Session) (handed : Option (List ℕ)) (mine : Bool) → (c == client) ≡ mine
     → octet * 2 ^ 24 + number ≡ handle
-    → listed_owned client number (Some (record { client = c; octet = octet; session = s; handed = handed }))
+    → listed_owned client number (Some (record { client = Some c; octet = octet; session = s; handed = handed }))
     ≡ listed_only (listed_owner client handle (Some (c, not (is_some handed))))
 own_by client handle number c octet s handed true mine is =
     ap (λ (own : Bool). if own then record { handle = octet * 2 ^ 24 + number; in_use = not (is_some handed) } ∷ [] else []) mine
@@ -58,7 +58,9 @@ own_listed : (client handle number own : ℕ) (owner : Option ℕ) (handed : Opt
     → octet_of own * 2 ^ 24 + number ≡ handle
     → listed_owned client number (owned_by_client owner own handed found)
     ≡ listed_only (listed_owner client handle (owner_by (not (is_some handed)) owner))
-own_listed client handle number own None handed found there is = refl
+own_listed client handle number own None None found there is = refl
+own_listed client handle number own None (Some context) None there is = absurd cc
+own_listed client handle number own None (Some context) (Some s) there is = refl
 own_listed client handle number own (Some c) handed None there is = absurd cc
 own_listed client handle number own (Some c) handed (Some s) there is = own_by client handle number c (octet_of own) s handed (c == client) refl is
 
@@ -173,20 +175,22 @@ sessions_listed slots view client stand =
 -- ---- how many there are
 
 owner_some : (owner : Option ℕ) (used : Bool) (handle : ℕ) (handed : Option (List ℕ)) (found : Option Session) → is_some found ≡ true
-    → is_some (owned_by_client owner handle handed found) ≡ is_some (owner_by used owner)
-owner_some None used handle handed found there = refl
+    → is_some (owned_by_client owner handle handed found) ≡ (is_some (owner_by used owner) || (not (is_some owner) && is_some handed))
+owner_some None used handle None found there = refl
+owner_some None used handle (Some context) None there = absurd cc
+owner_some None used handle (Some context) (Some s) there = refl
 owner_some (Some c) used handle handed None there = absurd cc
 owner_some (Some c) used handle handed (Some s) there = refl
 
 owned_some : (slots : SlotState) (n : ℕ) (found : Option Item) → IfSome found (λ item. ItemStands slots n item)
-    → is_some (owned_in slots found) ≡ has_owner found
+    → is_some (owned_in slots found) ≡ is_held found
 owned_some slots n None stands = refl
 owned_some slots n (Some item) stands =
     owner_some item.client (not (is_some item.handed)) item.handle item.handed (item_session slots (Some item)) stands.there
 
-active_had : (slots : SlotState) (view : SessionsView) → SessionsStand slots view [] → active (sessions_in slots view.items) ≡ count_by has_owner view.items
+active_had : (slots : SlotState) (view : SessionsView) → SessionsStand slots view [] → active (sessions_in slots view.items) ≡ count_by is_held view.items
 active_had slots view stand =
-    flags.count_same is_some has_owner (sessions_in slots view.items) view.items None None (length-map view.items (owned_in slots))
+    flags.count_same is_some is_held (sessions_in slots view.items) view.items None None (length-map view.items (owned_in slots))
     (λ n inside.
     ap (λ (o : Option Owned). is_some o) (get_or_mapped (owned_in slots) view.items n refl) ∙ owned_some slots n (item_at view.items n) (stand.each n))
 

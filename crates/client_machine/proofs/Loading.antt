@@ -16,7 +16,7 @@ use Rattle.device_port.specs.Device.{Seen}
 use Rattle.device_port.specs.Use.{is_among}
 use Rattle.device_port.specs.declared.own.SwapError.{SwapError}
 use Rattle.session_swap.specs.Items as sessions
-use Rattle.session_swap.specs.Items.{AreFree, AreLoaded, HasGapRoom, Holder, Item, MakesRoom, Moved, SessionsView, evictions, flag, gap_in, has_owner, holder_of, holders, is_loaded_item, is_orphan, item_at, item_of, loaded_items, missing, owner_by, renewal_gap}
+use Rattle.session_swap.specs.Items.{AreFree, AreLoaded, HasGapRoom, Holder, Item, MakesRoom, Moved, SessionsView, evictions, flag, gap_in, is_held, holder_of, holders, is_loaded_item, is_orphan, item_at, item_of, loaded_items, missing, owner_by, renewal_gap}
 use Rattle.session_swap.specs.declared.TheConstants.{NEEDED_MOST}
 use Rattle.history_laws.proofs.Counts.{count_cons, one_if}
 use Rattle.client_machine.specs.declared.held.Held.{Held}
@@ -25,11 +25,11 @@ use Rattle.client_machine.specs.Moves.{AreTaken, MovesSessions, Prepares, any_cl
 use Rattle.client_machine.specs.Settled.{Settled}
 use Rattle.client_machine.proofs.Settling.{keeps_over_sessions, object_counter_over_sessions, objects_over_sessions, owned_handles_same, persist_over_sessions, sessions_kept, settled_over_sessions}
 
--- ---- how many sessions there are, and how many are nobody's
+-- ---- how many sessions there are, and how many are orphans
 
 abbrev orphan_from : Option Holder → Bool
 orphan_from None = false
-orphan_from (Some holder) = not (is_some holder.client)
+orphan_from (Some holder) = not (is_some holder.client) && not (is_some holder.handed)
 
 orphan_is : (item : Option Item) → is_orphan item ≡ orphan_from (holder_of item)
 orphan_is None = refl
@@ -62,29 +62,26 @@ active_same items new_items same =
     let held : Option Holder → Bool = λ holder. is_some holder in
     counted_by there held new_items there_is ∙ ap (count_by held) same ∙ sym (counted_by there held items there_is)
 
--- each session is a client's or nobody's
-some_owner : (used : Bool) (owner : Option ℕ) → is_some (owner_by used owner) ≡ is_some owner
-some_owner used None = refl
-some_owner used (Some client) = refl
+-- each session is a client's or was left, or is an orphan
+either_held : (used : Bool) (owner : Option ℕ) (handed : Bool)
+    → one_if (is_some (owner_by used owner) || (not (is_some owner) && handed)) + one_if (not (is_some owner) && not handed) ≡ 1
+either_held used None true = refl
+either_held used None false = refl
+either_held used (Some client) handed = refl
 
-either_owner : (owner : Option ℕ) → one_if (is_some owner) + one_if (not (is_some owner)) ≡ 1
-either_owner None = refl
-either_owner (Some client) = refl
+one_held : (item : Option Item) → one_if (is_held item) + one_if (is_orphan item) ≡ one_if (is_some item)
+one_held None = refl
+one_held (Some item) = either_held (not (is_some item.handed)) item.client (is_some item.handed)
 
-one_owner : (item : Option Item) → one_if (has_owner item) + one_if (is_orphan item) ≡ one_if (is_some item)
-one_owner None = refl
-one_owner (Some item) =
-    omega (arith, either_owner item.client, ap one_if (some_owner (not (is_some item.handed)) item.client))
-
-pub owners_and_orphans : (items : List (Option Item)) → count_by has_owner items + count_by is_orphan items ≡ count_by is_some items
-owners_and_orphans [] = refl
-owners_and_orphans (item ∷ items) = omega (
+pub held_and_orphans : (items : List (Option Item)) → count_by is_held items + count_by is_orphan items ≡ count_by is_some items
+held_and_orphans [] = refl
+held_and_orphans (item ∷ items) = omega (
   arith,
-  count_cons has_owner item items,
+  count_cons is_held item items,
   count_cons is_orphan item items,
   count_cons is_some item items,
-  one_owner item,
-  owners_and_orphans items,
+  one_held item,
+  held_and_orphans items,
 )
 
 -- no session is under a number that had none
@@ -131,6 +128,7 @@ sessions_moved seen most old new held view moved room counter settled =
       orphans = omega (arith, orphans_same held.sessions.items view.items holders);
       slots = refl;
       numbers = moved.numbers;
+      left = moved.left;
       length_is = refl;
     }
 
@@ -157,9 +155,10 @@ room_told (Some slots) numbers view stand same less =
 
 -- ---- a place for one more
 
--- a place is free where clients have fewer sessions than may be active; else, as no session is nobody's, as many are active as may be
+-- a place is free where fewer sessions than may be active are clients' or were left; else, as there are no orphans, as many are active as
+-- may be
 pub room_made : (state : Option SlotState) (view new_view : SessionsView) (few : Bool) (places active most : ℕ) → length view.items ≡ SESSION_NUMBERS
-    → places ≡ bool_byte few → few ≡ ltb active most → most ≡ view.numbers.active → active ≡ count_by has_owner view.items
+    → places ≡ bool_byte few → few ≡ ltb active most → most ≡ view.numbers.active → active ≡ count_by is_held view.items
     → count_by is_orphan view.items ≡ 0 → new_view.numbers ≡ view.numbers → holders new_view.items ≡ holders view.items
     → AreFree state places → loaded_items new_view.items + places ≤ new_view.numbers.loaded
     → (AreFree state 1 × (loaded_items new_view.items < new_view.numbers.loaded)) ⊎ AreTaken new_view
@@ -176,7 +175,7 @@ room_made state view new_view false places active most long places_is few_is mos
         ap (λ (n : Numbers). n.active) numbers,
         active_is,
         none,
-        owners_and_orphans items,
+        held_and_orphans items,
         active_same items new_view.items same,
       );
     })
@@ -192,7 +191,7 @@ pub no_places : (starts few : Bool) (places : ℕ) → places ≡ bool_byte few 
 no_places starts few places is none some =
     omega (arith, few_places starts few places is some, ap {B = ℕ} (λ (test : Bool). if test then 1 else 0) none)
 
--- none is needed where clients have as many sessions as may be active
+-- none is needed where as many sessions as may be active are clients' or were left
 pub no_place : (few : Bool) (places active most count : ℕ) → places ≡ bool_byte few → few ≡ ltb active most → active ≡ count
     → most ≤ count → places ≡ 0
 no_place true places active most count places_is few_is active_is full =
@@ -243,14 +242,14 @@ byte_is false = refl
 
 -- the places that are asked for are those that are needed
 pub places_are : (starts few : Bool) (places active most : ℕ) (view : SessionsView) → places ≡ bool_byte few → few ≡ ltb active most
-    → most ≡ view.numbers.active → active ≡ count_by has_owner view.items → starts ≡ true
-    → places ≡ (if starts && nat_lt (count_by has_owner view.items) view.numbers.active then 1 else 0)
+    → most ≡ view.numbers.active → active ≡ count_by is_held view.items → starts ≡ true
+    → places ≡ (if starts && nat_lt (count_by is_held view.items) view.numbers.active then 1 else 0)
 places_are true few places active most view is few_is most_is active_is starts =
-    is ∙ ap bool_byte (few_is ∙ (λ i. ltb (active_is i) (most_is i))) ∙ byte_is (nat_lt (count_by has_owner view.items) view.numbers.active)
+    is ∙ ap bool_byte (few_is ∙ (λ i. ltb (active_is i) (most_is i))) ∙ byte_is (nat_lt (count_by is_held view.items) view.numbers.active)
 places_are false few places active most view is few_is most_is active_is starts = absurd cc
 
 pub no_place_needed : (starts few : Bool) (places : ℕ) (view : SessionsView) → places ≡ bool_byte few → few ≡ starts → starts ≡ false
-    → places ≡ (if starts && nat_lt (count_by has_owner view.items) view.numbers.active then 1 else 0)
+    → places ≡ (if starts && nat_lt (count_by is_held view.items) view.numbers.active then 1 else 0)
 no_place_needed true few places view is few_is none = absurd cc
 no_place_needed false few places view is few_is none = is ∙ ap bool_byte few_is
 
@@ -263,7 +262,7 @@ loads_needed : {D : Type 0} (seen : D → Seen) (old new : D) (held : Held) (vie
 loads_needed seen old new held view a result numbers room fits =
     let items = held.sessions.items in
     let few : places_needed held.sessions a ≤ places_of a =
-    place_by (starts_session a) (nat_lt (count_by has_owner items) held.sessions.numbers.active) in
+    place_by (starts_session a) (nat_lt (count_by is_held items) held.sessions.numbers.active) in
     record {
       sent = room.sent;
       most = omega (arith, room.few, missing_few (named_sessions a) items, fits);

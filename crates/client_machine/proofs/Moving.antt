@@ -1,4 +1,4 @@
--- What is moved before a client's command, and what was used then, where nothing is nobody's and no renewal is due.
+-- What is moved before a client's command, and what was used then, where there are no orphans and no renewal is due.
 use mir.Val.{bool_byte}
 use Rattle.std.proofs.Common.{◌≡◌, ◌+◌, ◌≤◌, ℕ, Bool, List, ap, ◌∙◌, subst, arith}
 use Rattle.std.specs.Prelude.{Option, Ok}

@@ -16,11 +16,11 @@ use Rattle.effect_spec.specs.Sessions.{StartParameters, start_check}
 use Rattle.device_spec.specs.Slots.{SlotState}
 use Rattle.client_laws.specs.Ready.{TellsMade, client_effect, starts_session}
 use Rattle.client_laws.proofs.Starts.{IsStarted, StartsIn, outcome_starts}
-use Rattle.session_swap.specs.Items.{SessionsStand, SessionsView, has_owner, is_orphan}
+use Rattle.session_swap.specs.Items.{SessionsStand, SessionsView, is_held, is_orphan}
 use Rattle.world_spec.specs.World as world
 use Rattle.world_spec.specs.World.{ClientState, client_operands}
 use Rattle.client_machine.specs.Settled.{sessions_in}
-use Rattle.client_machine.proofs.Loading.{owners_and_orphans}
+use Rattle.client_machine.proofs.Loading.{held_and_orphans}
 use Rattle.client_machine.proofs.Ready.{active_seen}
 
 -- ---- the parameters are right
@@ -70,10 +70,10 @@ room_by false check b state is room start = absurd cc
 abbrev pub HasFew : SessionsView → Created → Type 0
 HasFew view nothing = Unit {0}
 HasFew view (new_object o) = Unit {0}
-HasFew view (new_session s) = count_by has_owner view.items < view.numbers.active
+HasFew view (new_session s) = count_by is_held view.items < view.numbers.active
 
 few_by : (view : SessionsView) (params : List ℕ) (created : Created)
-    → ((b : StartParameters) → start_check params ≡ Ok b → count_by has_owner view.items < view.numbers.active)
+    → ((b : StartParameters) → start_check params ≡ Ok b → count_by is_held view.items < view.numbers.active)
     → IsRightly params created → HasFew view created
 few_by view params nothing few is = tt
 few_by view params (new_object o) few is = tt
@@ -94,7 +94,7 @@ has_few slots view client state a bytes stand nobodys most sessions room start =
       ap world.active sessions,
       active_seen slots view stand nobodys,
       nobodys,
-      owners_and_orphans view.items,
+      held_and_orphans view.items,
     ))
     (starts_rightly state.persist (client_operands client state a.shape a.auths) a.shape a.auths bytes start)
 

@@ -1,11 +1,12 @@
--- What is left where something of nobody is flushed: what clients have stands as before, and whose it is. Such steps compose.
+-- What is left where an orphan is flushed: what clients have and left stands as before, and whose it is. Such steps compose.
 use Rattle.std.proofs.Common.{◌≡◌, ◌≢◌, ◌+◌, ◌<◌, ◌⊎◌, inl, inr, ℕ, zero, suc, Bool, true, false, List, [], ◌∷◌, ◌++◌, length, get_or, set, map, refl, ap, sym, ◌∙◌, subst, arith, length-append, length-set, ◌≤◌}
-use Rattle.std.specs.Prelude.{not, Option, Some, None, is_some}
+use Rattle.std.specs.Prelude.{not, ◌&&◌, Option, Some, None, is_some}
 use Rattle.std.specs.List.{count_by, list_any}
 use Rattle.std.proofs.lemmas.Bool.{cases_lt, true≢false}
 use Rattle.std.proofs.lemmas.List.{get_or-map, get_or-set_other, map-set, set-get_or}
 use Rattle.std.proofs.Math.ListN as lists
 use Rattle.tab_spec.specs.Object.{Object}
+use Rattle.tab_spec.specs.Session.{Session}
 use Rattle.tab_spec.specs.Shape.{number_of_session}
 use Rattle.device_spec.specs.Slots.{SlotState, gap_from}
 use Rattle.device_port.specs.Device.{Seen}
@@ -99,6 +100,7 @@ prepares_still seen old new held keeps same settled = record {
   orphans = omega arith;
   slots = refl;
   numbers = refl;
+  left = refl;
   length_is = refl;
 }
 
@@ -128,6 +130,7 @@ prepares_then {n = n} {m = m} {most = most} seen old middle new held between new
   orphans = omega (arith, first.orphans, second.orphans);
   slots = second.slots ∙ first.slots;
   numbers = second.numbers ∙ first.numbers;
+  left = second.left ∙ first.left;
   length_is = second.length_is ∙ first.length_is;
 }
 
@@ -137,7 +140,7 @@ pub prepares_more : {D : Type 0} {n most : ℕ} (seen : D → Seen) (old new : D
 prepares_more seen old new held new_held few prepares =
     prepares_then seen old new new held new_held new_held (omega (arith, few)) prepares (prepares_same seen new new_held prepares.settled)
 
--- ---- what is left while what is nobody's is flushed
+-- ---- what is left while orphans are flushed
 
 pub clears_none : {D : Type 0} (seen : D → Seen) (old : D) (held : Held)
     → Settled (seen old).state held → Clears seen old old held held
@@ -210,7 +213,7 @@ answered_then P old middle new first (inr answered) = inr answered
 answered_then P old middle new (inl same) (inl still) = inl (still ∙ same)
 answered_then P old middle new (inr answered) (inl still) = inr (subst P (sym still) answered)
 
--- ---- a session of nobody
+-- ---- an orphaned session
 
 kept_by : {X Y : Type 0} (f : X → Y) (xs : List X) (i : ℕ) (y d : X) → f y ≡ f (get_or xs i d) → map f (set xs i y) ≡ map f xs
 kept_by f xs i y d same =
@@ -230,19 +233,26 @@ sessions_without_one slots after (item ∷ items) (suc n) same =
     ap (λ (o : Option Owned). o ∷ sessions_in after (set items n None)) (owned_same slots after item item refl first)
     ∙ ap (λ (l : List (Option Owned)). owned_in slots item ∷ l) (sessions_without_one slots after items n rest)
 
-nobody : (client : Option ℕ) → not (is_some client) ≡ true → client ≡ None
-nobody None is = refl
-nobody (Some client) is = absurd cc
+orphan_owned : (client : Option ℕ) (handle : ℕ) (handed : Option (List ℕ)) (found : Option Session) → (not (is_some client) && not (is_some handed)) ≡ true
+    → owned_by_client client handle handed found ≡ None
+orphan_owned None handle None found is = refl
+orphan_owned None handle (Some context) found is = absurd cc
+orphan_owned (Some client) handle handed found is = absurd cc
 
--- it is nobody's in the world
-owned_nobody : (slots : SlotState) (item : Option sessions.Item) → sessions.is_orphan item ≡ true → owned_in slots item ≡ None
-owned_nobody slots None is = absurd cc
-owned_nobody slots (Some item) is =
-    ap (λ (c : Option ℕ). owned_by_client c item.handle item.handed (item_session slots (Some item))) (nobody item.client is)
+-- the world doesn't have it
+owned_orphan : (slots : SlotState) (item : Option sessions.Item) → sessions.is_orphan item ≡ true → owned_in slots item ≡ None
+owned_orphan slots None is = absurd cc
+owned_orphan slots (Some item) is = orphan_owned item.client item.handle item.handed (item_session slots (Some item)) is
 
-handle_nobody : (item : Option sessions.Item) → sessions.is_orphan item ≡ true → owned_handle item ≡ None
-handle_nobody None is = absurd cc
-handle_nobody (Some item) is = ap (λ (c : Option ℕ). with_owner c item.handle item.handed) (nobody item.client is)
+orphan_handle : (client : Option ℕ) (handle : ℕ) (handed : Option (List ℕ)) → (not (is_some client) && not (is_some handed)) ≡ true
+    → with_owner client handle handed ≡ None
+orphan_handle None handle None is = refl
+orphan_handle None handle (Some context) is = absurd cc
+orphan_handle (Some client) handle handed is = absurd cc
+
+handle_orphan : (item : Option sessions.Item) → sessions.is_orphan item ≡ true → owned_handle item ≡ None
+handle_orphan None is = absurd cc
+handle_orphan (Some item) is = orphan_handle item.client item.handle item.handed is
 
 pub sessions_told : (old new : Option SlotState) (items new_items : List (Option sessions.Item)) (n : ℕ) (slots after : SlotState)
     → sessions_of new new_items ≡ without_session n (sessions_of old items) → old ≡ Some slots → new ≡ Some after
@@ -276,12 +286,12 @@ pub clears_session : {D : Type 0} (seen : D → Seen) (old new : D)
     (held : Held) (new_view : SessionsView) (handle : ℕ)
     → sessions.is_orphan (sessions.item_at held.sessions.items (number_of_session handle)) ≡ true
     → new_view.numbers ≡ held.sessions.numbers → new_view.items ≡ set held.sessions.items (number_of_session handle) None
-    → new_view.next ≡ held.sessions.next
+    → new_view.next ≡ held.sessions.next → new_view.left ≡ held.sessions.left
     → sessions_of (seen new).state new_view.items ≡ without_session (number_of_session handle) (sessions_of (seen old).state held.sessions.items)
     → sessions.Stand (seen new).state new_view [] → sessions.counter_of (seen new).state ≡ sessions.counter_of (seen old).state
     → HasGapRoom (seen new).state → sessions.KeepsRest seen old new → Settled (seen old).state held
     → Clears seen old new held (record { objects = held.objects; sessions = new_view })
-clears_session seen old new held new_view handle orphan numbers items_are next_is same stand counter room keeps settled =
+clears_session seen old new held new_view handle orphan numbers items_are next_is left_is same stand counter room keeps settled =
     let n = number_of_session handle in
     let items = held.sessions.items in
     let loses = loses_session held new_view n items_are in
@@ -297,14 +307,14 @@ clears_session seen old new held new_view handle orphan numbers items_are next_i
         gained = λ index owner own mine. own;
         lists = refl;
         objects = objects_over_sessions (seen old).state (seen new).state any_client held.objects.items keeps.rest;
-        session_owners = ap owned_handles items_are ∙ kept_by owned_handle items n None None (sym (handle_nobody (sessions.item_at items n) orphan));
+        session_owners = ap owned_handles items_are ∙ kept_by owned_handle items n None None (sym (handle_orphan (sessions.item_at items n) orphan));
         sessions = λ slots after is_old is_new.
             ap (λ (l : List (Option sessions.Item)). sessions_in after l) items_are
             ∙ sessions_without_one slots after items n
             (ap (λ (l : List (Option sessions.Item)). map (λ item. item_session after item) l) (sym items_are)
             ∙ sessions_told (seen old).state (seen new).state items new_view.items n slots after same is_old is_new)
             ∙ sym (map-set (owned_in slots) items n None)
-            ∙ kept_by (owned_in slots) items n None None (sym (owned_nobody slots (sessions.item_at items n) orphan));
+            ∙ kept_by (owned_in slots) items n None None (sym (owned_orphan slots (sessions.item_at items n) orphan));
         persist = persist_over_sessions (seen old).state (seen new).state keeps.rest;
         settled = settled_over_sessions (seen old).state (seen new).state held (record { objects = held.objects; sessions = new_view })
             keeps.rest refl stand room settled;
@@ -313,6 +323,7 @@ clears_session seen old new held new_view handle orphan numbers items_are next_i
         orphans = omega (arith, fewer);
         slots = refl;
         numbers = numbers;
+        left = left_is;
         length_is = refl;
       };
       objects = refl;
@@ -324,7 +335,7 @@ clears_session seen old new held new_view handle orphan numbers items_are next_i
       still = λ none. absurd (omega (arith, fewer, none));
     }
 
--- ---- an object of nobody
+-- ---- an object
 
 -- the last of them is gone
 pub clears_orphan : {D : Type 0} (seen : D → Seen) (old new : D) (held : Held) (new_view : ObjectsView)
@@ -357,6 +368,7 @@ clears_orphan seen old new held new_view lost keeps settled =
         orphans = omega (arith, fewer);
         slots = ap (λ (v : ObjectsView). v.slots) lost.same;
         numbers = refl;
+        left = refl;
         length_is = ap (λ (l : List Item). length l) items_are;
       };
       objects = lost.same;

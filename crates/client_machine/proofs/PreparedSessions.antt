@@ -1,7 +1,7 @@
 -- The sessions that a command names, and whose they are over what is done before it.
 use Rattle.std.proofs.Common.{◌≡◌, ◌+◌, ◌<◌, ℕ, zero, suc, Bool, true, false, cond, List, [], ◌∷◌, ◌++◌, length, get_or, set, take, drop, refl, ap, sym, ◌∙◌, append_assoc}
 use Rattle.std.proofs.lemmas.List.{drop_more, take_more_set}
-use Rattle.std.specs.Prelude.{Option, Some, None, ◌==◌, is_some, not, if◌then◌else◌}
+use Rattle.std.specs.Prelude.{Option, Some, None, ◌==◌, is_some, not}
 use Rattle.std.specs.List.{AllByRecursion, filter}
 use Rattle.tab_spec.specs.Shape.{number_of_session}
 use Rattle.session_swap.specs.Items as sessions
@@ -37,28 +37,23 @@ handle_passed p handles named i count inside is whole =
 
 abbrev owner_from : ℕ → Option OwnedHandle → Option (ℕ × Bool)
 owner_from handle None = None
-owner_from handle (Some owned) = cond (owned.1 == handle) (Some (owned.0, not (is_some owned.2))) None
+owner_from handle (Some owned) = cond (owned.1 == handle) (sessions.owner_by (not (is_some owned.2)) owned.0) None
 
-owner_by : (handle : ℕ) (item : Item) (test : Bool) (client : Option ℕ) → (item.handle == handle) ≡ test → item.client ≡ client
-    → owner_of_item (if item.handle == handle then Some item else None) ≡ owner_from handle (with_owner item.client item.handle item.handed)
-owner_by handle item true (Some client) is own =
-    let used = not (is_some item.handed) in
-    ap (λ (b : Bool). owner_of_item (cond b (Some item) None)) is ∙ ap (sessions.owner_by used) own
-    ∙ sym (ap (λ (o : Option ℕ). owner_from handle (with_owner o item.handle item.handed)) own ∙ ap (λ (b : Bool). cond b (Some (client, used)) None) is)
-owner_by handle item true None is own =
-    ap (λ (b : Bool). owner_of_item (cond b (Some item) None)) is ∙ ap (sessions.owner_by (not (is_some item.handed))) own
-    ∙ sym (ap (λ (o : Option ℕ). owner_from handle (with_owner o item.handle item.handed)) own)
-owner_by handle item false (Some client) is own =
-    ap (λ (b : Bool). owner_of_item (cond b (Some item) None)) is
-    ∙ sym (ap (λ (o : Option ℕ). owner_from handle (with_owner o item.handle item.handed)) own
-    ∙ ap (λ (b : Bool). cond b (Some (client, not (is_some item.handed))) None) is)
-owner_by handle item false None is own =
-    ap (λ (b : Bool). owner_of_item (cond b (Some item) None)) is
-    ∙ sym (ap (λ (o : Option ℕ). owner_from handle (with_owner o item.handle item.handed)) own)
+owner_by : (handle own : ℕ) (client : Option ℕ) (handed : Option (List ℕ)) (test : Bool) → (own == handle) ≡ test
+    → cond test (sessions.owner_by (not (is_some handed)) client) None ≡ owner_from handle (with_owner client own handed)
+owner_by handle own None None true is = refl
+owner_by handle own None None false is = refl
+owner_by handle own None (Some context) test is = sym (ap (λ (b : Bool). cond b (sessions.owner_by false None) None) is)
+owner_by handle own (Some client) handed test is = sym (ap (λ (b : Bool). cond b (sessions.owner_by (not (is_some handed)) (Some client)) None) is)
+
+item_by : (item : Item) (test : Bool) → owner_of_item (cond test (Some item) None) ≡ cond test (owner_of_item (Some item)) None
+item_by item true = refl
+item_by item false = refl
 
 owner_is : (handle : ℕ) (item : Option Item) → owner_of_item (with_handle handle item) ≡ owner_from handle (owned_handle item)
 owner_is handle None = refl
-owner_is handle (Some item) = owner_by handle item (item.handle == handle) item.client refl refl
+owner_is handle (Some item) =
+    item_by item (item.handle == handle) ∙ owner_by handle item.handle item.client item.handed (item.handle == handle) refl
 
 handle_at : (items : List (Option Item)) (n : ℕ) → get_or (owned_handles items) n None ≡ owned_handle (item_at items n)
 handle_at [] n = refl

@@ -21,18 +21,16 @@ use Rattle.device_port.specs.Use.{without_one}
 use Rattle.device_port.specs.declared.own.SwapError.{SwapError}
 use Rattle.client_laws.specs.Ready.{ends_session, is_sent, named_sessions, sent_for, starts_session, tells_object, tells_session}
 use Rattle.client_laws.proofs.Commands.{command_frame, command_makes, command_object, command_session}
-use Rattle.client_laws.proofs.NameSessions.{named_none}
+use Rattle.client_laws.proofs.NameSessions.{named_none, named_own}
 use Rattle.client_laws.proofs.Steps.{looked_up}
 use Rattle.object_swap.specs.Items as objects
 use Rattle.object_swap.specs.Items.{Item, Names, ObjectsView, handle_in, item_at, item_object, new_item}
 use Rattle.session_swap.specs.Items as sessions
-use Rattle.session_swap.specs.Items.{Rise, SessionsView, gap_kept, has_owner, is_loaded_item, is_user, item_of, loaded_items, numbers_along, renewal_gap, saved_by_client}
+use Rattle.session_swap.specs.Items.{Rise, SessionsView, gap_kept, is_held, is_owner, is_user, loaded_items, numbers_along, owner_in, renewal_gap, saved_by_client}
 use Rattle.history_spec.specs.Table.{held_under, is_full, next_handle, put_least}
 use Rattle.world_spec.specs.World.{ClientState, client_step}
-use Rattle.session_swap.proofs.Counts.{is_false}
 use Rattle.session_swap.proofs.Moved.{stands_alike}
 use Rattle.session_swap.proofs.Rising.{rise_without}
-use Rattle.history_laws.proofs.Counts.{count_one}
 use Rattle.world_laws.proofs.Histories.{each-weaker}
 use Rattle.history_laws.proofs.Tables.{held_all, mapped}
 use Rattle.client_machine.specs.declared.held.Held.{Held}
@@ -46,7 +44,7 @@ use Rattle.client_machine.proofs.Orphans.{zero_set}
 use Rattle.client_machine.proofs.Ready.{MayRun, sent_over}
 use Rattle.client_machine.proofs.Doing.{all_taken, runs_else, runs_then}
 use Rattle.client_machine.proofs.Running.{Runs, held_after}
-use Rattle.client_machine.proofs.Loading.{owners_and_orphans}
+use Rattle.client_machine.proofs.Loading.{held_and_orphans}
 use Rattle.client_machine.proofs.Prepared.{counts_then}
 use Rattle.client_machine.proofs.PreparedSessions.{owner_kept}
 use Rattle.client_machine.proofs.Sending.{taken_more, taken_right}
@@ -67,11 +65,12 @@ admitted_over client table items new_items bytes same =
     (λ handle. ap (is_user client) (owner_kept items new_items handle same)) refl
 
 abbrev IsOpenHandle : List ℕ → Option OwnedHandle → Type 0
-IsOpenHandle present handle = IfSome handle (λ o. is_open o.0 present ≡ true)
+IsOpenHandle present handle = IfSome handle (λ o. IfSome o.0 (λ client. is_open client present ≡ true))
 
 open_by : (present : List ℕ) (owner : Option ℕ) (handle : ℕ) (handed : Option (List ℕ)) → IfSome owner (λ client. is_open client present ≡ true)
     → IsOpenHandle present (with_owner owner handle handed)
-open_by present None handle handed is = tt
+open_by present None handle None is = tt
+open_by present None handle (Some context) is = tt
 open_by present (Some client) handle handed is = is
 
 open_from : (present : List ℕ) (owner : Option ℕ) (handle : ℕ) (handed : Option (List ℕ)) → IsOpenHandle present (with_owner owner handle handed)
@@ -139,19 +138,19 @@ open_after present client a answer items is all =
     each_set (λ item. IsOpenOwner present item) items n (saved_by_client context (sessions.item_at items n)) all
     (saved_open present context (sessions.item_at items n) (each_at (λ item. IsOpenOwner present item) items n all tt)))
 
--- ---- what is nobody's
+-- ---- orphans
 
 own_no_orphan : (client : ℕ) (item : Option sessions.Item) → IfSome item (λ item. item.client ≡ Some client) → sessions.is_orphan item ≡ false
 own_no_orphan client None own = refl
-own_no_orphan client (Some item) own = ap (λ (owner : Option ℕ). not (is_some owner)) own
+own_no_orphan client (Some item) own = ap (λ (owner : Option ℕ). not (is_some owner) && not (is_some item.handed)) own
 
-saved_no_orphan : (context : List ℕ) (item : Option sessions.Item) → sessions.is_orphan item ≡ false → sessions.is_orphan (saved_by_client context item) ≡ false
-saved_no_orphan context None is = refl
-saved_no_orphan context (Some item) is = is
+handed_no_orphan : (owned : Bool) → (not owned && false) ≡ false
+handed_no_orphan true = refl
+handed_no_orphan false = refl
 
-no_orphan_at : (items : List (Option sessions.Item)) (n : ℕ) → count_by sessions.is_orphan items ≡ 0 → sessions.is_orphan (sessions.item_at items n) ≡ false
-no_orphan_at items n none =
-    is_false (sessions.is_orphan (sessions.item_at items n)) (omega (arith, none, count_one sessions.is_orphan items n None refl))
+saved_no_orphan : (context : List ℕ) (item : Option sessions.Item) → sessions.is_orphan (saved_by_client context item) ≡ false
+saved_no_orphan context None = refl
+saved_no_orphan context (Some item) = handed_no_orphan (is_some item.client)
 
 pub none_after : (client : ℕ) (a : Admitted) (answer : List ℕ) (items : List (Option sessions.Item)) → count_by sessions.is_orphan items ≡ 0
     → count_by sessions.is_orphan (sessions_held_after client a answer items) ≡ 0
@@ -160,7 +159,7 @@ none_after client a answer items none =
     (λ n item own. zero_set sessions.is_orphan items n item (own_no_orphan client item own) none)
     (λ n context.
     zero_set sessions.is_orphan items n (saved_by_client context (sessions.item_at items n))
-    (saved_no_orphan context (sessions.item_at items n) (no_orphan_at items n none)) none)
+    (saved_no_orphan context (sessions.item_at items n)) none)
 
 -- ---- before the command
 
@@ -208,6 +207,7 @@ prepares_moves {held = held} {new_held = new_held} client table few prepares is 
   orphans = prepares.orphans;
   slots = prepares.slots;
   numbers = prepares.numbers;
+  left = omega (arith, ap length prepares.left);
   length_is = prepares.length_is;
 }
 
@@ -227,6 +227,7 @@ prepares_stays {seen = seen} {old = old} {new = new} {held = held} {new_held = n
       most = ap (λ (n : Numbers). n.active) prepares.numbers i;
       objects = objects_are i;
       sessions = prepares.sessions slots after was now i;
+      left = prepares.left i;
       object_sequence = least.object;
       session_sequence = least.session;
     }
@@ -246,6 +247,7 @@ serves_failed {B = B} {seen = seen} {old = old} {new = new} {held = held} {new_h
         table_is = refl;
         client = prepares_stays client table prepares is;
         sessions = prepares.session_owners;
+        left = prepares.left;
         objects = prepares.owners;
       };
       costs = costs;
@@ -554,10 +556,10 @@ taken_unkept {mid = mid} {command = command} {reply = reply} sent =
 -- ---- the session that it started, or that ended
 
 -- there is a place for it: where as many are active as may be, none is told
-place_for : (Free : Type 0) (view : SessionsView) → count_by has_owner view.items < view.numbers.active → count_by sessions.is_orphan view.items ≡ 0
+place_for : (Free : Type 0) (view : SessionsView) → count_by is_held view.items < view.numbers.active → count_by sessions.is_orphan view.items ≡ 0
     → (Free × (loaded_items view.items < view.numbers.loaded)) ⊎ AreTaken view → loaded_items view.items < view.numbers.loaded
 place_for Free view few none (inl free) = free.1
-place_for Free view few none (inr taken) = absurd (omega (arith, taken.full, few, none, owners_and_orphans view.items))
+place_for Free view few none (inr taken) = absurd (omega (arith, taken.full, few, none, held_and_orphans view.items))
 
 pub may_start : {D : Type 0} {seen : D → Seen} {old between new : D} {held mid : Held}
     {client : ℕ} {table : List (Option ℕ)} {a : Admitted} {bytes command reply : List ℕ}
@@ -576,7 +578,7 @@ may_start {mid = mid} {client = client} {table = table} {a = a} {bytes = bytes} 
       vacant = free.none;
       place = place_for _ mid.sessions free.few nobodys
           (p.ready.sessions.room (and_parts (starts_session a) (code_of reply == RC_SUCCESS) tells).0);
-      few = omega (arith, free.few, nobodys, owners_and_orphans mid.sessions.items);
+      few = omega (arith, free.few, nobodys, held_and_orphans mid.sessions.items);
     }
 
 named_rest : (P : ℕ → Type 0) (is : Bool) (handle : ℕ) (more : List ℕ) → AllByRecursion P (if is then handle ∷ more else more) → AllByRecursion P more
@@ -599,24 +601,26 @@ auth_named P a all is =
     (named_rest P (is_session_handle second) second last
     (named_rest P (is_session_handle first) first (filter is_session_handle (second ∷ auth ∷ [])) all)) is
 
-loaded_there : (item : Option sessions.Item) → is_loaded_item item ≡ true → is_some item ≡ true
-loaded_there None is = absurd cc
-loaded_there (Some item) is = refl
-
 ends_by : (success tag session more : Bool) → (success && tag && session && more) ≡ true → session ≡ true
 ends_by true true true more is = refl
 ends_by true true false more is = absurd cc
 ends_by true false session more is = absurd cc
 ends_by false tag session more is = absurd cc
 
-pub may_end : {D : Type 0} {seen : D → Seen} {old between : D} {held mid : Held}
+user_owner : (client : ℕ) (owner : Option (ℕ × Bool)) → is_user client owner ≡ true → is_owner client owner ≡ true
+user_owner client None is = absurd cc
+user_owner client (Some owner) is = (and_parts (owner.0 == client) owner.1 is).0
+
+-- which is the client's
+pub ends_own : {D : Type 0} {seen : D → Seen} {old between : D} {held mid : Held}
     {client : ℕ} {table : List (Option ℕ)} {a : Admitted} {bytes command : List ℕ} (reply : List ℕ)
     → Prepared seen old between held mid client table a bytes command
-    → ends_session a reply ≡ true → sessions.Names mid.sessions.items (command_auth a.auths).session
-may_end {mid = mid} {a = a} reply p ends =
+    → ends_session a reply ≡ true → is_owner client (owner_in mid.sessions.items (command_auth a.auths).session) ≡ true
+ends_own {mid = mid} {client = client} {table = table} {a = a} {bytes = bytes} reply p ends =
     let auth = (command_auth a.auths).session in
-    loaded_there (item_of mid.sessions.items auth)
-    (auth_named (λ handle. is_loaded_item (item_of mid.sessions.items handle) ≡ true) a p.ready.sessions.loaded
+    user_owner client (owner_in mid.sessions.items auth)
+    (auth_named (λ handle. is_user client (owner_in mid.sessions.items handle) ≡ true) a
+    (named_own (tables_seen client table mid.sessions.items) bytes a p.admitted)
     (ends_by (code_of reply == RC_SUCCESS) (a.shape.tag == ST_SESSIONS) (is_session_handle auth) (not (continues (command_auth a.auths))) ends))
 
 -- ---- what stays in the device
@@ -666,11 +670,12 @@ pub ran_moves : {D : Type 0} {seen : D → Seen} {old between : D} {held mid : H
     {client : ℕ} {table : List (Option ℕ)} {a : Admitted} {bytes command : List ℕ} (new : D) (new_items : List Item) (new_view : SessionsView) (new_table : List (Option ℕ))
     (used : List ℕ) (answer reply : List ℕ) → Prepared seen old between held mid client table a bytes command → (seen new).base ≡ (seen between).base → (seen between).faults ≤ (seen new).faults
     → new_view.items ≡ sessions_held_after client a answer mid.sessions.items → new_view.numbers ≡ mid.sessions.numbers
+    → new_view.left ≡ mid.sessions.left
     → let new_held : Held = record { objects = record mid.objects { items = new_items; order = used }; sessions = new_view } in
     Done (seen between).state (seen new).state mid new_held client table new_table a bytes reply
     → KeepsOwners (other_than client) mid.objects.items new_items → GainsNone (other_than client) mid.objects.items new_items
     → IsTable new_items client new_table → length new_items ≡ length mid.objects.items → Moves seen client old new held new_held new_table
-ran_moves {seen = seen} {old = old} {between = between} {held = held} {mid = mid} {client = client} {table = table} {a = a} {bytes = bytes} new new_items new_view new_table used answer reply p base_is count view_is numbers done others gained is long =
+ran_moves {seen = seen} {old = old} {between = between} {held = held} {mid = mid} {client = client} {table = table} {a = a} {bytes = bytes} new new_items new_view new_table used answer reply p base_is count view_is numbers left_is done others gained is long =
     let prepares = p.prepares in
     let none_left : count_by sessions.is_orphan new_view.items ≡ 0 =
     ap (count_by sessions.is_orphan) view_is ∙ none_after client a answer mid.sessions.items (omega (arith, p.ready.nobodys)) in
@@ -700,6 +705,7 @@ ran_moves {seen = seen} {old = old} {between = between} {held = held} {mid = mid
       orphans = omega (arith, none_left, p.ready.nobodys);
       slots = prepares.slots;
       numbers = numbers ∙ prepares.numbers;
+      left = omega (arith, ap length left_is, ap length prepares.left);
       length_is = long ∙ prepares.length_is;
     }
 
@@ -801,6 +807,7 @@ ran_then {between = between} {new = new} {held = held} {mid = mid} {client = cli
           (ap (λ (kept : Bool). takes kept (number_taken (record held.sessions { items = mid.sessions.items }) reply) command reply) (adopted_loads command adopts)
           ∙ taken_held p sent);
       sessions_are = refl;
+      left = p.prepares.left;
       nobodys = omega (arith, p.ready.nobodys, none_after client a reply mid.sessions.items (omega (arith, p.ready.nobodys)));
       used = λ calm. record {
         ready = mid;
@@ -839,6 +846,7 @@ ran_else {between = between} {new = new} {held = held} {mid = mid} {client = cli
       takes (loads_kept mid.objects.items command) (number_taken (record held.sessions { items = mid.sessions.items }) reply) command reply ≡ true)
       (sym sent.sent.asked_is) (taken_held p sent);
   sessions_are = refl;
+  left = p.prepares.left;
   nobodys = omega (arith, none_after client a reply mid.sessions.items (omega (arith, p.ready.nobodys)), p.ready.nobodys);
   used = λ calm. record {
     ready = mid;
@@ -898,7 +906,7 @@ outcome_else {seen = seen} {old = old} {between = between} {new = new} {held = h
     subst (λ (h : Held). Outcome seen old new client held h table table a bytes reply) (held_else mid new_sessions client a shown reply is same)
     (record {
       serves = record {
-        moves = ran_moves new mid.objects.items new_held.sessions table mid.objects.order reply reply p sent.base_is sent.count refl refl done
+        moves = ran_moves new mid.objects.items new_held.sessions table mid.objects.order reply reply p sent.base_is sent.count refl refl refl done
             (λ index owner names own mine. (names, own)) (λ index owner own mine. own) p.here refl;
         right = inr (sent_right sent);
         stays = tt;
@@ -934,7 +942,7 @@ outcome_then {seen = seen} {old = old} {between = between} {new = new} {held = h
     subst (λ (h : Held). Outcome seen old new client held h table new_table a bytes new_reply) (held_then mid new_objects new_sessions client a shown reply is same rest)
     (record {
       serves = record {
-        moves = ran_moves new new_objects.items new_held.sessions new_table new_objects.order reply new_reply p sent.base_is sent.count refl refl done
+        moves = ran_moves new new_objects.items new_held.sessions new_table new_objects.order reply new_reply p sent.base_is sent.count refl refl refl done
             (adopted_others (other_than client) adopts) (adopted_gained adopts) (adopted_table adopts p.here may.few) (adopted_length adopts);
         right = inr (sent_right sent);
         stays = tt;

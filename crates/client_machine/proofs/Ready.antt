@@ -150,7 +150,7 @@ session_test : (client handle octet : ℕ) (s : Session) (test : Bool)
     → (if test then Some s else None)
     ≡ in_use (owned_by client (octet_of handle) (owned_by_client (Some client) handle None (if test then Some s else None)))
 session_test client handle octet s true =
-    let place : Owned = record { client = client; octet = octet_of handle; session = s; handed = None } in
+    let place : Owned = record { client = Some client; octet = octet_of handle; session = s; handed = None } in
     ap in_use (sym (
     both_by (client == client) (octet_of handle == octet_of handle) place (eq-eqb client client refl) (eq-eqb (octet_of handle) (octet_of handle) refl)
     ))
@@ -193,9 +193,11 @@ active_told slots view stand =
     flags.count_same is_active is_some slots.sessions view.items inactive None (stand.sound.numbers ∙ sym stand.count)
     (λ n inside. same_flag (is_some (sessions.item_at view.items n)) (is_active (place_at slots n)) (stand.owned n))
 
-owner_there : (owner : Option ℕ) (handle : ℕ) (handed : Option (List ℕ)) (found : Option Session) → not (is_some owner) ≡ false → is_some found ≡ true
-    → is_some (owned_by_client owner handle handed found) ≡ true
-owner_there None handle handed found is there = absurd cc
+owner_there : (owner : Option ℕ) (handle : ℕ) (handed : Option (List ℕ)) (found : Option Session)
+    → (not (is_some owner) && not (is_some handed)) ≡ false → is_some found ≡ true → is_some (owned_by_client owner handle handed found) ≡ true
+owner_there None handle None found is there = absurd cc
+owner_there None handle (Some context) None is there = absurd cc
+owner_there None handle (Some context) (Some s) is there = refl
 owner_there (Some client) handle handed None is there = absurd cc
 owner_there (Some client) handle handed (Some s) is there = refl
 
@@ -204,7 +206,7 @@ owned_there : (slots : SlotState) (n : ℕ) (item : Option sessions.Item) → If
 owned_there slots n None stands is = refl
 owned_there slots n (Some item) stands is = owner_there item.client item.handle item.handed (item_session slots (Some item)) is stands.there
 
--- and how many the clients have, where none is nobody's
+-- and how many the world has, where there are no orphans
 pub active_seen : (slots : SlotState) (view : SessionsView) → SessionsStand slots view [] → count_by is_orphan view.items ≡ 0
     → active (sessions_in slots view.items) ≡ count_by is_some view.items
 active_seen slots view stand nobodys =

@@ -1,6 +1,6 @@
 -- What the broker answers by itself, over what a client has, is what the plain machine does.
 use Rattle.std.proofs.Common.{◌≡◌, ◌⊎◌, inl, inr, ◌+◌, ◌<◌, ◌≤◌, ℕ, zero, suc, Bool, true, false, List, [], ◌∷◌, length, drop, take, get_or, set, refl, ap, sym, ◌∙◌, subst, drop-drop, length-drop, arith}
-use Rattle.std.specs.Prelude.{◌==◌, ◌&&◌, not, nat_lt, Option, Some, None, is_some, IfSome, Result, Ok, Err, OnOk, if◌then◌else◌}
+use Rattle.std.specs.Prelude.{◌==◌, ◌&&◌, ◌||◌, not, nat_lt, bytes_eq, Option, Some, None, is_some, IfSome, Result, Ok, Err, OnOk, if◌then◌else◌}
 use Rattle.std.specs.Int.{w32, from_be_bytes, to_be_bytes}
 use Rattle.std.specs.List.{count_by}
 use Rattle.std.proofs.lemmas.Bool.{cond_both, eqb-true, ltb-true}
@@ -28,23 +28,26 @@ use Rattle.client_laws.proofs.Commands.{clients_command, row_as}
 use Rattle.client_laws.proofs.NoAuths.{bare}
 use Rattle.client_laws.proofs.Steps.{step_listed, step_loaded, step_saved}
 use Rattle.session_swap.specs.Items as sessions
+use Rattle.device_port.specs.Use.{without_one}
 use Rattle.session_swap.specs.Items.{Item, ItemStands, SessionsStand, SessionsView, is_handed_to, is_loaded_item, is_orphan, is_owner, item_at, item_of, item_session, owner_by, taken_back, with_handle}
 use Rattle.session_swap.proofs.Counts.{count_cons}
 use Rattle.session_swap.proofs.Moved.{some_of}
 use Rattle.history_laws.proofs.Tables.{get_or_mapped}
+use Rattle.history_spec.specs.Entry.{without}
 use Rattle.history_spec.specs.declared.Pick.{Pick}
 use Rattle.history_spec.specs.declared.Pick.TheVariants as picks
 use Rattle.world_spec.specs.World as world
-use Rattle.world_spec.specs.World.{ClientState, ClientStep, Owned, capability_step, choosing_nothing, client_capability, client_step, load_parameters, load_step, own_place, owned_by, owned_under, refused_step, save_parameters, save_step, session_taken, tables_of}
+use Rattle.world_spec.specs.World.{ClientState, ClientStep, Owned, capability_step, choosing_nothing, client_capability, client_step, is_of, load_parameters, load_step, loadable_by, loadable_under, own_place, refused_step, save_parameters, save_step, session_taken, tables_of}
 use Rattle.client_machine.specs.declared.held.Held.{Held}
 use Rattle.client_machine.specs.Moves.{CarriesOut, Moves, Serves, StepsAs, client_state, other_than, pick_of, tells_context, told_handle, told_sequence}
-use Rattle.client_machine.specs.Replies.{given_back, handle_told, nothing_told, own_answer, own_capability, reply_of, sessions_given, with_given}
+use Rattle.client_machine.specs.Replies.{given_back, handle_told, nothing_told, own_answer, own_capability, reply_of, sessions_given, view_given, with_given, without_given}
 use Rattle.client_machine.specs.Settled.{AreBelow, IsSettled, Sequences, Settled, owned_by_client, owned_in, sessions_in}
-use Rattle.client_machine.specs.Tables.{AreOpenOwners, IsOpenOwner, IsTable, tables_seen}
+use Rattle.client_machine.specs.Tables.{AreOpenOwners, IsOpenOwner, IsTable, is_open, tables_seen}
 use Rattle.client_machine.proofs.Keeping.{objects_same, owners_same}
+use Rattle.client_machine.proofs.Leaving.{shorter}
 use Rattle.client_machine.proofs.Listed.{capability_had}
 use Rattle.client_machine.proofs.Orphans.{keeps_same}
-use Rattle.client_machine.proofs.Ran.{each_at, each_set}
+use Rattle.client_machine.proofs.Ran.{each_set}
 use Rattle.client_machine.proofs.Running.{pick_none, picks_none}
 use Rattle.client_machine.proofs.Saving.{held_with}
 use Rattle.client_machine.proofs.Seeing.{other_by, same_handle, admitted_seen}
@@ -79,97 +82,112 @@ same_handed : (bytes : List ℕ) (handed : Option (List ℕ)) → world.is_hande
 same_handed bytes None = refl
 same_handed bytes (Some context) = refl
 
--- a session that isn't the client's own saved one
+-- the list of those that are left is the same in the world
+without_same : (n : ℕ) (left : List ℕ) → without n left ≡ without_one n left
+without_same n [] = refl
+without_same n (one ∷ left) = ap (λ (rest : List ℕ). if one == n then left else one ∷ rest) (without_same n left)
+
+-- a session that isn't the client's own saved one, and wasn't left
 record IsOther (given : Bool) (taken : ClientState → ClientStep) : Type 0 where
   isnt : given ≡ false
   refused : (state : ClientState) → taken state ≡ refused_step state not_there
 
--- and one that is
-record IsBack (given : Bool) (taken : ClientState → ClientStep) (client handle own : ℕ) (owner : Option ℕ) (s : Session) : Type 0 where
-  is : given ≡ true
-  owner_is : owner ≡ Some client
-  own_is : own ≡ handle
-  done : (state : ClientState) → taken state
-      ≡ (record state { sessions = set state.sessions (number_of_session handle) (own_place client handle s) }, response ST_NO_SESSIONS RC_SUCCESS (to_be_bytes w32 handle))
+-- what a client's step leaves that takes this session
+abbrev back_step : ℕ → ℕ → Session → ClientState → ClientStep
+back_step client handle s state = (
+  record state {
+    sessions = set state.sessions (number_of_session handle) (own_place client handle s);
+    left = without (number_of_session handle) state.left;
+  },
+  response ST_NO_SESSIONS RC_SUCCESS (to_be_bytes w32 handle),
+)
 
-abbrev given_by : ℕ → List ℕ → Item → Bool → Bool
-given_by client bytes item test = is_handed_to client bytes (if test then Some item else None)
+-- and one that is
+record IsBack (given : Bool) (taken : ClientState → ClientStep) (client handle : ℕ) (s : Session) : Type 0 where
+  is : given ≡ true
+  done : (state : ClientState) → taken state ≡ back_step client handle s state
 
 abbrev taken_by : ℕ → ℕ → List ℕ → Option Owned → ClientState → ClientStep
-taken_by client handle bytes place state = session_taken client state handle bytes (owned_by client (octet_of handle) place)
+taken_by client handle bytes place state = session_taken client state handle bytes (loadable_by client (octet_of handle) place)
 
-back_by : (client handle : ℕ) (bytes : List ℕ) (item : Item) (c : ℕ) (s : Session) (mine fits : Bool) → item.client ≡ Some c → (c == client) ≡ mine
-    → sessions.equals_handed bytes item.handed ≡ fits → (octet_of item.handle == octet_of handle) ≡ true → item.handle ≡ handle
-    → let place : Option Owned = Some (record { client = c; octet = octet_of item.handle; session = s; handed = item.handed }) in
-    IsOther (given_by client bytes item true) (taken_by client handle bytes place)
-    ⊎ IsBack (given_by client bytes item true) (taken_by client handle bytes place) client handle item.handle item.client s
-back_by client handle bytes item c s false fits owner mine handed octets own =
-    let place : Owned = record { client = c; octet = octet_of item.handle; session = s; handed = item.handed } in
-    inl (record {
-      isnt = ap (λ (o : Option ℕ). is_owner client (owner_by (not (is_some item.handed)) o) && sessions.equals_handed bytes item.handed) owner
-          ∙ ap (λ (own : Bool). own && sessions.equals_handed bytes item.handed) mine;
-      refused = λ state. ap (session_taken client state handle bytes) (none_by (c == client) (octet_of item.handle == octet_of handle) place mine);
-    })
-back_by client handle bytes item c s true false owner mine handed octets own =
-    let place : Owned = record { client = c; octet = octet_of item.handle; session = s; handed = item.handed } in
-    inl (record {
-      isnt = ap (λ (o : Option ℕ). is_owner client (owner_by (not (is_some item.handed)) o) && sessions.equals_handed bytes item.handed) owner
-          ∙ (λ i. mine i && handed i);
-      refused = λ state.
-          let back : ClientStep = (
-            record state { sessions = set state.sessions (number_of_session handle) (own_place client handle s) },
-            response ST_NO_SESSIONS RC_SUCCESS (to_be_bytes w32 handle),
-          ) in
-          ap (session_taken client state handle bytes) (both_by (c == client) (octet_of item.handle == octet_of handle) place mine octets)
-          ∙ ap (λ (fits : Bool). if fits then back else refused_step state not_there) (same_handed bytes item.handed ∙ handed);
-    })
-back_by client handle bytes item c s true true owner mine handed octets own =
-    let place : Owned = record { client = c; octet = octet_of item.handle; session = s; handed = item.handed } in
-    inr (record {
-      is = ap (λ (o : Option ℕ). is_owner client (owner_by (not (is_some item.handed)) o) && sessions.equals_handed bytes item.handed) owner
-          ∙ (λ i. mine i && handed i);
-      owner_is = owner ∙ ap (λ (n : ℕ). Some n) (eqb-true c client mine);
-      own_is = own;
-      done = λ state.
-          let back : ClientStep = (
-            record state { sessions = set state.sessions (number_of_session handle) (own_place client handle s) },
-            response ST_NO_SESSIONS RC_SUCCESS (to_be_bytes w32 handle),
-          ) in
-          ap (session_taken client state handle bytes) (both_by (c == client) (octet_of item.handle == octet_of handle) place mine octets)
-          ∙ ap (λ (fits : Bool). if fits then back else refused_step state not_there) (same_handed bytes item.handed ∙ handed);
-    })
-
-owner_back : (client handle : ℕ) (bytes : List ℕ) (item : Item) (s : Session) (owner : Option ℕ) (test : Bool) → item.client ≡ owner
-    → (octet_of item.handle == octet_of handle) ≡ test → (item.handle == handle) ≡ test
-    → let place = owned_by_client owner item.handle item.handed (Some s) in
-    IsOther (given_by client bytes item test) (taken_by client handle bytes place)
-    ⊎ IsBack (given_by client bytes item test) (taken_by client handle bytes place) client handle item.handle item.client s
-owner_back client handle bytes item s None true owner octets own = inl (record {
-  isnt = ap (λ (o : Option ℕ). is_owner client (owner_by (not (is_some item.handed)) o) && sessions.equals_handed bytes item.handed) owner;
-  refused = λ state. refl;
+-- by whether it may be taken, and whether these bytes were handed out
+back_by : (client handle : ℕ) (bytes : List ℕ) (place : Owned) (given may fits : Bool) → given ≡ (may && fits)
+    → (is_of client place.client || not (is_some place.client)) ≡ may → sessions.equals_handed bytes place.handed ≡ fits
+    → (place.octet == octet_of handle) ≡ true
+    → IsOther given (taken_by client handle bytes (Some place)) ⊎ IsBack given (taken_by client handle bytes (Some place)) client handle place.session
+back_by client handle bytes place given false fits is own handed octets = inl (record {
+  isnt = is;
+  refused = λ state.
+      ap (session_taken client state handle bytes)
+      (none_by (is_of client place.client || not (is_some place.client)) (place.octet == octet_of handle) place own);
 })
-owner_back client handle bytes item s None false owner octets own = inl (record { isnt = refl; refused = λ state. refl })
-owner_back client handle bytes item s (Some c) false owner octets own =
-    let place : Owned = record { client = c; octet = octet_of item.handle; session = s; handed = item.handed } in
+back_by client handle bytes place given true false is own handed octets = inl (record {
+  isnt = is;
+  refused = λ state.
+      ap (session_taken client state handle bytes)
+      (both_by (is_of client place.client || not (is_some place.client)) (place.octet == octet_of handle) place own octets)
+      ∙ ap (λ (fits : Bool). if fits then back_step client handle place.session state else refused_step state not_there)
+      (same_handed bytes place.handed ∙ handed);
+})
+back_by client handle bytes place given true true is own handed octets = inr (record {
+  is = is;
+  done = λ state.
+      ap (session_taken client state handle bytes)
+      (both_by (is_of client place.client || not (is_some place.client)) (place.octet == octet_of handle) place own octets)
+      ∙ ap (λ (fits : Bool). if fits then back_step client handle place.session state else refused_step state not_there)
+      (same_handed bytes place.handed ∙ handed);
+})
+
+-- whether the client may have it back, by whose it is and what was handed out for it
+abbrev given_to : ℕ → List ℕ → Option ℕ → Option (List ℕ) → Bool
+given_to client bytes owner handed =
+    (is_owner client (owner_by (not (is_some handed)) owner) || (not (is_some owner) && is_some handed)) && sessions.equals_handed bytes handed
+
+owner_back : (client handle own : ℕ) (bytes : List ℕ) (s : Session) (owner : Option ℕ) (handed : Option (List ℕ)) (test : Bool)
+    → (octet_of own == octet_of handle) ≡ test
+    → let place = owned_by_client owner own handed (Some s) in
+    let given = if test then given_to client bytes owner handed else false in
+    IsOther given (taken_by client handle bytes place) ⊎ IsBack given (taken_by client handle bytes place) client handle s
+owner_back client handle own bytes s None None true octets = inl (record { isnt = refl; refused = λ state. refl })
+owner_back client handle own bytes s None None false octets = inl (record { isnt = refl; refused = λ state. refl })
+owner_back client handle own bytes s None (Some context) true octets =
+    let place : Owned = record { client = None; octet = octet_of own; session = s; handed = Some context } in
+    back_by client handle bytes place (bytes_eq bytes context) true (bytes_eq bytes context) refl refl refl octets
+owner_back client handle own bytes s None (Some context) false octets =
+    let place : Owned = record { client = None; octet = octet_of own; session = s; handed = Some context } in
     inl (record {
       isnt = refl;
-      refused = λ state. ap (session_taken client state handle bytes) (other_by (c == client) (octet_of item.handle == octet_of handle) place octets);
+      refused = λ state. ap (session_taken client state handle bytes) (other_by true (octet_of own == octet_of handle) place octets);
     })
-owner_back client handle bytes item s (Some c) true owner octets own =
-    back_by client handle bytes item c s (c == client) (sessions.equals_handed bytes item.handed) owner refl refl octets (eqb-true item.handle handle own)
+owner_back client handle own bytes s (Some c) handed true octets =
+    let place : Owned = record { client = Some c; octet = octet_of own; session = s; handed = handed } in
+    back_by client handle bytes place (given_to client bytes (Some c) handed) (c == client || false) (sessions.equals_handed bytes handed) refl refl refl octets
+owner_back client handle own bytes s (Some c) handed false octets =
+    let place : Owned = record { client = Some c; octet = octet_of own; session = s; handed = handed } in
+    inl (record {
+      isnt = refl;
+      refused = λ state. ap (session_taken client state handle bytes) (other_by (c == client || false) (octet_of own == octet_of handle) place octets);
+    })
+
+given_item : (client : ℕ) (bytes : List ℕ) (item : Item) (test : Bool)
+    → (if test then given_to client bytes item.client item.handed else false) ≡ is_handed_to client bytes (if test then Some item else None)
+given_item client bytes item true = refl
+given_item client bytes item false = refl
+
+if_so : (test given : Bool) → (if test then given else false) ≡ true → test ≡ true
+if_so true given is = refl
+if_so false given is = absurd cc
 
 -- what a session of this number is for a client that gives these bytes
 record IsTaken (slots : SlotState) (client handle : ℕ) (bytes : List ℕ) (found : Option Item) : Type 0 where
   session : Session
   is : is_handed_to client bytes (with_handle handle found) ≡ true
-  after : owned_in slots (taken_back found) ≡ own_place client handle session
-  done : (state : ClientState) → taken_by client handle bytes (owned_in slots found) state
-      ≡ (record state { sessions = set state.sessions (number_of_session handle) (own_place client handle session) }, response ST_NO_SESSIONS RC_SUCCESS (to_be_bytes w32 handle))
+  after : owned_in slots (taken_back client found) ≡ own_place client handle session
+  done : (state : ClientState) → taken_by client handle bytes (owned_in slots found) state ≡ back_step client handle session state
 
-back_after : (slots : SlotState) (client handle : ℕ) (item : Item) (s : Session) → item.client ≡ Some client → item.handle ≡ handle
-    → item_session slots (Some item) ≡ Some s → owned_in slots (taken_back (Some item)) ≡ own_place client handle s
-back_after slots client handle item s owner own there =
-    λ i. owned_by_client (owner i) (own i) None (there i)
+back_after : (slots : SlotState) (client handle : ℕ) (item : Item) (s : Session) → item.handle ≡ handle → item_session slots (Some item) ≡ Some s
+    → owned_in slots (taken_back client (Some item)) ≡ own_place client handle s
+back_after slots client handle item s own there = λ i. owned_by_client (Some client) (own i) None (there i)
 
 found_back : (slots : SlotState) (client handle : ℕ) (bytes : List ℕ) (found : Option Item) → IfSome found (λ item. ItemStands slots (number_of_session handle) item)
     → IsOther (is_handed_to client bytes (with_handle handle found)) (taken_by client handle bytes (owned_in slots found)) ⊎ IsTaken slots client handle bytes found
@@ -177,17 +195,19 @@ found_back slots client handle bytes None stands = inl (record { isnt = refl; re
 found_back slots client handle bytes (Some item) stands =
     let found = some_of (item_session slots (Some item)) stands.there in
     let s = found.0 in
+    let test = item.handle == handle in
     let same : owned_in slots (Some item) ≡ owned_by_client item.client item.handle item.handed (Some s) =
     ap (owned_by_client item.client item.handle item.handed) found.1 in
-    elim (owner_back client handle bytes item s item.client (item.handle == handle) refl (sym (same_handle item.handle handle stands.number_is)) refl) [
+    let given = given_item client bytes item test in
+    elim (owner_back client handle item.handle bytes s item.client item.handed test (sym (same_handle item.handle handle stands.number_is))) [
       | inl other ↦ inl (record {
-        isnt = other.isnt;
+        isnt = sym given ∙ other.isnt;
         refused = λ state. ap (λ (place : Option Owned). taken_by client handle bytes place state) same ∙ other.refused state;
       })
       | inr back ↦ inr (record {
         session = s;
-        is = back.is;
-        after = back_after slots client handle item s back.owner_is back.own_is found.1;
+        is = sym given ∙ back.is;
+        after = back_after slots client handle item s (eqb-true item.handle handle (if_so test (given_to client bytes item.client item.handed) back.is)) found.1;
         done = λ state. ap (λ (place : Option Owned). taken_by client handle bytes place state) same ∙ back.done state;
       })
     ]
@@ -195,14 +215,17 @@ found_back slots client handle bytes (Some item) stands =
 -- ---- ContextLoad
 
 -- what the broker leaves and answers
-abbrev given_step : ClientState → SlotState → List (Option Item) → Result ℕ ℕ → ClientStep
-given_step state slots items given = (record state { sessions = sessions_in slots (with_given items given) }, reply_of (handle_told given))
+abbrev given_step : ℕ → ClientState → SlotState → List (Option Item) → Result ℕ ℕ → ClientStep
+given_step client state slots items given = (
+  record state { sessions = sessions_in slots (with_given client items given); left = without_given state.left given },
+  reply_of (handle_told given),
+)
 
 session_back : (slots : SlotState) (held : Held) (client : ℕ) (table : List (Option ℕ)) (least : Sequences) (bytes : List ℕ) (handle : ℕ) → IsSettled slots held
     → let items = held.sessions.items in
     let state = client_state slots held table least in
-    session_taken client state handle bytes (owned_under state.sessions client handle)
-    ≡ given_step state slots items (if is_handed_to client bytes (item_of items handle) then Ok handle else Err not_there)
+    session_taken client state handle bytes (loadable_under state.sessions client handle)
+    ≡ given_step client state slots items (if is_handed_to client bytes (item_of items handle) then Ok handle else Err not_there)
 session_back slots held client table least bytes handle settled =
     let items = held.sessions.items in
     let state = client_state slots held table least in
@@ -213,42 +236,45 @@ session_back slots held client table least bytes handle settled =
     ∙ elim (found_back slots client handle bytes found (settled.sessions.each n)) [
       | inl other ↦
           other.refused state
-          ∙ sym (ap (λ (test : Bool). given_step state slots items (if test then Ok handle else Err not_there)) other.isnt)
+          ∙ sym (ap (λ (test : Bool). given_step client state slots items (if test then Ok handle else Err not_there)) other.isnt)
       | inr back ↦
           back.done state
           ∙ (λ i. (
-            record state { sessions = (ap (set state.sessions n) (sym back.after) ∙ sym (map-set (owned_in slots) items n (taken_back found))) i },
+            record state {
+              sessions = (ap (set state.sessions n) (sym back.after) ∙ sym (map-set (owned_in slots) items n (taken_back client found))) i;
+              left = without_same n state.left i;
+            },
             response ST_NO_SESSIONS RC_SUCCESS (to_be_bytes w32 handle),
           ))
-          ∙ sym (ap (λ (test : Bool). given_step state slots items (if test then Ok handle else Err not_there)) back.is)
+          ∙ sym (ap (λ (test : Bool). given_step client state slots items (if test then Ok handle else Err not_there)) back.is)
     ]
 
 handle_loaded : (slots : SlotState) (held : Held) (client : ℕ) (table : List (Option ℕ)) (least : Sequences) (bytes : List ℕ) (c : Context) (transient session : Bool)
     → IsSettled slots held → (c.saved_handle == TRANSIENT_FIRST) ≡ transient → transient ≡ false → is_session_handle c.saved_handle ≡ session
     → let state = client_state slots held table least in
-    load_step client state bytes (Ok c) ≡ given_step state slots held.sessions.items (given_back client held.sessions.items bytes (Ok c))
+    load_step client state bytes (Ok c) ≡ given_step client state slots held.sessions.items (given_back client held.sessions.items bytes (Ok c))
 handle_loaded slots held client table least bytes c transient true settled is other session =
     let items = held.sessions.items in
     let state = client_state slots held table least in
     let handle = c.saved_handle in
-    (λ i. if (is ∙ other) i then world.object_opened state (opened_object state.persist.seed bytes) else if session i then session_taken client state handle bytes (owned_under state.sessions client handle)
+    (λ i. if (is ∙ other) i then world.object_opened state (opened_object state.persist.seed bytes) else if session i then session_taken client state handle bytes (loadable_under state.sessions client handle)
     else refused_step state (RC_VALUE + RC_P + RC_1))
     ∙ session_back slots held client table least bytes handle settled
-    ∙ sym (ap (λ (test : Bool). given_step state slots items
+    ∙ sym (ap (λ (test : Bool). given_step client state slots items
     (if test then (if is_handed_to client bytes (item_of items handle) then Ok handle else Err not_there) else Err (RC_VALUE + RC_P + RC_1))) session)
 handle_loaded slots held client table least bytes c transient false settled is other session =
     let items = held.sessions.items in
     let state = client_state slots held table least in
     let handle = c.saved_handle in
-    (λ i. if (is ∙ other) i then world.object_opened state (opened_object state.persist.seed bytes) else if session i then session_taken client state handle bytes (owned_under state.sessions client handle)
+    (λ i. if (is ∙ other) i then world.object_opened state (opened_object state.persist.seed bytes) else if session i then session_taken client state handle bytes (loadable_under state.sessions client handle)
     else refused_step state (RC_VALUE + RC_P + RC_1))
-    ∙ sym (ap (λ (test : Bool). given_step state slots items
+    ∙ sym (ap (λ (test : Bool). given_step client state slots items
     (if test then (if is_handed_to client bytes (item_of items handle) then Ok handle else Err not_there) else Err (RC_VALUE + RC_P + RC_1))) session)
 
 loaded_by : (slots : SlotState) (held : Held) (client : ℕ) (table : List (Option ℕ)) (least : Sequences) (bytes : List ℕ) (read : Result Context ℕ) → IsSettled slots held
     → ((c : Context) → read ≡ Ok c → (c.saved_handle == TRANSIENT_FIRST) ≡ false)
     → let state = client_state slots held table least in
-    load_step client state bytes read ≡ given_step state slots held.sessions.items (given_back client held.sessions.items bytes read)
+    load_step client state bytes read ≡ given_step client state slots held.sessions.items (given_back client held.sessions.items bytes read)
 loaded_by slots held client table least bytes (Err code) settled other = refl
 loaded_by slots held client table least bytes (Ok c) settled other =
     handle_loaded slots held client table least bytes c (c.saved_handle == TRANSIENT_FIRST) (is_session_handle c.saved_handle) settled refl (other c refl) refl
@@ -304,13 +330,13 @@ not_success : (save success : Bool) → success ≡ false → (save && success) 
 not_success true success is = is
 not_success false success is = refl
 
-no_given : (load : Bool) (items given : List (Option Item)) → load ≡ false → (if load then given else items) ≡ items
-no_given true items given is = absurd cc
-no_given false items given is = refl
+no_given : {X : Type 0} (load : Bool) (before given : X) → load ≡ false → (if load then given else before) ≡ before
+no_given true before given is = absurd cc
+no_given false before given is = refl
 
-some_given : (load : Bool) (items given : List (Option Item)) → load ≡ true → (if load then given else items) ≡ given
-some_given true items given is = refl
-some_given false items given is = absurd cc
+some_given : {X : Type 0} (load : Bool) (before given : X) → load ≡ true → (if load then given else before) ≡ given
+some_given true before given is = refl
+some_given false before given is = absurd cc
 
 other_code : (code known other : ℕ) → (code == known) ≡ true → (known == other) ≡ false → (code == other) ≡ false
 other_code code known other is apart = ap (λ (c : ℕ). c == other) (eqb-true code known is) ∙ apart
@@ -326,22 +352,22 @@ pub record MayReply (slots : SlotState) (held : Held) (client : ℕ) (table : Li
 -- and what it answers, and leaves of the sessions
 pub record IsOwnReply (held : Held) (new_view : SessionsView) (client : ℕ) (table : List (Option ℕ)) (a : Admitted) (bytes reply : List ℕ) : Type 0 where
   pub reply_is : (persist : Persist) → reply ≡ reply_of (own_answer persist client table held.sessions a bytes)
-  pub view_is : new_view ≡ record held.sessions { items = sessions_given client a bytes held.sessions.items }
+  pub view_is : new_view ≡ view_given client a bytes held.sessions
 
 admitted_there : (slots : SlotState) (held : Held) (client : ℕ) (table : List (Option ℕ)) (least : Sequences) (a : Admitted) (bytes : List ℕ)
     → MayReply slots held client table a bytes → client_admitted (tables_of client (client_state slots held table least)) bytes ≡ Ok a
 admitted_there slots held client table least a bytes may =
     sym (admitted_seen slots client table held least bytes may.settled.objects may.settled.sessions may.is) ∙ may.admitted
 
--- what a client's state is, by the sessions
-abbrev state_with : SlotState → Held → List (Option ℕ) → Sequences → List (Option Item) → ClientState
-state_with slots held table least items = record (client_state slots held table least) { sessions = sessions_in slots items }
+-- what a client's state is, by the sessions, and by those that are left
+abbrev state_with : SlotState → Held → List (Option ℕ) → Sequences → List (Option Item) → List ℕ → ClientState
+state_with slots held table least items left = record (client_state slots held table least) { sessions = sessions_in slots items; left = left }
 
-state_given : (slots : SlotState) (held : Held) (new_view : SessionsView) (table : List (Option ℕ)) (least : Sequences) (items : List (Option Item))
-    → new_view.numbers ≡ held.sessions.numbers → new_view.items ≡ items
-    → client_state slots (held_with held new_view) table least ≡ state_with slots held table least items
-state_given slots held new_view table least items numbers items_are =
-    λ i. record (client_state slots held table least) { most = (numbers i).active; sessions = sessions_in slots (items_are i) }
+state_given : (slots : SlotState) (held : Held) (new_view : SessionsView) (table : List (Option ℕ)) (least : Sequences) (items : List (Option Item)) (left : List ℕ)
+    → new_view.numbers ≡ held.sessions.numbers → new_view.items ≡ items → new_view.left ≡ left
+    → client_state slots (held_with held new_view) table least ≡ state_with slots held table least items left
+state_given slots held new_view table least items left numbers items_are left_is =
+    λ i. record (client_state slots held table least) { most = (numbers i).active; sessions = sessions_in slots (items_are i); left = left_is i }
 
 step_saves : (slots : SlotState) (held : Held) (new_view : SessionsView) (client : ℕ) (table : List (Option ℕ)) (least : Sequences) (a : Admitted) (bytes reply : List ℕ)
     → MayReply slots held client table a bytes → IsOwnReply held new_view client table a bytes reply → (a.shape.row.code == CC_CONTEXT_SAVE) ≡ true
@@ -358,13 +384,15 @@ step_saves slots held new_view client table least a bytes reply may own is =
     pick_none (tells_session a reply) (tells_context a reply) (number_of_session (told_handle reply)) (told_sequence reply)
     (not_success (starts_session a) (code_of reply == RC_SUCCESS) failed) (not_success (code == CC_CONTEXT_SAVE) (code_of reply == RC_SUCCESS) failed) in
     let items_are : new_view.items ≡ items = ap (λ (v : SessionsView). v.items) own.view_is ∙ no_given (code == CC_CONTEXT_LOAD) items _ not_load in
+    let left_is : new_view.left ≡ held.sessions.left =
+    ap (λ (v : SessionsView). v.left) own.view_is ∙ no_given (code == CC_CONTEXT_LOAD) held.sessions.left _ not_load in
     let answer : own_answer slots.persist client table held.sessions a bytes ≡ Err RC_SIZE =
     own_save (code == CC_CONTEXT_SAVE) (code == CC_CONTEXT_LOAD) (nothing_told (save_parameters params)) _ _ is ∙ ap nothing_told read in
     step_saved client state bytes (pick_of a reply) a (admitted_there slots held client table least a bytes may) is
     ∙ ap (λ (read : Result ℕ ℕ). save_step client state (get_or a.shape.handles 0 0) read (pick_of a reply)) read
     ∙ ap (choosing_nothing (refused_step state RC_SIZE)) pick_is
     ∙ same_step state (client_state slots (held_with held new_view) table least) (error_reply RC_SIZE) reply
-    (state_given slots held new_view table least _ (ap (λ (v : SessionsView). v.numbers) own.view_is) items_are) (own.reply_is slots.persist ∙ ap reply_of answer)
+    (state_given slots held new_view table least _ _ (ap (λ (v : SessionsView). v.numbers) own.view_is) items_are left_is) (own.reply_is slots.persist ∙ ap reply_of answer)
 
 step_loads : (slots : SlotState) (held : Held) (new_view : SessionsView) (client : ℕ) (table : List (Option ℕ)) (least : Sequences) (a : Admitted) (bytes reply : List ℕ)
     → MayReply slots held client table a bytes → IsOwnReply held new_view client table a bytes reply → (a.shape.row.code == CC_CONTEXT_LOAD) ≡ true
@@ -379,8 +407,10 @@ step_loads slots held new_view client table least a bytes reply may own is =
     let not_save = other_code code CC_CONTEXT_LOAD CC_CONTEXT_SAVE is refl in
     let starts_none = ap (λ (start : Bool). start && (code_of reply == RC_SUCCESS)) (unsent_starts a bytes may.sort) in
     let pick_is : pick_of a reply ≡ picks.Nothing = picks_none a reply not_save starts_none in
-    let items_are : new_view.items ≡ with_given items given =
-    ap (λ (v : SessionsView). v.items) own.view_is ∙ some_given (code == CC_CONTEXT_LOAD) items (with_given items given) is in
+    let items_are : new_view.items ≡ with_given client items given =
+    ap (λ (v : SessionsView). v.items) own.view_is ∙ some_given (code == CC_CONTEXT_LOAD) items (with_given client items given) is in
+    let left_is : new_view.left ≡ without_given held.sessions.left given =
+    ap (λ (v : SessionsView). v.left) own.view_is ∙ some_given (code == CC_CONTEXT_LOAD) held.sessions.left (without_given held.sessions.left given) is in
     let answer : own_answer slots.persist client table held.sessions a bytes ≡ handle_told given =
     load_kept (code == CC_CONTEXT_SAVE) (code == CC_CONTEXT_LOAD) _ (handle_told given) _ not_save is in
     step_loaded client state bytes (pick_of a reply) a (admitted_there slots held client table least a bytes may) is
@@ -390,8 +420,8 @@ step_loads slots held new_view client table least a bytes reply may own is =
     (λ c read_is.
     handle_other bytes params c (unsent_loads a bytes may.sort is)
     (params_here (tables_seen client table items) bytes a may.admitted is) read_is))
-    ∙ same_step (state_with slots held table least (with_given items given)) (client_state slots (held_with held new_view) table least) (reply_of (handle_told given)) reply
-    (state_given slots held new_view table least _ (ap (λ (v : SessionsView). v.numbers) own.view_is) items_are) (own.reply_is slots.persist ∙ ap reply_of answer)
+    ∙ same_step (state_with slots held table least (with_given client items given) (without_given held.sessions.left given)) (client_state slots (held_with held new_view) table least) (reply_of (handle_told given)) reply
+    (state_given slots held new_view table least _ _ (ap (λ (v : SessionsView). v.numbers) own.view_is) items_are left_is) (own.reply_is slots.persist ∙ ap reply_of answer)
 
 told_by : (save load : Bool) (saved loaded told : Result (List ℕ) ℕ) → save ≡ false → load ≡ false → (if save then saved else if load then loaded else told) ≡ told
 told_by save load saved loaded told is also = rw (is, also) refl
@@ -414,6 +444,8 @@ step_lists slots held new_view client table least a bytes reply may own is =
     let starts_none = ap (λ (start : Bool). start && (code_of reply == RC_SUCCESS)) (unsent_starts a bytes may.sort) in
     let pick_is : pick_of a reply ≡ picks.Nothing = picks_none a reply not_save starts_none in
     let items_are : new_view.items ≡ items = ap (λ (v : SessionsView). v.items) own.view_is ∙ no_given (code == CC_CONTEXT_LOAD) items _ not_load in
+    let left_is : new_view.left ≡ held.sessions.left =
+    ap (λ (v : SessionsView). v.left) own.view_is ∙ no_given (code == CC_CONTEXT_LOAD) held.sessions.left _ not_load in
     let answer : own_answer slots.persist client table held.sessions a bytes ≡ told =
     told_by (code == CC_CONTEXT_SAVE) (code == CC_CONTEXT_LOAD) _ _ told not_save not_load in
     step_listed client state bytes (pick_of a reply) a (admitted_there slots held client table least a bytes may) is
@@ -421,7 +453,7 @@ step_lists slots held new_view client table least a bytes reply may own is =
     ∙ ap (λ (step : ClientStep). Some step)
     (ap (capability_step state) (capability_had slots held client table least params may.settled may.is) ∙ told_step state told)
     ∙ same_step state (client_state slots (held_with held new_view) table least) (reply_of told) reply
-    (state_given slots held new_view table least _ (ap (λ (v : SessionsView). v.numbers) own.view_is) items_are) (own.reply_is slots.persist ∙ ap reply_of answer)
+    (state_given slots held new_view table least _ _ (ap (λ (v : SessionsView). v.numbers) own.view_is) items_are left_is) (own.reply_is slots.persist ∙ ap reply_of answer)
 
 replied_step : (slots : SlotState) (held : Held) (new_view : SessionsView) (client : ℕ) (table : List (Option ℕ)) (least : Sequences) (a : Admitted) (bytes reply : List ℕ)
     → MayReply slots held client table a bytes → IsOwnReply held new_view client table a bytes reply
@@ -457,51 +489,53 @@ settled_given : (state : Option SlotState) (held : Held) (new_view : SessionsVie
 settled_given None held new_view stand settled = tt
 settled_given (Some slots) held new_view stand settled = record { objects = settled.objects; sessions = stand slots settled.sessions; gap = settled.gap }
 
-taken_orphan : (item : Option Item) → is_orphan (taken_back item) ≡ is_orphan item
-taken_orphan None = refl
-taken_orphan (Some item) = refl
-
-back_orphans : (items : List (Option Item)) (n : ℕ) → count_by is_orphan (set items n (taken_back (item_at items n))) ≡ count_by is_orphan items
-back_orphans [] n = refl
-back_orphans (item ∷ items) zero =
+-- a session that was no orphan is none
+back_orphans : (client : ℕ) (items : List (Option Item)) (n : ℕ)
+    → count_by is_orphan (set items n (taken_back client (item_at items n))) ≤ count_by is_orphan items
+back_orphans client [] n = omega arith
+back_orphans client (None ∷ items) zero = omega arith
+back_orphans client (Some item ∷ items) zero =
     omega (
       arith,
-      count_cons is_orphan (taken_back item) items,
-      count_cons is_orphan item items,
-      ap (λ (orphan : Bool). sessions.flag orphan) (taken_orphan item),
+      count_cons is_orphan (taken_back client (Some item)) items,
+      count_cons is_orphan (Some item) items,
     )
-back_orphans (item ∷ items) (suc n) =
+back_orphans client (item ∷ items) (suc n) =
     omega (
       arith,
-      count_cons is_orphan item (set items n (taken_back (item_at items n))),
+      count_cons is_orphan item (set items n (taken_back client (item_at items n))),
       count_cons is_orphan item items,
-      back_orphans items n,
+      back_orphans client items n,
     )
 
-taken_open : (present : List ℕ) (item : Option Item) → IsOpenOwner present item → IsOpenOwner present (taken_back item)
-taken_open present None is = tt
-taken_open present (Some item) is = is
+taken_open : (client : ℕ) (present : List ℕ) (item : Option Item) → is_open client present ≡ true → IsOpenOwner present (taken_back client item)
+taken_open client present None is = tt
+taken_open client present (Some item) is = is
 
-back_open : (present : List ℕ) (items : List (Option Item)) (n : ℕ) → AreOpenOwners present items → AreOpenOwners present (set items n (taken_back (item_at items n)))
-back_open present items n all =
-    each_set (λ item. IsOpenOwner present item) items n (taken_back (item_at items n)) all
-    (taken_open present (item_at items n) (each_at (λ item. IsOpenOwner present item) items n all tt))
+back_open : (client : ℕ) (present : List ℕ) (items : List (Option Item)) (n : ℕ) → is_open client present ≡ true → AreOpenOwners present items
+    → AreOpenOwners present (set items n (taken_back client (item_at items n)))
+back_open client present items n is all =
+    each_set (λ item. IsOpenOwner present item) items n (taken_back client (item_at items n)) all (taken_open client present (item_at items n) is)
 
--- at most one session is in use again
-record Leaves (items new_items : List (Option Item)) : Type 0 where
-  open_owners : (present : List ℕ) → AreOpenOwners present items → AreOpenOwners present new_items
-  orphans : count_by is_orphan new_items ≡ count_by is_orphan items
+-- at most one session is in use again, and the client's
+record Leaves (client : ℕ) (items new_items : List (Option Item)) (left new_left : List ℕ) : Type 0 where
+  open_owners : (present : List ℕ) → is_open client present ≡ true → AreOpenOwners present items → AreOpenOwners present new_items
+  orphans : count_by is_orphan new_items ≤ count_by is_orphan items
+  few : length new_left ≤ length left
 
-leaves_given : (items : List (Option Item)) (given : Result ℕ ℕ) → Leaves items (with_given items given)
-leaves_given items (Err code) = record { open_owners = λ present all. all; orphans = refl }
-leaves_given items (Ok handle) = record {
-  open_owners = λ present all. back_open present items (number_of_session handle) all;
-  orphans = back_orphans items (number_of_session handle);
+leaves_given : (client : ℕ) (items : List (Option Item)) (left : List ℕ) (given : Result ℕ ℕ)
+    → Leaves client items (with_given client items given) left (without_given left given)
+leaves_given client items left (Err code) = record { open_owners = λ present is all. all; orphans = omega arith; few = omega arith }
+leaves_given client items left (Ok handle) = record {
+  open_owners = λ present is all. back_open client present items (number_of_session handle) is all;
+  orphans = back_orphans client items (number_of_session handle);
+  few = shorter (number_of_session handle) left;
 }
 
-leaves_where : (load : Bool) (items : List (Option Item)) (given : Result ℕ ℕ) → Leaves items (if load then with_given items given else items)
-leaves_where true items given = leaves_given items given
-leaves_where false items given = record { open_owners = λ present all. all; orphans = refl }
+leaves_where : (client : ℕ) (load : Bool) (items : List (Option Item)) (left : List ℕ) (given : Result ℕ ℕ)
+    → Leaves client items (if load then with_given client items given else items) left (if load then without_given left given else left)
+leaves_where client true items left given = leaves_given client items left given
+leaves_where client false items left given = record { open_owners = λ present is all. all; orphans = omega arith; few = omega arith }
 
 replied_moves : {D : Type 0} (seen : D → Seen) (device : D) (held : Held) (new_view : SessionsView) (client : ℕ)
     (table : List (Option ℕ)) (a : Admitted) (bytes reply : List ℕ) → Settled (seen device).state held → IsTable held.objects.items client table
@@ -511,9 +545,10 @@ replied_moves : {D : Type 0} (seen : D → Seen) (device : D) (held : Held) (new
 replied_moves seen device held new_view client table a bytes reply settled is own stand =
     let items = held.sessions.items in
     let params = drop a.auths.params bytes in
-    let items_are : new_view.items ≡ sessions_given client a bytes items = ap (λ (v : SessionsView). v.items) own.view_is in
-    let leaves : Leaves items new_view.items =
-    subst (Leaves items) (sym items_are) (leaves_where (a.shape.row.code == CC_CONTEXT_LOAD) items (given_back client items params (load_parameters params))) in
+    let left = held.sessions.left in
+    let leaves : Leaves client items new_view.items left new_view.left =
+    subst (λ (v : SessionsView). Leaves client items v.items left v.left) (sym own.view_is)
+    (leaves_where client (a.shape.row.code == CC_CONTEXT_LOAD) items left (given_back client items params (load_parameters params))) in
     record {
       keeps = keeps_same seen device;
       settled = settled_given (seen device).state held new_view stand settled;
@@ -523,37 +558,38 @@ replied_moves seen device held new_view client table a bytes reply settled is ow
       lists = refl;
       other_objects = objects_same (other_than client) (seen device).state held.objects.items;
       own_table = is;
-      owners = λ present open_here all. leaves.open_owners present all;
+      owners = leaves.open_owners;
       orphans = omega (arith, leaves.orphans);
       slots = refl;
       numbers = ap (λ (v : SessionsView). v.numbers) own.view_is;
+      left = leaves.few;
       length_is = refl;
     }
 
 -- a session that is in use again is loaded or saved as before
-taken_loaded : (item : Option Item) → is_loaded_item (taken_back item) ≡ is_loaded_item item
-taken_loaded None = refl
-taken_loaded (Some item) = refl
+taken_loaded : (client : ℕ) (item : Option Item) → is_loaded_item (taken_back client item) ≡ is_loaded_item item
+taken_loaded client None = refl
+taken_loaded client (Some item) = refl
 
-back_loaded : (items : List (Option Item)) (n number : ℕ)
-    → is_loaded_item (item_at (set items n (taken_back (item_at items n))) number) ≡ is_loaded_item (item_at items number)
-back_loaded items n number =
-    elim (set_at items n (taken_back (item_at items n)) None number) [
+back_loaded : (client : ℕ) (items : List (Option Item)) (n number : ℕ)
+    → is_loaded_item (item_at (set items n (taken_back client (item_at items n))) number) ≡ is_loaded_item (item_at items number)
+back_loaded client items n number =
+    elim (set_at items n (taken_back client (item_at items n)) None number) [
       | inl same ↦ ap is_loaded_item same
-      | inr here ↦ ap is_loaded_item here.1 ∙ taken_loaded (item_at items n) ∙ ap (λ (k : ℕ). is_loaded_item (item_at items k)) (sym here.0)
+      | inr here ↦ ap is_loaded_item here.1 ∙ taken_loaded client (item_at items n) ∙ ap (λ (k : ℕ). is_loaded_item (item_at items k)) (sym here.0)
     ]
 
-with_loaded : (load : Bool) (items : List (Option Item)) (given : Result ℕ ℕ) (number : ℕ)
-    → is_loaded_item (item_at (if load then with_given items given else items) number) ≡ is_loaded_item (item_at items number)
-with_loaded true items (Err code) number = refl
-with_loaded true items (Ok handle) number = back_loaded items (number_of_session handle) number
-with_loaded false items given number = refl
+with_loaded : (client : ℕ) (load : Bool) (items : List (Option Item)) (given : Result ℕ ℕ) (number : ℕ)
+    → is_loaded_item (item_at (if load then with_given client items given else items) number) ≡ is_loaded_item (item_at items number)
+with_loaded client true items (Err code) number = refl
+with_loaded client true items (Ok handle) number = back_loaded client items (number_of_session handle) number
+with_loaded client false items given number = refl
 
 loaded_given : (client : ℕ) (a : Admitted) (bytes : List ℕ) (items : List (Option Item)) (number : ℕ)
     → is_loaded_item (item_at (sessions_given client a bytes items) number) ≡ is_loaded_item (item_at items number)
 loaded_given client a bytes items number =
     let params = drop a.auths.params bytes in
-    with_loaded (a.shape.row.code == CC_CONTEXT_LOAD) items (given_back client items params (load_parameters params)) number
+    with_loaded client (a.shape.row.code == CC_CONTEXT_LOAD) items (given_back client items params (load_parameters params)) number
 
 pub replied_serves : {D : Type 0} (seen : D → Seen) (device : D) (held : Held) (new_view : SessionsView) (client : ℕ)
     (table : List (Option ℕ)) (a : Admitted) (bytes reply : List ℕ) → Settled (seen device).state held → IsTable held.objects.items client table

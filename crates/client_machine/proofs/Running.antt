@@ -92,6 +92,7 @@ state_left slots after held client table least operands ended = record {
   most = held.sessions.numbers.active;
   objects = objects_in slots held.objects.items table;
   sessions = sessions_after (own_place client) None (sessions_in slots held.sessions.items) operands ended;
+  left = held.sessions.left;
   object_sequence = least.object;
   session_sequence = least.session;
 }
@@ -174,6 +175,7 @@ left_run slots held client table a bytes may managed room =
             most = held.sessions.numbers.active;
             objects = state.objects;
             sessions = sessions_after (own_place client) None state.sessions effect.operands effect.outcome.auth_ended;
+            left = held.sessions.left;
             object_sequence = least.object;
             session_sequence = least.session;
           }) effect.outcome.created effect.reply pick) (sym made.persist_is);
@@ -386,6 +388,7 @@ plain_by slots after held client table a bytes effect_reply answer may left =
                 most = held.sessions.numbers.active;
                 objects = sym (same_objects slots after items table left.slots_are (sym left.seed)) i;
                 sessions = sym sessions.in_world i;
+                left = held.sessions.left;
                 object_sequence = least.object;
                 session_sequence = least.session;
               },
@@ -449,6 +452,7 @@ object_by {new_items = new_items} {new_table = new_table} slots after held clien
                 most = held.sessions.numbers.active;
                 objects = sym new.objects i;
                 sessions = sym sessions.in_world i;
+                left = held.sessions.left;
                 object_sequence = least.object;
                 session_sequence = least.session;
               },
@@ -549,6 +553,7 @@ session_by slots after held client table a bytes s effect_reply answer may left 
                 most = held.sessions.numbers.active;
                 objects = sym (same_objects slots after items table left.slots_are (sym left.seed)) i;
                 sessions = (sym is.new.sessions ∙ ap (sessions_in after) (sym items_are)) i;
+                left = held.sessions.left;
                 object_sequence = least.object;
                 session_sequence = least.session;
               },

@@ -26,10 +26,11 @@ use Rattle.device_laws.proofs.AnswerForms.{takes_same}
 use Rattle.device_laws.proofs.ContextSteps.{save_row}
 use Rattle.client_laws.specs.Ready.{ends_session, named_sessions, sent_for, starts_session, tells_object, tells_session}
 use Rattle.client_laws.proofs.Commands.{another_code, clients_command, row_as}
+use Rattle.client_laws.proofs.NameSessions.{named_own}
 use Rattle.client_laws.proofs.Saving.{save_sent, save_session_plain}
 use Rattle.object_swap.specs.Items.{item_at}
 use Rattle.session_swap.specs.Items as sessions
-use Rattle.session_swap.specs.Items.{HasGapRoom, HandsOut, KeepsRest, SavesForClient, SavesTold, SessionsStand, SessionsView, Stand, context_number, holder_of, holders, item_of, item_session, new_item, saved_by_client, with_handle, without_sessions}
+use Rattle.session_swap.specs.Items.{HasGapRoom, HandsOut, KeepsRest, SavesForClient, SavesTold, SessionsStand, SessionsView, Stand, context_number, holder_of, holders, is_user, item_of, item_session, new_item, owner_in, saved_by_client, with_handle, without_sessions}
 use Rattle.session_swap.proofs.Moved as moved
 use Rattle.session_swap.proofs.Moved.{some_of}
 use Rattle.history_laws.proofs.Tables.{get_or_mapped}
@@ -62,6 +63,20 @@ saved_named P a saves all =
     first_by P (is_session_handle (first_handle a)) (first_handle a) (filter is_session_handle (get_or a.shape.handles 1 0 ∷ (command_auth a.auths).session ∷ []))
     (and_parts (a.shape.row.code == CC_CONTEXT_SAVE) (is_session_handle (first_handle a)) saves).1 all
 
+owned_by_user : (client : ℕ) (owner : Option (ℕ × Bool)) → is_user client owner ≡ true → is_some owner ≡ true
+owned_by_user client None is = absurd cc
+owned_by_user client (Some owner) is = refl
+
+-- a client owns it
+pub saved_owned : {D : Type 0} {seen : D → Seen} {old between : D} {held mid : Held}
+    {client : ℕ} {table : List (Option ℕ)} {a : Admitted} {bytes command : List ℕ}
+    → Prepared seen old between held mid client table a bytes command → saves_one a ≡ true
+    → sessions.has_owner (item_of mid.sessions.items (first_handle a)) ≡ true
+saved_owned {mid = mid} {client = client} {table = table} {a = a} {bytes = bytes} p alone =
+    owned_by_user client (owner_in mid.sessions.items (first_handle a))
+    (saved_named (λ handle. is_user client (owner_in mid.sessions.items handle) ≡ true) a alone
+    (named_own (tables_seen client table mid.sessions.items) bytes a p.admitted))
+
 -- the handle of a session isn't that of an object
 no_object : (transient hmac policy : Bool) (octet : ℕ) → (octet == HT_TRANSIENT) ≡ transient → (octet == HT_HMAC_SESSION) ≡ hmac → (octet == HT_POLICY_SESSION) ≡ policy
     → (hmac || policy) ≡ true → transient ≡ false
@@ -84,7 +99,7 @@ both_by own same place is also = rw (is, also) refl
 
 session_there : (client handle : ℕ) (s : Session) → in_use (owned_by client (octet_of handle) (own_place client handle s)) ≡ Some s
 session_there client handle s =
-    let place : Owned = record { client = client; octet = octet_of handle; session = s; handed = None } in
+    let place : Owned = record { client = Some client; octet = octet_of handle; session = s; handed = None } in
     ap in_use (both_by (client == client) (octet_of handle == octet_of handle) place (eq-eqb client client refl) (eq-eqb (octet_of handle) (octet_of handle) refl))
 
 own_item : (client handle : ℕ) (test : Bool) → test ≡ true → (if test then Some (new_item client handle) else None) ≡ Some (new_item client handle)
@@ -168,6 +183,7 @@ pub record SavedOver (old new : Option SlotState) (view new_view : SessionsView)
 pub record SavedReply (view new_view : SessionsView) (handle : ℕ) (reply : List ℕ) : Type 0 where
   pub numbers : new_view.numbers ≡ view.numbers
   pub items_are : new_view.items ≡ sessions_saved handle (drop HEADER_BYTES reply) view.items
+  pub left_is : new_view.left ≡ view.left
   pub order_is : new_view.order ≡ without_one (number_of_session handle) view.order
   pub success : Succeeds (context_save_command handle) reply
   pub frame : is_frame reply ≡ true
@@ -245,6 +261,7 @@ one_saved slots after held new_view client table a bytes reply may alone over gi
                     most = sym (ap (λ (n : Numbers). n.active) given.numbers) i;
                     objects = sym (table_over_sessions slots after items table same) i;
                     sessions = sym (saved_world slots after old new_view.items client handle reply is given.items_are sessions_are) i;
+                    left = sym given.left_is i;
                     object_sequence = least.object;
                     session_sequence = slots.counter + 1;
                   },
@@ -297,6 +314,7 @@ saved_now keeps same stood stands room saves told = record {
   given = record {
     numbers = ap (λ (v : SessionsView). v.numbers) saves.view_is;
     items_are = ap (λ (v : SessionsView). v.items) saves.view_is;
+    left_is = ap (λ (v : SessionsView). v.left) saves.view_is;
     order_is = ap (λ (v : SessionsView). v.order) saves.view_is;
     success = saves.success;
     frame = saves.frame;
@@ -381,6 +399,7 @@ ran_saved {between = between} {new = new} {held = held} {mid = mid} {client = cl
           (save_taken (loads_kept mid.objects.items (context_save_command handle)) (number_taken (record held.sessions { items = mid.sessions.items }) reply)
           handle reply saved.given.success saved.given.frame);
       sessions_are = items_are;
+      left = saved.given.left_is ∙ p.prepares.left;
       nobodys = omega (arith, p.ready.nobodys, ap (count_by sessions.is_orphan) items_are, none_after client a reply mid.sessions.items (omega (arith, p.ready.nobodys)));
       used = λ calm. record {
         ready = mid;
@@ -418,7 +437,7 @@ outcome_saved {seen = seen} {between = between} {new = new} {held = held} {mid =
     record {
       serves = record {
         moves = ran_moves new mid.objects.items new_view table mid.objects.order reply reply p saved.keeps.base_is saved.keeps.count
-            (saved_after new_view reply p alone saved.given) saved.given.numbers done (λ index owner names own mine. (names, own)) (λ index owner own mine. own) p.here refl;
+            (saved_after new_view reply p alone saved.given) saved.given.numbers saved.given.left_is done (λ index owner names own mine. (names, own)) (λ index owner own mine. own) p.here refl;
         right = inr (taken_right false false (context_save_command handle) (asked_of (seen new)) reply (last_of (seen new))
             (save_taken false false handle reply saved.given.success saved.given.frame) asks.asked last_is);
         stays = tt;

@@ -81,7 +81,12 @@ other_by true true place is = absurd cc
 other_by true false place is = refl
 other_by false same place is = refl
 
--- a session of a client, or of nobody, in use or saved
+-- one that was left, and an orphan, is no client's
+nobodys_by : (client octet handle : ℕ) (handed : Option (List ℕ)) (s : Session) → owned_by client octet (owned_by_client None handle handed (Some s)) ≡ None
+nobodys_by client octet handle None s = refl
+nobodys_by client octet handle (Some context) s = refl
+
+-- a session, whosever it is, in use or saved
 record SeenBy (client : ℕ) (owner : Option (ℕ × Bool)) (place : Option Owned) : Type 0 where
   used : is_user client owner ≡ is_some (in_use place)
   had : is_owner client owner ≡ is_some place
@@ -91,18 +96,24 @@ seen_by : (client handle : ℕ) (item : sessions.Item) (owner : Option ℕ) (tes
     → SeenBy client (owner_of_item (if test then Some item else None)) (owned_by client (octet_of handle) (owned_by_client owner item.handle item.handed (Some s)))
 seen_by client handle item None true s is same =
     let none = ap (sessions.owner_by (not (is_some item.handed))) is in
-    record { used = ap (is_user client) none; had = ap (is_owner client) none }
-seen_by client handle item None false s is same = record { used = refl; had = refl }
+    let out = sym (nobodys_by client (octet_of handle) item.handle item.handed s) in
+    record {
+      used = ap (is_user client) none ∙ ap (λ (p : Option Owned). is_some (in_use p)) out;
+      had = ap (is_owner client) none ∙ ap (λ (p : Option Owned). is_some p) out;
+    }
+seen_by client handle item None false s is same =
+    let out = sym (nobodys_by client (octet_of handle) item.handle item.handed s) in
+    record { used = ap (λ (p : Option Owned). is_some (in_use p)) out; had = ap (λ (p : Option Owned). is_some p) out }
 seen_by client handle item (Some owner) true s is same =
     let some = ap (sessions.owner_by (not (is_some item.handed))) is in
-    let place : Owned = record { client = owner; octet = octet_of item.handle; session = s; handed = item.handed } in
+    let place : Owned = record { client = Some owner; octet = octet_of item.handle; session = s; handed = item.handed } in
     let octets = octet_of item.handle == octet_of handle in
     record {
       used = ap (is_user client) some ∙ used_by (owner == client) octets place same;
       had = ap (is_owner client) some ∙ had_by (owner == client) octets place same;
     }
 seen_by client handle item (Some owner) false s is same =
-    let place : Owned = record { client = owner; octet = octet_of item.handle; session = s; handed = item.handed } in
+    let place : Owned = record { client = Some owner; octet = octet_of item.handle; session = s; handed = item.handed } in
     let none = sym (other_by (owner == client) (octet_of item.handle == octet_of handle) place same) in
     record { used = ap (λ (p : Option Owned). is_some (in_use p)) none; had = ap (λ (p : Option Owned). is_some p) none }
 

@@ -14,7 +14,7 @@ use Rattle.device_spec.specs.Answers.{is_word, word_at}
 use Rattle.device_spec.specs.Slots.{IsSlots, SessionPlace, SlotState, free_number, gap_of, inactive, is_active, loaded, saved}
 use Rattle.client_laws.specs.Ready.{AreAmong, IsAmong}
 use Rattle.session_swap.specs.declared.TheConstants.{NEEDED_MOST}
-use Rattle.session_swap.specs.Items.{HasGapRoom, Item, SessionsStand, SessionsView, flag, has_owner, item_at, new_item, place_at, renewal_gap}
+use Rattle.session_swap.specs.Items.{HasGapRoom, Item, SessionsStand, SessionsView, flag, is_held, item_at, new_item, place_at, renewal_gap}
 use Rattle.session_swap.proofs.Standing.{stands_begun}
 use Rattle.history_laws.proofs.Tables.{get_or_mapped}
 use Rattle.world_spec.specs.World.{Owned, is_unused, own_place}
@@ -106,7 +106,7 @@ word_told reply long = word_by (nat_lt (length reply) 14) (told_handle reply) (l
 
 -- whether no new session can have this handle
 abbrev is_taken : SessionsView → ℕ → Bool
-is_taken view handle = nat_le view.numbers.active (count_by has_owner view.items) || is_some (item_at view.items (number_of_session handle))
+is_taken view handle = nat_le view.numbers.active (count_by is_held view.items) || is_some (item_at view.items (number_of_session handle))
 
 taken_told : (view : SessionsView) (reply : List ℕ) → 14 ≤ length reply → number_taken view reply ≡ is_taken view (told_handle reply)
 taken_told view reply long = ap (is_word (is_taken view)) (word_told reply long)
@@ -115,12 +115,12 @@ neither : (one other : Bool) → one ≡ false → other ≡ false → (one || o
 neither one other is also = rw (is, also) refl
 
 -- one that is under no session's number can, where clients have fewer than may be active
-pub free_told : (view : SessionsView) (reply : List ℕ) → 14 ≤ length reply → count_by has_owner view.items < view.numbers.active
+pub free_told : (view : SessionsView) (reply : List ℕ) → 14 ≤ length reply → count_by is_held view.items < view.numbers.active
     → item_at view.items (number_of_session (told_handle reply)) ≡ None → number_taken view reply ≡ false
 free_told view reply long few none =
     taken_told view reply long
-    ∙ neither (nat_le view.numbers.active (count_by has_owner view.items)) (is_some (item_at view.items (number_of_session (told_handle reply))))
-    (lt-leb view.numbers.active (count_by has_owner view.items) few) (ap (λ (item : Option Item). is_some item) none)
+    ∙ neither (nat_le view.numbers.active (count_by is_held view.items)) (is_some (item_at view.items (number_of_session (told_handle reply))))
+    (lt-leb view.numbers.active (count_by is_held view.items) few) (ap (λ (item : Option Item). is_some item) none)
 
 none_by : (item : Option Item) → is_some item ≡ false → item ≡ None
 none_by None is = refl
@@ -128,13 +128,13 @@ none_by (Some item) is = absurd cc
 
 -- and then it is so
 pub record IsFree (view : SessionsView) (handle : ℕ) : Type 0 where
-  pub few : count_by has_owner view.items < view.numbers.active
+  pub few : count_by is_held view.items < view.numbers.active
   pub none : item_at view.items (number_of_session handle) ≡ None
 
 pub none_told : (view : SessionsView) (reply : List ℕ) → 14 ≤ length reply → number_taken view reply ≡ false → IsFree view (told_handle reply)
 none_told view reply long free =
     let item = item_at view.items (number_of_session (told_handle reply)) in
-    let owned = count_by has_owner view.items in
+    let owned = count_by is_held view.items in
     let parts = or_parts (nat_le view.numbers.active owned) (is_some item) (sym (taken_told view reply long) ∙ free) in
     record { few = leb-false view.numbers.active owned parts.0; none = none_by item parts.1 }
 

@@ -133,7 +133,7 @@ StaysLoaded places number view =
     ⊎ ((sessions.item_at view.items number ≡ None)
     ⊎ ((◌≡◌ {A = Option ℕ} None (Some number)) ⊎ (view.numbers.loaded ≤ loaded_items view.items + places)))
 
--- where what was nobody's is gone, then sessions were moved, then objects
+-- where orphans are gone, then sessions were moved, then objects
 pub prepared_stays : {slots places : ℕ} (held cleared between new_held : Held) (most : ℕ) → slots ≤ most → Loses held cleared
     → StaysIn 0 places None cleared between → between.objects ≡ cleared.objects → StaysGone cleared between
     → StaysIn slots 0 None between new_held → new_held.sessions ≡ between.sessions → StaysGone between new_held

@@ -19,7 +19,7 @@ SendsUpTo seen most old new = sent_of (seen new) ≤ sent_of (seen old) + most
 abbrev pub renewal_bound : (gap : ℕ) → Numbers → ℕ
 renewal_bound gap numbers = if nat_lt gap (renewal_gap numbers) then 0 else 2 * numbers.active + 1
 
--- what one command of a client costs, where so many things are nobody's and the gap is so large
+-- what one command of a client costs, where there are so many orphans and the gap is so large
 abbrev pub new_bound : (orphans gap : ℕ) → Numbers → ℕ
 new_bound orphans gap numbers = 13 + orphans + renewal_bound gap numbers
 
@@ -48,6 +48,7 @@ own_objects client items = count_by (is_client client) items
 abbrev pub own_residents : ℕ → List Item → ℕ
 own_residents client items = count_by (λ item. is_resident item && is_client client item) items
 
--- what the close of a client costs: a flush for each of its objects that is in a slot, and for each of its sessions
+-- what the close of a client costs: a flush for each of its objects that is in a slot, and one for each of its sessions, which is that
+-- of the session, or that of one that was left, where this one is left in its place
 abbrev pub close_bound : ℕ → Held → ℕ
 close_bound client held = own_residents client held.objects.items + count_by (is_owned client) held.sessions.items

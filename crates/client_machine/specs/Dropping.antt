@@ -1,5 +1,5 @@
 -- What each step leaves while what a client has is dropped.
-use Rattle.std.specs.Prelude.{◌≡◌, ◌≤◌, ◌⊎◌, ℕ, ◌+◌, Bool, true, false, List, [], ◌∷◌, ◌++◌, length, Option, Some, None, Result, is_err, IfErr, OnErr}
+use Rattle.std.specs.Prelude.{◌≡◌, ◌<◌, ◌≤◌, ◌⊎◌, ℕ, ◌+◌, Bool, true, false, List, [], ◌∷◌, ◌++◌, length, slice_get, Option, Some, None, Result, is_err, IfErr, OnErr}
 use Rattle.tab_spec.specs.Count.{largest_count}
 use Rattle.device_spec.specs.Answers.{IsRight, IsWrongAnswer}
 use Rattle.device_spec.specs.Slots.{SlotState}
@@ -8,21 +8,37 @@ use Rattle.tab_spec.specs.declared.TheConstants.{CC_FLUSH_CONTEXT}
 use Rattle.tab_spec.specs.Frame.{code_of}
 use Rattle.device_port.specs.Device.{Seen, Transmission, asked_of, last_of, sent_of}
 use Rattle.device_port.specs.Own.{WasTaken}
-use Rattle.session_swap.specs.Items.{Item, is_owned, item_at}
-use Rattle.world_spec.specs.World.{without_owner}
+use Rattle.tab_spec.specs.Shape.{number_of_session}
+use Rattle.tab_spec.specs.Numbers.{left_most}
+use Rattle.session_swap.specs.Items.{Item, SessionsView, has_owner, is_owned, is_owner, item_at, owner_in}
+use Rattle.world_spec.specs.World.{closed_sessions}
 use Rattle.client_machine.specs.declared.held.Held.{Held}
 use Rattle.client_machine.specs.Costs.{own_objects, own_residents}
 use Rattle.client_machine.specs.Moves.{CountsOnBy, GainsNone, Keeps, KeepsObjectsOf, KeepsOwners, KeepsPersist, other_than}
 use Rattle.client_machine.specs.Settled.{Settled, orphan_count, sessions_in}
 use Rattle.client_machine.specs.Tables.{AreOpenOwners}
 
--- no more are left to nobody than transmissions failed, where these are still counted
+-- no more orphans are added than transmissions failed, where these are still counted
 abbrev pub AreLeftByFaults : (nobodys faults new_nobodys new_faults : ℕ) → Type 0
 AreLeftByFaults nobodys faults new_nobodys new_faults = (new_nobodys + faults ≤ nobodys + new_faults) ⊎ (largest_count ≤ new_faults)
 
--- what isn't this client's stays
+-- what other clients have stays
 abbrev pub KeepsOthers : ℕ → (items new_items : List (Option Item)) → Type 0
-KeepsOthers client items new_items = (number : ℕ) → is_owned client (item_at items number) ≡ false → item_at new_items number ≡ item_at items number
+KeepsOthers client items new_items =
+    (number : ℕ) → is_owned client (item_at items number) ≡ false → has_owner (item_at items number) ≡ true
+    → item_at new_items number ≡ item_at items number
+
+-- whether a client's session is in use: the client didn't save it
+abbrev pub is_used : Option (ℕ × Bool) → Bool
+is_used None = false
+is_used (Some owner) = owner.1
+
+-- the close of a client drops the session of this handle: it is the client's and in use, or it was left longest of more sessions than
+-- may be left
+abbrev pub IsDropped : ℕ → SessionsView → ℕ → Type 0
+IsDropped client view handle =
+    ((is_owner client (owner_in view.items handle) ≡ true) × (is_used (owner_in view.items handle) ≡ true))
+    ⊎ ((left_most view.numbers.active < length view.left) × (slice_get view.left 0 ≡ Some (number_of_session handle)))
 
 -- a flush that was answered, or whose transmission failed
 abbrev pub WasTried : Transmission → Type 0
@@ -40,8 +56,8 @@ pub record SendsFlushes {D : Type 0} (seen : D → Seen) (old new : D) (wrong : 
   pub trace_is : (seen new).trace ≡ sent ++ (seen old).trace
   pub each : WereTried wrong sent
 
--- What can't be flushed is nobody's then. This holds of each step, also of one that met a wrong answer: its code is the error, and no list of
--- objects gets another owner
+-- What can't be flushed is an orphan then. This holds of each step, also of one that met a wrong answer: its code is the error, and no
+-- list of objects gets another owner
 pub record Disowns {D A : Type 0} (seen : D → Seen) (old new : D) (held new_held : Held) (result : Result A ℕ) : Type 0 where
   pub keeps : Keeps seen old new
   pub slots : new_held.objects.slots ≡ held.objects.slots
@@ -53,12 +69,12 @@ pub record Disowns {D A : Type 0} (seen : D → Seen) (old new : D) (held new_he
   -- no wrong answer is passed over
   pub sent : SendsFlushes seen old new (is_err result)
 
--- the slots of what closed clients left: those before, and so many more at most
+-- the slots of orphans: those before, and so many more at most
 abbrev pub LeavesMore : ℕ → (left new_left : List ℕ) → Type 0
 LeavesMore most left new_left = (more : List ℕ) × (new_left ≡ left ++ more) × (length more ≤ most)
 
--- A client loses objects and sessions, of which so many are left to nobody since their flush failed. These are the owners of the lists of
--- objects then.
+-- A client loses objects and sessions, of which so many are orphans since their flush failed, and leaves sessions that it saved. These
+-- are the owners of the lists of objects then.
 pub record Drops {D : Type 0} (seen : D → Seen)
     (client : ℕ) (old new : D) (held new_held : Held) (owners_after : List (Option ℕ)) (failed : ℕ) : Type 0 where
   pub keeps : Keeps seen old new
@@ -68,12 +84,17 @@ pub record Drops {D : Type 0} (seen : D → Seen)
   pub gained : GainsNone (other_than client) held.objects.items new_held.objects.items
   pub other_objects : KeepsObjectsOf (other_than client) (seen old).state (seen new).state held.objects.items new_held.objects.items
   pub lists : new_held.objects.owners ≡ owners_after
-  pub other_sessions : (slots after : SlotState) → (seen old).state ≡ Some slots → (seen new).state ≡ Some after
-      → without_owner client (sessions_in after new_held.sessions.items) ≡ without_owner client (sessions_in slots held.sessions.items)
+  -- closing the client over what is still there leaves what it leaves over what was there
+  pub closes : (slots after : SlotState) → (seen old).state ≡ Some slots → (seen new).state ≡ Some after
+      → closed_sessions client held.sessions.numbers.active (sessions_in after new_held.sessions.items) new_held.sessions.left
+      ≡ closed_sessions client held.sessions.numbers.active (sessions_in slots held.sessions.items) held.sessions.left
+  -- no more are left than may be
+  pub few_left : length held.sessions.left ≤ left_most held.sessions.numbers.active
+      → length new_held.sessions.left ≤ left_most held.sessions.numbers.active
   pub owners : (present : List ℕ) → AreOpenOwners present held.sessions.items → AreOpenOwners present new_held.sessions.items
   pub persist : KeepsPersist (seen old).state (seen new).state
   pub orphans : orphan_count new_held ≡ orphan_count held + failed
-  -- what others left isn't flushed in their place
+  -- orphans of others aren't flushed in their place
   pub left : LeavesMore failed held.objects.left new_held.objects.left
   -- no more than transmissions failed
   pub failures : (failed + (seen old).faults ≤ (seen new).faults) ⊎ (largest_count ≤ (seen new).faults)

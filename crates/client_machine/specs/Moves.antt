@@ -23,7 +23,7 @@ use Rattle.client_laws.specs.Ready.{ends_session, is_sent, named_sessions, sent_
 use Rattle.object_swap.specs.Items as objects
 use Rattle.object_swap.specs.Items.{Item, Names, is_vacant, item_at, item_object, keeps_context, new_item}
 use Rattle.session_swap.specs.Items as sessions
-use Rattle.session_swap.specs.Items.{AreLoaded, IsNarrow, context_number, gap_kept, has_owner, renewal_gap, saved_by_client}
+use Rattle.session_swap.specs.Items.{AreLoaded, IsNarrow, context_number, gap_kept, is_held, renewal_gap, saved_by_client}
 use Rattle.session_swap.specs.declared.TheConstants.{NEEDED_MOST}
 use Rattle.history_spec.specs.declared.Pick.{Pick}
 use Rattle.history_spec.specs.declared.Pick.TheVariants as picks
@@ -31,7 +31,7 @@ use Rattle.history_spec.specs.Table.{held_under, is_full, next_handle, put_least
 use Rattle.world_spec.specs.World.{ClientState, ClientStep, client_step, flush_handle}
 use Rattle.client_machine.specs.declared.held.Held.{Held}
 use Rattle.client_machine.specs.Costs.{SendsUpTo, StaysIn, new_bound, places_of}
-use Rattle.client_machine.specs.Replies.{own_answer, reply_of, sessions_given}
+use Rattle.client_machine.specs.Replies.{own_answer, reply_of, view_given}
 use Rattle.client_machine.specs.Settled.{AreBelow, Sequences, Settled, most_contexts, orphan_count, sessions_in}
 use Rattle.client_machine.specs.Tables.{AreOpenOwners, IsPlaced, IsTable, device_handle, flush_fault_of, flush_sent, flushed_handle, flushed_sessions, flushed_table, is_open, objects_in, owned_handles, sessions_without, table_with, table_without, tables_had}
 
@@ -59,14 +59,15 @@ pub record FailsAtLast {D : Type 0} (seen : D → Seen) (old new : D) : Type 0 w
 
 -- ---- what a client's call is over
 
--- what is kept, the objects of a client with this table, and all sessions, in the state of a device; contexts may be handed out from
--- these sequences on
+-- what is kept, the objects of a client with this table, all sessions and which ones were left, in the state of a device; contexts may
+-- be handed out from these sequences on
 abbrev pub client_state : SlotState → Held → List (Option ℕ) → Sequences → ClientState
 client_state slots held table least = record {
   persist = slots.persist;
   most = held.sessions.numbers.active;
   objects = objects_in slots held.objects.items table;
   sessions = sessions_in slots held.sessions.items;
+  left = held.sessions.left;
   object_sequence = least.object;
   session_sequence = least.session;
 }
@@ -136,12 +137,14 @@ pub record Moves {D : Type 0} (seen : D → Seen) (client : ℕ) (old new : D) (
   pub other_objects : KeepsObjectsOf (other_than client) (seen old).state (seen new).state held.objects.items new_held.objects.items
   pub own_table : IsTable new_held.objects.items client new_table
   pub lists : new_held.objects.owners ≡ held.objects.owners
-  -- a session is that of an open client, or nobody's, and no more is nobody's
+  -- a session is that of an open client, or it was left, or it is an orphan; there are no more orphans
   pub owners : (present : List ℕ) → is_open client present ≡ true → AreOpenOwners present held.sessions.items
       → AreOpenOwners present new_held.sessions.items
   pub orphans : orphan_count new_held ≤ orphan_count held
   pub slots : new_held.objects.slots ≡ held.objects.slots
   pub numbers : new_held.sessions.numbers ≡ held.sessions.numbers
+  -- a session that was left may be the client's then, and no more are left
+  pub left : length new_held.sessions.left ≤ length held.sessions.left
   pub length_is : length new_held.objects.items ≡ length held.objects.items
 
 -- where the device tells its state, this is the step of the plain machine from any sequences below the device's: what it keeps, the
@@ -176,7 +179,7 @@ pub record Loses (held new_held : Held) : Type 0 where
   pub sessions : (number : ℕ) → (sessions.item_at new_held.sessions.items number ≡ sessions.item_at held.sessions.items number)
       ⊎ (sessions.item_at new_held.sessions.items number ≡ None)
 
--- Before a client's command: objects and sessions were moved, sessions renewed, and what was nobody's flushed. What clients have
+-- Before a client's command: objects and sessions were moved, sessions renewed, and orphans flushed. What clients have and left
 -- stands as before, and whose it is. At most so many contexts of either sort were made
 pub record Prepares {D : Type 0} (contexts : ℕ) (seen : D → Seen) (old new : D) (held new_held : Held) : Type 0 where
   pub keeps : Keeps seen old new
@@ -195,9 +198,10 @@ pub record Prepares {D : Type 0} (contexts : ℕ) (seen : D → Seen) (old new :
   pub orphans : orphan_count new_held ≤ orphan_count held
   pub slots : new_held.objects.slots ≡ held.objects.slots
   pub numbers : new_held.sessions.numbers ≡ held.sessions.numbers
+  pub left : new_held.sessions.left ≡ held.sessions.left
   pub length_is : length new_held.objects.items ≡ length held.objects.items
 
--- what was nobody's was flushed, and what is a client's stays where it is. Where nothing was nobody's, nothing changes
+-- orphans were flushed, and what is a client's or was left stays where it is. Where there were none, nothing changes
 pub record Clears {D : Type 0} (seen : D → Seen) (old new : D) (held new_held : Held) : Type 0 where
   pub prepared : Prepares 0 seen old new held new_held
   pub objects : new_held.objects ≡ record held.objects { left = new_held.objects.left }
@@ -208,7 +212,7 @@ pub record Clears {D : Type 0} (seen : D → Seen) (old new : D) (held new_held 
   pub gap : gap_kept new_held.sessions ≤ gap_kept held.sessions
   pub still : orphan_count held ≡ 0 → (new ≡ old) × (new_held ≡ held)
 
--- nothing is nobody's, and no renewal is due
+-- there are no orphans, and no renewal is due
 pub record IsClear (state : Option SlotState) (held : Held) : Type 0 where
   pub nobodys : orphan_count held ≡ 0
   pub narrow : IsNarrow state
@@ -218,6 +222,7 @@ pub record Stays (old_state new_state : Option SlotState) (held new_held : Held)
   pub table_is : new_table ≡ table
   pub client : StaysAs old_state new_state held new_held table
   pub sessions : owned_handles new_held.sessions.items ≡ owned_handles held.sessions.items
+  pub left : new_held.sessions.left ≡ held.sessions.left
   pub objects : KeepsOwners any_client held.objects.items new_held.objects.items
 
 -- a call for one client that ends with this result
@@ -289,10 +294,10 @@ pick_of a answer =
     else if tells_context a answer then picks.Sequence (told_sequence answer)
     else picks.Nothing
 
--- whether no new session can have the handle of a response: one has its number, or clients have as many as may be active
+-- whether no new session can have the handle of a response: one has its number, or as many as may be active are clients' or were left
 abbrev pub number_taken : sessions.SessionsView → List ℕ → Bool
 number_taken view reply =
-    is_word (λ handle. nat_le view.numbers.active (count_by has_owner view.items) || is_some (sessions.item_at view.items (number_of_session handle)))
+    is_word (λ handle. nat_le view.numbers.active (count_by is_held view.items) || is_some (sessions.item_at view.items (number_of_session handle)))
     (word_at HEADER_BYTES reply)
 
 -- whether a command loads a context that is kept for an object
@@ -343,7 +348,7 @@ sessions_held_after client a answer items =
     else if saves_session a answer then sessions_saved (first_handle a) (drop HEADER_BYTES answer) items
     else items
 
--- nothing has to be moved for a command: nobody left anything, no renewal is due, what it names is in the device, and it makes
+-- nothing has to be moved for a command: there are no orphans, no renewal is due, what it names is in the device, and it makes
 -- nothing
 pub record IsAtHand (held : Held) (table : List (Option ℕ)) (a : Admitted) (bytes : List ℕ) : Type 0 where
   pub nobodys : orphan_count held ≡ 0
@@ -364,12 +369,12 @@ pub record HasSessions (state : Option SlotState) (view : sessions.SessionsView)
   pub room : starts_session a ≡ true
       → (sessions.AreFree state 1 × (sessions.loaded_items view.items < view.numbers.loaded)) ⊎ AreTaken view
 
--- no session has to be moved for a command: it starts none, and those that it names are loaded, or it starts one where clients have
--- as many as may be active
+-- no session has to be moved for a command: it starts none, and those that it names are loaded, or it starts one where as many as may
+-- be active are clients' or were left
 abbrev pub NeedsNoSession : sessions.SessionsView → Admitted → Type 0
 NeedsNoSession view a =
     ((starts_session a ≡ false) × AreLoaded (named_sessions a) view.items)
-    ⊎ ((starts_session a ≡ true) × (view.numbers.active ≤ count_by has_owner view.items))
+    ⊎ ((starts_session a ≡ true) × (view.numbers.active ≤ count_by is_held view.items))
 
 -- all is ready for a client's command, and it is written over the device's handles
 pub record IsPrepared (state : Option SlotState) (held : Held) (table : List (Option ℕ)) (a : Admitted) (bytes command : List ℕ) : Type 0 where
@@ -384,7 +389,7 @@ pub record IsPrepared (state : Option SlotState) (held : Held) (table : List (Op
       → IfSome state (λ slots. list_any is_free slots.slots ≡ true) × (objects.residents held.objects.items < held.objects.slots)
   pub written : command ≡ sent_for bytes a (device_handle table held.objects.items (first_handle a))
 
--- ---- what a command moves, where nothing is nobody's and no renewal is due
+-- ---- what a command moves, where there are no orphans and no renewal is due
 
 -- by what is kept
 pub record IsCalm (held : Held) : Type 0 where
@@ -399,12 +404,13 @@ listed (Some index) = index ∷ []
 abbrev pub named_objects : List (Option ℕ) → Admitted → List ℕ
 named_objects table a = listed (named_by table (first_handle a))
 
--- how many slots, and how many places, it needs for what it may make. Where clients have as many sessions as may be active, none starts
+-- how many slots, and how many places, it needs for what it may make. Where as many sessions as may be active are clients' or were
+-- left, none starts
 abbrev pub slots_of : Admitted → List ℕ → ℕ
 slots_of a bytes = if makes_object_by (Ok a.shape) bytes then 1 else 0
 
 abbrev pub places_needed : sessions.SessionsView → Admitted → ℕ
-places_needed view a = if starts_session a && nat_lt (count_by has_owner view.items) view.numbers.active then 1 else 0
+places_needed view a = if starts_session a && nat_lt (count_by is_held view.items) view.numbers.active then 1 else 0
 
 -- how many commands move what it needs
 abbrev pub moves_for : Held → List (Option ℕ) → Admitted → List ℕ → ℕ
@@ -476,7 +482,7 @@ pub record FlushesSome {D : Type 0} (seen : D → Seen) (count : ℕ) (old new :
   pub each : AllByRecursion WasFlushed sent
   pub count_is : length sent ≡ count
 
--- Before a client's own command so many things of nobody were flushed, and then commands of the broker's own were sent. Each was
+-- Before a client's own command so many orphans were flushed, and then commands of the broker's own were sent. Each was
 -- answered.
 pub record SentBefore {D : Type 0} (seen : D → Seen) (nobodys : ℕ) (old new : D) : Type 0 where
   pub cleared : D
@@ -492,7 +498,7 @@ pub record MakesReady {D A : Type 0} (seen : D → Seen) (nobodys : ℕ) (old ne
 
 -- The command was the last that was sent, and once, over the slot of its object and the handles of its sessions, which were loaded.
 -- What came back is the reply, and the client has a new object or session where that tells one, or a saved session where that has its
--- context. What was sent before it are commands of the broker's own: first the flushes of what was nobody's. Each was answered. Whose
+-- context. What was sent before it are commands of the broker's own: first the flushes of orphans. Each was answered. Whose
 -- each other session is stays
 pub record Ran {D : Type 0} (seen : D → Seen) (client : ℕ) (old new : D)
     (held new_held : Held) (table new_table : List (Option ℕ)) (a : Admitted) (bytes reply : List ℕ) : Type 0 where
@@ -516,13 +522,14 @@ pub record Ran {D : Type 0} (seen : D → Seen) (client : ℕ) (old new : D)
   -- the broker takes it, by what it held: whether a context that the command loads is kept, and whether no new session can have the handle
   pub taken : takes (loads_kept new_held.objects.items (asked_of (seen new))) (number_taken (record held.sessions { items = mid }) answer) (asked_of (seen new)) answer ≡ true
   pub sessions_are : new_held.sessions.items ≡ sessions_held_after client a answer mid
+  pub left : new_held.sessions.left ≡ held.sessions.left
   pub nobodys : orphan_count new_held ≡ 0
   pub used : IsCalm held → UsedLast held new_held table a bytes answer item
 
 -- ---- FlushContext
 
 -- what is sent for FlushContext: the flush of the session, or of the slot that the object is in, as the last command and once, and
--- before it what flushes so many things of nobody; and else nothing
+-- before it what flushes so many orphans; and else nothing
 abbrev pub IsFlushSent : {D : Type 0} (seen : D → Seen) → ℕ → Option ℕ → (old new : D) → Type 0
 IsFlushSent seen nobodys None old new = new ≡ old
 IsFlushSent seen nobodys (Some handle) old new =
@@ -557,10 +564,11 @@ pub record Flushed {D : Type 0} (seen : D → Seen) (tables : Tables) (old new :
     (held new_held : Held) (table new_table : List (Option ℕ)) (named : Result ℕ ℕ) (reply : List ℕ) : Type 0 where
   pub reply_is : reply ≡ flush_reply tables named
   pub sent_is : IsFlushSent seen (orphan_count held) (flush_sent tables table held.objects.items named) old new
-  -- where anything was sent, nothing is nobody's
+  -- where anything was sent, there are no orphans
   pub nobodys : is_some (flush_sent tables table held.objects.items named) ≡ true → orphan_count new_held ≡ 0
   pub table_is : new_table ≡ flushed_table tables table named
   pub owners : owned_handles new_held.sessions.items ≡ owned_handles (flushed_sessions tables held.sessions.items named)
+  pub left : new_held.sessions.left ≡ held.sessions.left
 
 -- the same of a handle that the client may flush
 pub record Flushes {D : Type 0} (seen : D → Seen) (handle : ℕ) (old new : D)
@@ -569,20 +577,21 @@ pub record Flushes {D : Type 0} (seen : D → Seen) (handle : ℕ) (old new : D)
   pub nobodys : is_some (flushed_handle table held.objects.items handle) ≡ true → orphan_count new_held ≡ 0
   pub table_is : new_table ≡ table_without table handle
   pub owners : owned_handles new_held.sessions.items ≡ owned_handles (sessions_without held.sessions.items handle)
+  pub left : new_held.sessions.left ≡ held.sessions.left
   -- nothing moves
   pub loses : Loses held new_held
 
 -- ---- what the broker answers by itself
 
 -- A command that isn't sent, and not FlushContext, is answered over what the client has, whatever the device keeps. Nothing else
--- changes but that a session is in use again whose context was given back
+-- changes but that a session is in use again, and the client's, whose context was given back
 pub record Replied {D : Type 0} (client : ℕ) (old new : D) (held new_held : Held) (table new_table : List (Option ℕ)) (a : Admitted) (bytes reply : List ℕ) : Type 0 where
   pub sort : is_sent a bytes ≡ false
   pub other : (a.shape.row.code == CC_FLUSH_CONTEXT) ≡ false
   pub device_is : new ≡ old
   pub table_is : new_table ≡ table
   pub objects_are : new_held.objects ≡ held.objects
-  pub sessions_are : new_held.sessions ≡ record held.sessions { items = sessions_given client a bytes held.sessions.items }
+  pub sessions_are : new_held.sessions ≡ view_given client a bytes held.sessions
   pub reply_is : (persist : Persist) → reply ≡ reply_of (own_answer persist client table held.sessions a bytes)
 
 -- what a client's command does: it is FlushContext, or is answered by the broker itself, or runs on the device

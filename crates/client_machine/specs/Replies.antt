@@ -12,7 +12,8 @@ use Rattle.tab_spec.specs.Shape.{number_of_session}
 use Rattle.device_spec.specs.Slots.{SlotState}
 use Rattle.effect_spec.specs.Capabilities.{capability_of, client_limits, transient_from}
 use Rattle.effect_spec.specs.Contexts.{Context}
-use Rattle.session_swap.specs.Items.{Item, SessionsStand, SessionsView, has_owner, is_handed_to, item_at, item_of, item_session, taken_back}
+use Rattle.device_port.specs.Use.{without_one}
+use Rattle.session_swap.specs.Items.{Item, SessionsStand, SessionsView, is_handed_to, is_held, item_at, item_of, item_session, taken_back}
 use Rattle.world_spec.specs.World.{load_parameters, save_parameters}
 use Rattle.client_machine.specs.Listing.{sessions_had}
 
@@ -23,15 +24,16 @@ pub record StandsOn (view new_view : SessionsView) : Type 0 where
 
 -- ---- GetCapability
 
--- the client's objects and sessions, and the count of the sessions of all clients
+-- the client's objects and sessions, and the count of the sessions of all clients and of those that were left
 abbrev pub own_capability : Persist → ℕ → List (Option ℕ) → SessionsView → List ℕ → Result (List ℕ) ℕ
 own_capability persist client table view params =
     capability_of (client_limits view.numbers.active) all_commands persist (transient_from TRANSIENT_FIRST table) (sessions_had client view.items)
-    (count_by has_owner view.items) params
+    (count_by is_held view.items) params
 
 -- ---- ContextLoad
 
--- the handle of the session that is in use again: the client saved it, and these bytes are the context that was handed out for it
+-- the handle of the session that is in use again: the client saved it, or it was left, and these bytes are the context that was handed
+-- out for it
 abbrev pub given_back : ℕ → List (Option Item) → List ℕ → Result Context ℕ → Result ℕ ℕ
 given_back client items bytes (Err code) = Err code
 given_back client items bytes (Ok context) =
@@ -44,9 +46,19 @@ abbrev pub handle_told : Result ℕ ℕ → Result (List ℕ) ℕ
 handle_told (Err code) = Err code
 handle_told (Ok handle) = Ok (to_be_bytes w32 handle)
 
-abbrev pub with_given : List (Option Item) → Result ℕ ℕ → List (Option Item)
-with_given items (Err code) = items
-with_given items (Ok handle) = set items (number_of_session handle) (taken_back (item_at items (number_of_session handle)))
+-- it is this client's then
+abbrev pub with_given : ℕ → List (Option Item) → Result ℕ ℕ → List (Option Item)
+with_given client items (Err code) = items
+with_given client items (Ok handle) = set items (number_of_session handle) (taken_back client (item_at items (number_of_session handle)))
+
+-- and isn't left any more
+abbrev pub without_given : List ℕ → Result ℕ ℕ → List ℕ
+without_given left (Err code) = left
+without_given left (Ok handle) = without_one (number_of_session handle) left
+
+-- what is seen of the sessions then
+abbrev pub after_given : ℕ → SessionsView → Result ℕ ℕ → SessionsView
+after_given client view given = record view { items = with_given client view.items given; left = without_given view.left given }
 
 -- ---- ContextSave
 
@@ -73,4 +85,15 @@ reply_of (Ok params) = response ST_NO_SESSIONS RC_SUCCESS params
 abbrev pub sessions_given : ℕ → Admitted → List ℕ → List (Option Item) → List (Option Item)
 sessions_given client a bytes items =
     let params = drop a.auths.params bytes in
-    if a.shape.row.code == CC_CONTEXT_LOAD then with_given items (given_back client items params (load_parameters params)) else items
+    if a.shape.row.code == CC_CONTEXT_LOAD then with_given client items (given_back client items params (load_parameters params)) else items
+
+-- and those that are left then
+abbrev pub left_given : ℕ → Admitted → List ℕ → List (Option Item) → List ℕ → List ℕ
+left_given client a bytes items left =
+    let params = drop a.auths.params bytes in
+    if a.shape.row.code == CC_CONTEXT_LOAD then without_given left (given_back client items params (load_parameters params)) else left
+
+-- what is seen of the sessions afterwards
+abbrev pub view_given : ℕ → Admitted → List ℕ → SessionsView → SessionsView
+view_given client a bytes view =
+    record view { items = sessions_given client a bytes view.items; left = left_given client a bytes view.items view.left }

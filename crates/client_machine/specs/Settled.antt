@@ -6,7 +6,7 @@ use Rattle.tab_spec.specs.Shape.{octet_of}
 use Rattle.device_spec.specs.Slots.{SlotState}
 use Rattle.object_swap.specs.Items.{ObjectsStand}
 use Rattle.session_swap.specs.Items as sessions
-use Rattle.session_swap.specs.Items.{HasGapRoom, SessionsStand, SessionsView, item_session}
+use Rattle.session_swap.specs.Items.{HasGapRoom, SessionsStand, item_session}
 use Rattle.world_spec.specs.World.{Owned}
 use Rattle.client_machine.specs.declared.held.Held.{Held}
 
@@ -22,7 +22,7 @@ abbrev pub swap_contexts : ℕ
 swap_contexts = 1000
 
 -- between two calls each object stands in a slot or in a context, and each session in a place or in a context. Each slot that is taken
--- is that of one object, a client's or nobody's, and each session number that is taken that of one session. The gap leaves room for what
+-- is that of one object, a client's or an orphan, and each session number that is taken that of one session. The gap leaves room for what
 -- the next call saves
 pub record IsSettled (slots : SlotState) (held : Held) : Type 0 where
   pub objects : ObjectsStand slots held.objects.items held.objects.left
@@ -33,21 +33,25 @@ pub record IsSettled (slots : SlotState) (held : Held) : Type 0 where
 abbrev pub Settled : Option SlotState → Held → Type 0
 Settled state held = IfSome state (λ slots. IsSettled slots held)
 
--- ---- what closed clients left
+-- ---- orphans
 
--- how many objects of nobody there are, which are in slots, and how many sessions
+-- how many objects, which are in slots, and how many sessions are orphans
 abbrev pub orphan_count : Held → ℕ
 orphan_count held = length held.objects.left + count_by sessions.is_orphan held.sessions.items
 
 -- ---- the sessions of the world
 
-abbrev pub owned_by_client : Option ℕ → ℕ → Option (List ℕ) → Option Session → Option Owned
-owned_by_client None handle handed found = None
-owned_by_client (Some client) handle handed None = None
-owned_by_client (Some client) handle handed (Some s) =
-    Some (record { client = client; octet = octet_of handle; session = s; handed = handed })
+abbrev pub owned_as : Option ℕ → ℕ → Option (List ℕ) → Option Session → Option Owned
+owned_as client handle handed None = None
+owned_as client handle handed (Some s) = Some (record { client = client; octet = octet_of handle; session = s; handed = handed })
 
--- the session of an item, whose it is, and whether it is in use, in the state of a device; nothing where it is nobody's
+-- an orphan has no client, and nothing was handed out for it: the world doesn't have it
+abbrev pub owned_by_client : Option ℕ → ℕ → Option (List ℕ) → Option Session → Option Owned
+owned_by_client None handle None found = None
+owned_by_client None handle (Some context) found = owned_as None handle (Some context) found
+owned_by_client (Some client) handle handed found = owned_as (Some client) handle handed found
+
+-- the session of an item, whose it is, and whether it is in use, in the state of a device; nothing where it is an orphan
 abbrev pub owned_in : SlotState → Option sessions.Item → Option Owned
 owned_in slots None = None
 owned_in slots (Some item) = owned_by_client item.client item.handle item.handed (item_session slots (Some item))

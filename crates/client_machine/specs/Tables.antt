@@ -53,7 +53,7 @@ pub record IsTable (items : List Item) (client : ℕ) (table : List (Option ℕ)
 abbrev pub is_open : ℕ → List ℕ → Bool
 is_open client present = list_any (λ other. other == client) present
 
--- a session is that of an open client, or nobody's
+-- a session is that of an open client, or it was left, or it is an orphan
 abbrev pub IsOpenOwner : List ℕ → Option sessions.Item → Type 0
 IsOpenOwner present None = Unit {0}
 IsOpenOwner present (Some item) = IfSome item.client (λ client. is_open client present ≡ true)
@@ -61,13 +61,14 @@ IsOpenOwner present (Some item) = IfSome item.client (λ client. is_open client 
 abbrev pub AreOpenOwners : List ℕ → List (Option sessions.Item) → Type 0
 AreOpenOwners present sessions = AllByRecursion (λ item. IsOpenOwner present item) sessions
 
--- whose a session is, its handle, and what was handed out for it, where it is a client's
+-- whose a session is, nobody's where it was left; its handle, and what was handed out for it; nothing where it is an orphan
 abbrev pub OwnedHandle : Type 0
-OwnedHandle = ℕ × ℕ × Option (List ℕ)
+OwnedHandle = Option ℕ × ℕ × Option (List ℕ)
 
 abbrev pub with_owner : Option ℕ → ℕ → Option (List ℕ) → Option OwnedHandle
-with_owner None handle handed = None
-with_owner (Some client) handle handed = Some (client, handle, handed)
+with_owner None handle None = None
+with_owner None handle (Some context) = Some (None, handle, Some context)
+with_owner (Some client) handle handed = Some (Some client, handle, handed)
 
 abbrev pub owned_handle : Option sessions.Item → Option OwnedHandle
 owned_handle None = None

@@ -1,27 +1,40 @@
 //! What becomes of a client's sessions and objects when it is closed.
-ghost use Rattle.std.specs.Prelude.{◌≡◌, ◌==◌, ◌≤◌, ◌+◌, ◌*◌, ℕ, true, false};
+ghost use Rattle.std.specs.Prelude.{◌≡◌, ◌==◌, ◌<◌, ◌≤◌, ◌+◌, ◌*◌, ℕ, true, false};
 ghost use Rattle.std.specs.Prelude.{Some, None, set, IfOk, OnOk};
 ghost use Rattle.std.specs.List.{count_by, list_any};
 ghost use Rattle.tab_spec.specs.declared.TheConstants.{SESSION_NUMBERS};
 ghost use Rattle.tab_spec.specs.Shape.{number_of_session};
 ghost use Rattle.object_swap.specs.Items as objects;
 ghost use Rattle.object_swap.specs.Items.{HasNone, owner_at};
-ghost use Rattle.session_swap.specs.Items.{Names, is_owned, is_owner, item_at, owner_in};
+ghost use Rattle.device_port.specs.Use.{without_one};
+ghost use Rattle.session_swap.specs.Items.{ListsThose, Names, flag, is_left, is_owned, is_owner};
+ghost use Rattle.session_swap.specs.Items.{item_at, owner_in};
 ghost use Rattle.client_machine.specs.Moves.{MayMove};
 ghost use Rattle.client_machine.specs.Costs.{SendsUpTo, close_bound, own_objects, own_residents};
-ghost use Rattle.client_machine.specs.Dropping.{Disowns, Drops, DropsOne, KeepsOthers};
+ghost use Rattle.client_machine.specs.Dropping.{Disowns, Drops, DropsOne, IsDropped};
+ghost use Rattle.client_machine.specs.Dropping.{KeepsOthers, is_used};
 ghost use Rattle.client_machine.specs.Settled.{Settled, call_contexts};
 
 use crate::machine::Machine;
 use device_port::{Device, SwapError};
 use linked_records::Steps;
 use object_swap::{Uncounted, Visits};
+use session_swap::Sessions;
 use std::sync::ledger::Ledger;
 
+// Whether a client's session is in use: the client didn't save it.
+fn is_in_use(sessions: &Sessions, handle: u32) -> bool
+    ensures { result ≡ is_used (owner_in sessions.now.items handle) }
+{
+    matches!(sessions.owner_of(handle), Some((_, true)))
+}
+
 impl<D: Device> Machine<D> {
-    /// Drops all that the client of a list has: each session, and each object that is in a slot, is
-    /// flushed (Part 3, "TPM2_FlushContext"). What can't be flushed is nobody's then, and so is the
-    /// list. It returns how much couldn't be flushed. An error is the code of a wrong answer.
+    /// Drops all that the client of a list has: each session in use, and each object that is in a
+    /// slot, is flushed (Part 3, "TPM2_FlushContext"). Sessions that the client saved are left, by
+    /// rising number; while more are left than may be, the one that was left longest is flushed.
+    /// What can't be flushed is an orphan then, and the list is nobody's. It returns how much
+    /// couldn't be flushed. An error is the code of a wrong answer.
     pub fn drop_all(&mut self, client: u32, list: u32) -> Result<u32, u32>
         requires list { owner_at self.old.held.objects.owners list ≡ Some client }
         requires may { MayMove call_contexts D.seen self.old.device self.old.held }
@@ -31,7 +44,7 @@ impl<D: Device> Machine<D> {
             × (list_any (is_owned client) self.new.held.sessions.items ≡ false)) }
         ensures others { KeepsOthers client self.old.held.sessions.items
             self.new.held.sessions.items }
-        // No more are left than transmissions failed, also after a wrong answer.
+        // No more orphans are added than transmissions failed, also after a wrong answer.
         ensures disowns { Disowns D.seen self.old.device self.new.device self.old.held
             self.new.held result }
         ensures costs { SendsUpTo D.seen (close_bound client self.old.held)
@@ -56,7 +69,7 @@ impl<D: Device> Machine<D> {
             × (list_any (is_owned client) self.new.held.sessions.items ≡ false)) }
         ensures others { KeepsOthers client self.old.held.sessions.items
             self.new.held.sessions.items }
-        // No more are left than transmissions failed, also after a wrong answer.
+        // No more orphans are added than transmissions failed, also after a wrong answer.
         ensures disowns { Disowns D.seen self.old.device self.new.device self.old.held
             self.new.held result }
         ensures costs { SendsUpTo D.seen (close_bound client self.old.held)
@@ -113,7 +126,7 @@ impl<D: Device> Machine<D> {
         ensures rest { self.new.held.objects ≡ self.old.held.objects }
         ensures others { KeepsOthers client self.old.held.sessions.items
             self.new.held.sessions.items }
-        // No more are left than transmissions failed, also after a wrong answer.
+        // No more orphans are added than transmissions failed, also after a wrong answer.
         ensures disowns { Disowns D.seen self.old.device self.new.device self.old.held
             self.new.held result }
         ensures costs { SendsUpTo D.seen (count_by (is_owned client) self.old.held.sessions.items)
@@ -124,31 +137,71 @@ impl<D: Device> Machine<D> {
             let Some(handle) = self.held.sessions.of_client(client) else {
                 return Ok(failed);
             };
-            failed += self.drop_session(handle)?;
+            failed += self.close_session(client, handle)?;
         }
         Ok(failed)
     }
 
-    // One session, which is a client's. It returns how many flushes failed, 0 or 1.
+    // The session of a client that has the least number. One that is in use is dropped, and one
+    // that the client saved is left. Where more are left than may be, the one that was left longest
+    // is dropped. It returns how many flushes failed, 0 or 1.
+    fn close_session(&mut self, client: u32, handle: u32) -> Result<u32, u32>
+        requires named { Names self.old.held.sessions.items handle }
+        requires own { is_owner client (owner_in self.old.held.sessions.items handle) ≡ true }
+        requires least { (lower : ℕ) → lower < number_of_session handle
+            → is_owned client (item_at self.old.held.sessions.items lower) ≡ false }
+        requires slots { self.old.held.objects.slots
+            ≡ self.old.held.sessions.numbers.slots }
+        requires settled { Settled (D.seen self.old.device).state self.old.held }
+        ensures ok { IfOk result (λ failed. Drops D.seen client self.old.device self.new.device
+            self.old.held self.new.held self.old.held.objects.owners failed) }
+        ensures count { OnOk result
+            (count_by (is_owned client) self.new.held.sessions.items + 1
+            ≡ count_by (is_owned client) self.old.held.sessions.items) }
+        ensures few { IfOk result (λ failed. failed ≤ 1) }
+        ensures rest { self.new.held.objects ≡ self.old.held.objects }
+        ensures others { KeepsOthers client self.old.held.sessions.items
+            self.new.held.sessions.items }
+        ensures disowns { Disowns D.seen self.old.device self.new.device self.old.held
+            self.new.held result }
+        ensures costs { SendsUpTo D.seen 1 self.old.device self.new.device }
+    {
+        if is_in_use(&self.held.sessions, handle) {
+            return self.drop_session(handle);
+        }
+        match self.held.sessions.leave(handle) {
+            Some(first) => self.drop_session(first),
+            None => Ok(0),
+        }
+    }
+
+    // One session: a client's that is in use, or the one that was left longest, where more are left
+    // than may be. It returns how many flushes failed, 0 or 1.
     fn drop_session(&mut self, handle: u32) -> Result<u32, u32>
         requires named { Names self.old.held.sessions.items handle }
         requires slots { self.old.held.objects.slots
             ≡ self.old.held.sessions.numbers.slots }
         requires settled { Settled (D.seen self.old.device).state self.old.held }
         ensures ok { IfOk result (λ failed. (client : ℕ)
-            → is_owner client (owner_in self.old.held.sessions.items handle) ≡ true
+            → IsDropped client self.old.held.sessions handle
             → Drops D.seen client self.old.device self.new.device self.old.held self.new.held
             self.old.held.objects.owners failed) }
-        ensures count { OnOk result
-            ((client : ℕ) → is_owner client (owner_in self.old.held.sessions.items handle) ≡ true
-            → count_by (is_owned client) self.new.held.sessions.items + 1
+        ensures gone { OnOk result (self.new.held.sessions.left
+            ≡ without_one (number_of_session handle) self.old.held.sessions.left) }
+        ensures count { OnOk result ((client : ℕ)
+            → count_by (is_owned client) self.new.held.sessions.items
+            + flag (is_owned client
+            (item_at self.old.held.sessions.items (number_of_session handle)))
             ≡ count_by (is_owned client) self.old.held.sessions.items) }
         ensures few { IfOk result (λ failed. failed ≤ 1) }
         ensures rest { self.new.held.objects ≡ self.old.held.objects }
         ensures others { (number : ℕ) → (number == number_of_session handle) ≡ false
             → item_at self.new.held.sessions.items number
             ≡ item_at self.old.held.sessions.items number }
-        // No more are left than transmissions failed, also after a wrong answer.
+        // Each left session was listed, and once.
+        ensures listed { ListsThose is_left self.old.held.sessions.left
+            self.old.held.sessions.items }
+        // No more orphans are added than transmissions failed, also after a wrong answer.
         ensures disowns { Disowns D.seen self.old.device self.new.device self.old.held
             self.new.held result }
         ensures costs { SendsUpTo D.seen 1 self.old.device self.new.device }
@@ -182,7 +235,7 @@ impl<D: Device> Machine<D> {
             → HasNone self.new.held.objects.items client) }
         ensures rest { (self.new.held.sessions ≡ self.old.held.sessions)
             × (self.new.held.objects.owners ≡ self.old.held.objects.owners) }
-        // No more are left than transmissions failed, also after a wrong answer.
+        // No more orphans are added than transmissions failed, also after a wrong answer.
         ensures disowns { Disowns D.seen self.old.device self.new.device self.old.held
             self.new.held result }
         ensures costs { (client : ℕ) → owner_at self.old.held.objects.owners list ≡ Some client
@@ -204,7 +257,7 @@ impl<D: Device> Machine<D> {
         Ok(self.held.objects.orphans() - before)
     }
 
-    // One object, which is a client's. Where its flush failed it is nobody's.
+    // One object, which is a client's. Where its flush failed it is an orphan.
     fn drop_object<C: Visits>(&mut self, item: u32, steps: &mut C) -> Result<(), u32>
         requires named { objects.Names self.old.held.objects.items item }
         requires slots { self.old.held.objects.slots
@@ -216,7 +269,7 @@ impl<D: Device> Machine<D> {
             self.old.held self.new.held) }
         ensures rest { (self.new.held.sessions ≡ self.old.held.sessions)
             × (self.new.held.objects.owners ≡ self.old.held.objects.owners) }
-        // No more are left than transmissions failed, also after a wrong answer.
+        // No more orphans are added than transmissions failed, also after a wrong answer.
         ensures disowns { Disowns D.seen self.old.device self.new.device self.old.held
             self.new.held result }
         ensures costs { (client : ℕ)

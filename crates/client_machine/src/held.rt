@@ -4,8 +4,8 @@ ghost use Rattle.client_machine.specs.Settled.{orphan_count};
 use object_swap::Objects;
 use session_swap::Sessions;
 
-/// What is held in the device and beside it: the objects and the sessions of all clients. Those of
-/// nobody were left by closed clients, since their flush failed.
+/// What is held in the device and beside it: the objects and the sessions of all clients, the
+/// sessions that clients left, and orphans, whose flush failed when their client was closed.
 #[derive(Drop)]
 pub struct Held {
     pub objects: Objects,
@@ -13,7 +13,7 @@ pub struct Held {
 }
 
 impl Held {
-    /// How many objects and sessions are nobody's.
+    /// How many objects and sessions are orphans.
     pub fn orphans(&self) -> u32
         ensures { result ≡ orphan_count self.now }
     {

@@ -11,7 +11,7 @@ ghost use Rattle.device_spec.specs.Slots.{slot_step};
 ghost use Rattle.object_swap.specs.Items as objects;
 ghost use Rattle.object_swap.specs.Items.{is_vacant, no_item, owner_at};
 ghost use Rattle.object_swap.specs.declared.TheConstants.{PLACES_MOST};
-ghost use Rattle.session_swap.specs.Items.{has_owner, item_at};
+ghost use Rattle.session_swap.specs.Items.{is_held, item_at};
 ghost use Rattle.client_laws.specs.Ready.{is_sent};
 ghost use Rattle.world_spec.specs.World.{flush_handle, without_named};
 ghost use Rattle.client_machine.specs.Moves as moves;
@@ -52,11 +52,11 @@ pub struct Machine<D: Device> {
     pub scratch: Buffer,
 }
 
-// Whether no new session can have the number of a handle: one has it, or clients have as many as
-// may be active.
+// Whether no new session can have the number of a handle: one has it, or as many as may be active
+// are clients' or were left.
 fn is_taken(sessions: &Sessions, handle: u32) -> bool
     ensures { result
-        ≡ (nat_le sessions.now.numbers.active (count_by has_owner sessions.now.items)
+        ≡ (nat_le sessions.now.numbers.active (count_by is_held sessions.now.items)
         || is_some (item_at sessions.now.items (number_of_session handle))) }
 {
     if sessions.most() <= sessions.active() {
@@ -213,7 +213,7 @@ impl<D: Device> Machine<D> {
         // Where all that it names is at hand, it sends one command at most.
         ensures at_hand { IsAtHand self.old.held table.old.items admitted.now bytes.now
             → SendsUpTo D.seen 1 self.old.device self.new.device }
-        // Where nothing is nobody's and no renewal is due, it sends what moves that, and itself.
+        // Where there are no orphans and no renewal is due, it sends what moves that, and itself.
         ensures few { IsCalm self.old.held → SendsUpTo D.seen
             (moves_for self.old.held table.old.items admitted.now bytes.now + 1)
             self.old.device self.new.device }
@@ -261,7 +261,7 @@ impl<D: Device> Machine<D> {
         // Where all that it names is at hand, it sends one command at most.
         ensures at_hand { IsAtHand self.old.held table.old.items admitted.now bytes.now
             → SendsUpTo D.seen 1 self.old.device self.new.device }
-        // Where nothing is nobody's and no renewal is due, it sends what moves that, and itself.
+        // Where there are no orphans and no renewal is due, it sends what moves that, and itself.
         ensures few { IsCalm self.old.held → SendsUpTo D.seen
             (moves_for self.old.held table.old.items admitted.now bytes.now + 1)
             self.old.device self.new.device }
@@ -319,7 +319,7 @@ impl<D: Device> Machine<D> {
         // Where all that it names is at hand, it sends one command at most.
         ensures at_hand { IsAtHand self.old.held table.old.items admitted.now bytes.now
             → SendsUpTo D.seen 1 self.old.device self.new.device }
-        // Where nothing is nobody's and no renewal is due, it sends what moves that, and itself.
+        // Where there are no orphans and no renewal is due, it sends what moves that, and itself.
         ensures few { IsCalm self.old.held → SendsUpTo D.seen
             (moves_for self.old.held table.old.items admitted.now bytes.now + 1)
             self.old.device self.new.device }
@@ -342,8 +342,8 @@ impl<D: Device> Machine<D> {
         }
     }
 
-    // Drops the object or the session of a client's handle. What closed clients left goes first,
-    // where anything is sent.
+    // Drops the object or the session of a client's handle. Orphans go first, where anything is
+    // sent.
     fn flush(&mut self, table: &mut ClientTable, handle: u32) -> Result<(), SwapError>
         requires there { (client : ℕ) × MayFlush client handle self.old.held table.old.items }
         requires may { MayMove call_contexts D.seen self.old.device self.old.held }

@@ -27,7 +27,7 @@ use tab_spec::{Admitted, CC_START_AUTH_SESSION, HT_TRANSIENT};
 use tab_wire::{is_session_handle, octet_of};
 use virtual_handles::ClientTable;
 
-// Flushes what closed clients left.
+// Flushes orphans.
 pub(crate) fn flush_orphans<D: Device>(
     held: &mut Held,
     device: &mut D,
@@ -35,7 +35,7 @@ pub(crate) fn flush_orphans<D: Device>(
 ) -> Result<(), SwapError>
     requires slots { held.old.objects.slots ≡ held.old.sessions.numbers.slots }
     requires settled { Settled (D.seen device.old).state held.old }
-    // What is a client's stays where it is.
+    // What is a client's, or was left, stays where it is.
     ensures clears { Clears D.seen device.old device.new held.old held.new }
     ensures none { OnOk result (orphan_count held.new ≡ 0) }
     ensures costs { SendsUpTo D.seen (orphan_count held.old) device.old device.new }
@@ -51,8 +51,8 @@ pub(crate) fn flush_orphans<D: Device>(
     Ok(())
 }
 
-// Flushes what closed clients left, and renews old contexts. It makes 65 contexts at most: one for
-// each of 64 sessions, and one that frees a place.
+// Flushes orphans, and renews old contexts. It makes 65 contexts at most: one for each of 64
+// sessions, and one that frees a place.
 fn renew<D: Device>(held: &mut Held, device: &mut D, scratch: &mut Buffer) -> Result<(), SwapError>
     requires may { MayMove call_contexts D.seen device.old held.old }
     ensures prepared { Prepares 65 D.seen device.old device.new held.old held.new }
@@ -184,9 +184,9 @@ fn bring<D: Device>(
     }
 }
 
-// Makes all ready for a client's command: flushes what closed clients left, renews old contexts,
-// loads what the command names, makes room for what it may make, and writes it over the device's
-// handles. The order is the project's own.
+// Makes all ready for a client's command: flushes orphans, renews old contexts, loads what the
+// command names, makes room for what it may make, and writes it over the device's handles. The
+// order is the project's own.
 pub(crate) fn prepare<D: Device>(
     held: &mut Held,
     device: &mut D,
@@ -211,7 +211,7 @@ pub(crate) fn prepare<D: Device>(
         device.old device.new }
     ensures stays { OnOk result (gap_kept held.old.sessions < renewal_gap held.old.sessions.numbers
         → StaysIn 1 (places_of admitted.now) None held.old held.new) }
-    // Where nothing is nobody's and no renewal is due, it sends what moves that, and uses it.
+    // Where there are no orphans and no renewal is due, it sends what moves that, and uses it.
     ensures few { IsCalm held.old → SendsUpTo D.seen
         (moves_for held.old table.now.items admitted.now bytes.now) device.old device.new }
     ensures used { OnOk result (IsCalm held.old

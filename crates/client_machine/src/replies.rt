@@ -7,9 +7,9 @@ ghost use Rattle.effect_spec.specs.Capabilities.{is_of_device};
 ghost use Rattle.client_laws.specs.Ready.{is_sent};
 ghost use Rattle.history_spec.specs.declared.TheConstants.{CLIENT_OBJECTS};
 ghost use Rattle.world_spec.specs.World.{load_parameters, save_parameters};
-ghost use Rattle.client_machine.specs.Replies.{StandsOn, given_back, handle_told, nothing_told};
-ghost use Rattle.client_machine.specs.Replies.{own_answer, own_capability, reply_of};
-ghost use Rattle.client_machine.specs.Replies.{sessions_given, with_given};
+ghost use Rattle.client_machine.specs.Replies.{StandsOn, after_given, given_back, handle_told};
+ghost use Rattle.client_machine.specs.Replies.{nothing_told, own_answer, own_capability};
+ghost use Rattle.client_machine.specs.Replies.{reply_of, view_given};
 
 use crate::client_view::ClientView;
 use fx_capability::{Viewed, client_capability};
@@ -39,17 +39,15 @@ fn refuse_surplus(params: &[u8], reply: &mut Buffer) -> bool
     }
 }
 
-// Takes back the context of a session that the client saved. It returns the session's handle; an
-// error is the code of the first fault, and changes nothing.
+// Takes back the context of a session that the client saved, or that was left. It returns the
+// session's handle; an error is the code of the first fault, and changes nothing.
 fn take_back_context(sessions: &mut Sessions, client: u32, params: &[u8]) -> Result<u32, u32>
     ensures given { MatchResult result (λ handle.
         given_back client sessions.old.items params.now (load_parameters params.now) ≡ Ok handle)
         (λ code.
         given_back client sessions.old.items params.now (load_parameters params.now) ≡ Err code) }
-    ensures sessions { sessions.new ≡ record sessions.old {
-      items = with_given sessions.old.items
-          (given_back client sessions.old.items params.now (load_parameters params.now));
-    } }
+    ensures sessions { sessions.new ≡ after_given client sessions.old
+        (given_back client sessions.old.items params.now (load_parameters params.now)) }
     ensures standing { StandsOn sessions.old sessions.new }
 {
     let mut reader = Reader::new(params);
@@ -70,10 +68,8 @@ fn load_context(sessions: &mut Sessions, client: u32, params: &[u8], reply: &mut
         ≡ reply_of (handle_told
         (given_back client sessions.old.items params.now (load_parameters params.now))) }
     ensures whole { is_frame reply.new ≡ true }
-    ensures sessions { sessions.new ≡ record sessions.old {
-      items = with_given sessions.old.items
-          (given_back client sessions.old.items params.now (load_parameters params.now));
-    } }
+    ensures sessions { sessions.new ≡ after_given client sessions.old
+        (given_back client sessions.old.items params.now (load_parameters params.now)) }
     ensures standing { StandsOn sessions.old sessions.new }
 {
     match take_back_context(sessions, client, params) {
@@ -132,9 +128,9 @@ pub(crate) fn answer_alone(
     ensures reply { result ≡ true → (persist : Persist) → reply.new ≡ reply_of
         (own_answer persist client table.now.items sessions.old admitted.now bytes.now) }
     ensures whole { result ≡ true → is_frame reply.new ≡ true }
-    ensures sessions { MatchBool result (sessions.new ≡ record sessions.old {
-      items = sessions_given client admitted.now bytes.now sessions.old.items;
-    }) (sessions.new ≡ sessions.old) }
+    ensures sessions { MatchBool result
+        (sessions.new ≡ view_given client admitted.now bytes.now sessions.old)
+        (sessions.new ≡ sessions.old) }
     ensures standing { StandsOn sessions.old sessions.new }
 {
     let params = &bytes[admitted.auths.params as usize..];

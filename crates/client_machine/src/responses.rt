@@ -1,11 +1,13 @@
 //! What a response to a client's command tells, and what is held by it.
 ghost use Rattle.std.specs.Prelude.{◌≡◌, ◌≤◌, ◌+◌, ◌++◌, ◌∷◌, true, false};
-ghost use Rattle.std.specs.Prelude.{Some, [], length};
+ghost use Rattle.std.specs.Prelude.{ℕ, Some, None, [], length, set};
 ghost use Rattle.effect_spec.specs.Operands.{command_auth};
 ghost use Rattle.tab_spec.specs.Reply.{with_response_handle};
+ghost use Rattle.tab_spec.specs.Shape.{number_of_session};
 ghost use Rattle.object_swap.specs.Items as objects;
 ghost use Rattle.object_swap.specs.Items.{owner_at};
-ghost use Rattle.session_swap.specs.Items.{Names};
+ghost use Rattle.device_port.specs.Use.{without_one};
+ghost use Rattle.session_swap.specs.Items.{is_owner, owner_in};
 ghost use Rattle.client_laws.specs.Ready as ready;
 ghost use Rattle.history_spec.specs.Table.{next_handle};
 ghost use Rattle.client_machine.specs.Moves as moves;
@@ -130,13 +132,26 @@ pub(crate) fn adopt(
     set_response_handle(reply, own);
 }
 
-// Holds the session that a command started, and forgets the one that it ended.
+// Forgets a session of a client, which the device ended. None that was left goes.
+fn forget_session(sessions: &mut Sessions, handle: u32)
+    requires { (client : ℕ) × (is_owner client (owner_in sessions.old.items handle) ≡ true) }
+    ensures { sessions.new ≡ record sessions.old {
+      items = set sessions.old.items (number_of_session handle) None;
+      order = without_one (number_of_session handle) sessions.old.order;
+      saved = without_one (number_of_session handle) sessions.old.saved;
+    } }
+{
+    sessions.end_session(handle);
+}
+
+// Holds the session that a command started, and forgets the one that it ended, which was the
+// client's.
 pub(crate) fn keep_sessions(sessions: &mut Sessions, client: u32, admitted: &Admitted, reply: &[u8])
     requires long { 10 ≤ length reply.now }
     requires started { ready.tells_session admitted.now reply.now ≡ true
         → MayStart reply.now sessions.old }
-    requires named { ready.ends_session admitted.now reply.now ≡ true
-        → Names sessions.old.items (command_auth admitted.now.auths).session }
+    requires own { ready.ends_session admitted.now reply.now ≡ true → is_owner client
+        (owner_in sessions.old.items (command_auth admitted.now.auths).session) ≡ true }
     requires saved { saves_session admitted.now reply.now ≡ false }
     ensures { sessions.new ≡ record sessions.old {
       items = sessions_held_after client admitted.now reply.now sessions.old.items;
@@ -147,6 +162,6 @@ pub(crate) fn keep_sessions(sessions: &mut Sessions, client: u32, admitted: &Adm
     if tells_session(admitted, reply) {
         sessions.adopt_session(client, told_handle(reply));
     } else if ends_session(admitted, reply) {
-        sessions.end_session(admitted.auths.auths[0].session);
+        forget_session(sessions, admitted.auths.auths[0].session);
     }
 }

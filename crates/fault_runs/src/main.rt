@@ -18,10 +18,12 @@
 //!   where one of the device's numbers is out of range.
 //! - for each command and each close, those at the end among them, in their order:
 //!   `command FIRST LAST ORPHANS` or `close FIRST LAST ORPHANS`: the count before it and after it,
-//!   and how many objects and sessions of nobody are in the device then.
+//!   and how many orphans are in the device then: objects and sessions of closed clients whose
+//!   flush failed.
 //! - the audit text of the journal.
 //! - `end COUNT FAULTS HELD`: the count and the device's fault count after all of this, and how
-//!   many objects and sessions the device lists then.
+//!   many objects and sessions the device lists then: orphans, and sessions that clients saved and
+//!   left.
 #![tactic(auto)]
 
 mod held;

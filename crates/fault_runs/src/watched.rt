@@ -12,7 +12,7 @@ use tab_bytes::Buffer;
 use tab_server::PlayedBroker;
 
 /// A command or a close that was played: how many commands the device was sent before it and after
-/// it, and how many objects and sessions of nobody are in it then.
+/// it, and how many orphans are in it then.
 #[derive(Clone, Copy)]
 pub struct Call {
     pub is_close: bool,

@@ -10,6 +10,7 @@ use Rattle.tab_spec.specs.Reply.{response}
 use Rattle.tab_spec.specs.Session.{Session}
 use Rattle.tab_spec.specs.Shape.{number_of_session}
 use Rattle.effect_spec.specs.Contexts.{object_context, session_context}
+use Rattle.history_spec.specs.Entry.{without}
 use Rattle.world_spec.specs.World.{ClientState, ClientStep, Owned, is_handed, may_hand_out, object_handed, own_place, refused_step, saved_place, session_handed, session_taken}
 use Rattle.plain_machine.specs.Owners.{saved_as}
 
@@ -43,20 +44,23 @@ kept_by found kept bytes P Q is told = (subst (λ (o : Option (List ℕ)). Match
 -- ---- taken back
 
 pub session_back : (client : ℕ) (state : ClientState) (handle : ℕ) (bytes : List ℕ) (found : Option Owned) (s : Session) (sessions : List (Option Owned))
-    (reply : List ℕ) → saved_as bytes found ≡ Some s → sessions ≡ set state.sessions (number_of_session handle) (own_place client handle s)
-    → reply ≡ response ST_NO_SESSIONS RC_SUCCESS (to_be_bytes w32 handle)
-    → session_taken client state handle bytes found ≡ (record state { sessions = sessions }, reply)
-session_back client state handle bytes None s sessions reply is placed told = absurd cc
-session_back client state handle bytes (Some place) s sessions reply is placed told =
+    (left reply : List ℕ) → saved_as bytes found ≡ Some s → sessions ≡ set state.sessions (number_of_session handle) (own_place client handle s)
+    → left ≡ without (number_of_session handle) state.left → reply ≡ response ST_NO_SESSIONS RC_SUCCESS (to_be_bytes w32 handle)
+    → session_taken client state handle bytes found ≡ (record state { sessions = sessions; left = left }, reply)
+session_back client state handle bytes None s sessions left reply is placed out told = absurd cc
+session_back client state handle bytes (Some place) s sessions left reply is placed out told =
     back_by (is_handed bytes place.handed) place.session is
   where
     back_by : (handed : Bool) (own : Session) → (if handed then Some own else None) ≡ Some s
         → (if handed then (
-          record state { sessions = set state.sessions (number_of_session handle) (own_place client handle own) },
+          record state {
+            sessions = set state.sessions (number_of_session handle) (own_place client handle own);
+            left = without (number_of_session handle) state.left;
+          },
           response ST_NO_SESSIONS RC_SUCCESS (to_be_bytes w32 handle),
         ) else refused_step state (RC_HANDLE + RC_P + RC_1))
-        ≡ (record state { sessions = sessions }, reply)
-    back_by true own is = let same : own ≡ s = cc in rw (placed, told, same) refl
+        ≡ (record state { sessions = sessions; left = left }, reply)
+    back_by true own is = let same : own ≡ s = cc in rw (placed, out, told, same) refl
     back_by false own is = absurd cc
 
 -- the handle is a session's

@@ -4,6 +4,7 @@ mod Handing
 mod Listing
 mod Loading
 mod Made
+mod Numbers
 mod OpenClients
 mod Places
 mod Running

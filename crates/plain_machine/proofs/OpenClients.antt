@@ -113,6 +113,7 @@ state_with world objects = record {
   most = world.most;
   objects = objects;
   sessions = world.sessions;
+  left = world.left;
   object_sequence = world.object_sequence;
   session_sequence = world.session_sequence;
 }
@@ -123,6 +124,7 @@ world_left world state clients = record world {
   most = state.most;
   clients = clients;
   sessions = state.sessions;
+  left = state.left;
   object_sequence = state.object_sequence;
   session_sequence = state.session_sequence;
 }

@@ -1,4 +1,5 @@
 pub mod Clients
+pub mod Left
 pub mod Listed
 pub mod Owners
 pub mod Picks

@@ -1,6 +1,6 @@
 -- What a client is told that it has: the handles of its objects, and its sessions by their numbers.
 use Rattle.std.proofs.Common.{◌≡◌, ◌≤◌, lit≤, ap, refl, subst, sym}
-use Rattle.std.specs.Prelude.{ℕ, ◌*◌, ◌+◌, ◌^◌, ◌==◌, not, true, List, [], ◌∷◌, ◌++◌, length, Option, Some, None, is_some, option_map}
+use Rattle.std.specs.Prelude.{ℕ, ◌*◌, ◌+◌, ◌^◌, not, true, List, [], ◌∷◌, ◌++◌, length, Option, Some, None, is_some, option_map}
 use Rattle.std.proofs.lemmas.Bool.{cond_both}
 use Rattle.std.proofs.lemmas.List.{length-map}
 use Rattle.std.proofs.lemmas.Nat.{mod_low}
@@ -10,7 +10,7 @@ use Rattle.fx_capability.specs.Lists.{rises_from, all_below, session_numbers}
 use Rattle.fx_capability.proofs.Numbered.{AreAt, IsAt, by_number, numbers_fit, numbers_rise}
 use Rattle.fx_capability.proofs.Objects as handles
 use Rattle.history_spec.specs.declared.TheConstants.{CLIENT_OBJECTS}
-use Rattle.world_spec.specs.World.{Owned, listed_owned, listed_sessions}
+use Rattle.world_spec.specs.World.{Owned, is_of, listed_owned, listed_sessions}
 use Rattle.plain_machine.specs.declared.seen.Seen.{Seen}
 use Rattle.tab_values.specs.Views.{object_of}
 use Rattle.plain_machine.specs.Owners.{owned_of, owners_of}
@@ -44,7 +44,7 @@ by_place client n (place ∷ places) = ap (λ (rest : List Listed). listed_owned
 pub owned_at : (client : ℕ) → AreAt (2 ^ 24) (listed_owned client)
 owned_at client n None below = tt
 owned_at client n (Some place) below =
-    cond_both (place.client == client) (record { handle = place.octet * 2 ^ 24 + n; in_use = not (is_some place.handed) } ∷ []) [] (IsAt n)
+    cond_both (is_of client place.client) (record { handle = place.octet * 2 ^ 24 + n; in_use = not (is_some place.handed) } ∷ []) [] (IsAt n)
     (λ own. mod_low place.octet 24 n below) (λ other. tt)
 
 numbers_seen : (seen : Seen) → length (owners_of seen.sessions.now) ≤ SESSION_NUMBERS

@@ -1,5 +1,5 @@
 -- The sessions of clients, as they are kept and as they are seen.
-use Rattle.std.specs.Prelude.{ℕ, ◌==◌, Bool, false, List, Option, Some, None, map, option_map, if◌then◌else◌}
+use Rattle.std.specs.Prelude.{List, ℕ, Option, Some, None, map, option_map, if◌then◌else◌}
 use Rattle.tab_spec.specs.Session.{Session}
 use Rattle.world_spec.specs.World as worlds
 use Rattle.tab_values.specs.Views.{session_of}
@@ -10,11 +10,6 @@ owned_of o = record { client = o.client; octet = o.octet; session = session_of o
 
 abbrev pub owners_of : List (Option Owned) → List (Option worlds.Owned)
 owners_of places = map (option_map owned_of) places
-
--- whether a number is this client's
-abbrev pub is_owned_by : ℕ → Option worlds.Owned → Bool
-is_owned_by client None = false
-is_owned_by client (Some place) = place.client == client
 
 -- a session that was saved, where these bytes are the context that was handed out for it
 abbrev pub saved_as : List ℕ → Option worlds.Owned → Option Session

@@ -26,6 +26,7 @@ state_of shared objects = record {
   most = shared.most;
   objects = objects;
   sessions = owners_of shared.sessions.items;
+  left = shared.left;
   object_sequence = shared.object_sequence;
   session_sequence = shared.session_sequence;
 }

@@ -12,8 +12,9 @@ ghost use Rattle.tab_values.specs.Views.{session_of};
 ghost use Rattle.history_spec.specs.Table as table;
 ghost use Rattle.world_spec.specs.World as worlds;
 ghost use Rattle.world_spec.specs.World.{choosing_nothing, load_parameters, load_step};
-ghost use Rattle.world_spec.specs.World.{object_handed, object_opened, owned_under, refused_step};
-ghost use Rattle.world_spec.specs.World.{save_parameters, save_step, session_handed, session_taken};
+ghost use Rattle.world_spec.specs.World.{loadable_under, object_handed, object_opened};
+ghost use Rattle.world_spec.specs.World.{refused_step, save_parameters, save_step, session_handed};
+ghost use Rattle.world_spec.specs.World.{session_taken};
 ghost use Rattle.plain_machine.specs.Views.{HasRoomFor, Ran, objects_of, state_of};
 
 use crate::picks::{is_nothing, may_hand_out};
@@ -146,8 +147,8 @@ fn put_context(
 }
 
 // The whole of ContextLoad (Part 3, "TPM2_ContextLoad"): the object of a context under the least
-// number that is free, or a session that the client saved, which is in use again. An error changes
-// nothing.
+// number that is free, or a session that the client saved or that was left, which is the client's
+// and in use then. An error changes nothing.
 pub(crate) fn context_load(
     client: u32,
     shared: &mut Shared,
@@ -231,13 +232,14 @@ fn load_object(
     Ok(())
 }
 
-// A session that the client saved is in use again, where this is the context that was handed out
-// for it.
+// A session that the client saved, or that was left, is the client's and in use, where this is the
+// context that was handed out for it.
 fn load_session(client: u32, shared: &mut Shared, handle: u32, params: &[u8], reply: &mut Buffer)
     ensures { (objects : List (Option object.Object)) →
         let state = state_of shared.old objects in
         (if is_session_handle handle
-        then session_taken client state handle params.now (owned_under state.sessions client handle)
+        then session_taken client state handle params.now
+        (loadable_under state.sessions client handle)
         else refused_step state (RC_VALUE + RC_P + RC_1))
         ≡ (state_of shared.new objects, reply.new) }
 {
@@ -247,8 +249,13 @@ fn load_session(client: u32, shared: &mut Shared, handle: u32, params: &[u8], re
     let Some(session) = saved_session(&shared.sessions, client, handle, params) else {
         return error_reply(in_parameter(1, RC_HANDLE), reply);
     };
-    let place = own_place(client, handle, session);
-    put_place(&mut shared.sessions, number_of_session(handle), place);
+    let number = number_of_session(handle);
+    put_place(
+        &mut shared.sessions,
+        number,
+        own_place(client, handle, session),
+    );
+    shared.left.take(number);
     tell_handle(handle, reply);
 }
 

@@ -1,5 +1,5 @@
-ghost use Rattle.std.specs.Prelude.{◌≡◌, ◌≤◌, ◌<◌, ◌+◌, ◌*◌, ◌^◌, ◌∷◌, [], get_or, length};
-ghost use Rattle.std.specs.Prelude.{option_map, set, None, Some, IfOk, MatchOption};
+ghost use Rattle.std.specs.Prelude.{◌≡◌, ◌≤◌, ◌<◌, ◌+◌, ◌*◌, ◌^◌, ◌∷◌, ◌||◌, [], get_or, length};
+ghost use Rattle.std.specs.Prelude.{is_some, not, option_map, set, None, Some, IfOk, MatchOption};
 ghost use Rattle.tab_spec.specs.Session.{kind_octet};
 ghost use Rattle.tab_spec.specs.Shape as shapes;
 ghost use Rattle.tab_spec.specs.declared.TheConstants.{SESSION_NUMBERS};
@@ -7,8 +7,8 @@ ghost use Rattle.fx_capability.specs.Views.{listed_of};
 ghost use Rattle.tab_values.specs.Views.{session_of};
 ghost use Rattle.world_spec.specs.World as worlds;
 ghost use Rattle.world_spec.specs.World.{active, is_handed, is_unused, listed_owned, no_sessions};
-ghost use Rattle.world_spec.specs.World.{unless_owned, without_owner};
-ghost use Rattle.plain_machine.specs.Owners.{is_owned_by, owned_of, owners_of, saved_as};
+ghost use Rattle.world_spec.specs.World.{is_saved_by, left_place};
+ghost use Rattle.plain_machine.specs.Owners.{owned_of, owners_of, saved_as};
 
 use fx_capability::HeldSession;
 use std::alloc::{AllocError, Global};
@@ -19,17 +19,36 @@ use tab_wire::octet_of;
 // The context of a session, which has no more bytes.
 pub(crate) type SessionContext = SmallBytes<128>;
 
-// A session: whose it is, the first octet of its handle, what a device has of it, and where the
-// client saved it the context that was handed out for it. A session without one is in use.
+// A session: whose it is, nobody's where its client left it; the first octet of its handle; what a
+// device has of it; and where a client saved it the context that was handed out for it. A session
+// without one is in use.
 #[derive(Drop)]
 pub(crate) struct Owned {
-    client: u32,
+    client: Option<u32>,
     octet: u8,
     session: Session,
     handed: Option<SessionContext>,
 }
 
 impl Owned {
+    // Whether it is this client's.
+    fn is_of(&self, client: u32) -> bool
+        ensures { result ≡ worlds.is_of client (owned_of self.now).client }
+    {
+        match self.client {
+            Some(owner) => owner == client,
+            None => false,
+        }
+    }
+
+    // Whether a client may load it: its own, and any one that was left.
+    fn is_loadable_by(&self, client: u32) -> bool
+        ensures { result ≡ (worlds.is_of client (owned_of self.now).client
+            || not (is_some (owned_of self.now).client)) }
+    {
+        self.is_of(client) || self.client.is_none()
+    }
+
     // The session, where it is in use.
     fn in_use(&self) -> Option<&Session>
         ensures { MatchOption result
@@ -58,7 +77,7 @@ pub(crate) fn own_place(client: u32, handle: u32, session: Session) -> Option<Ow
     ensures { option_map owned_of result ≡ worlds.own_place client handle (session_of session) }
 {
     Some(Owned {
-        client,
+        client: Some(client),
         octet: octet_of(handle) as u8,
         session,
         handed: None,
@@ -76,7 +95,7 @@ pub(crate) fn saved_place(
         ≡ worlds.saved_place client handle (session_of session) context }
 {
     Some(Owned {
-        client,
+        client: Some(client),
         octet: octet_of(handle) as u8,
         session,
         handed: Some(context),
@@ -107,7 +126,21 @@ pub(crate) fn owned_under(places: &[Option<Owned>], client: u32, handle: u32) ->
         (λ o. worlds.owned_under (owners_of places.now) client handle ≡ Some (owned_of o.now)) }
 {
     let place = places.get(number_of_session(handle))?.as_ref()?;
-    if place.client != client || u32::from(place.octet) != octet_of(handle) {
+    if !place.is_of(client) || u32::from(place.octet) != octet_of(handle) {
+        return None;
+    }
+    Some(place)
+}
+
+// What ContextLoad may take under a client's handle: a session of this client, or one that was
+// left.
+fn loadable_under(places: &[Option<Owned>], client: u32, handle: u32) -> Option<&Owned>
+    ensures { MatchOption result
+        (worlds.loadable_under (owners_of places.now) client handle ≡ None)
+        (λ o. worlds.loadable_under (owners_of places.now) client handle ≡ Some (owned_of o.now)) }
+{
+    let place = places.get(number_of_session(handle))?.as_ref()?;
+    if !place.is_loadable_by(client) || u32::from(place.octet) != octet_of(handle) {
         return None;
     }
     Some(place)
@@ -133,7 +166,7 @@ pub(crate) fn listed_session(
         MatchOption result (listed ≡ []) (λ s. listed ≡ listed_of s ∷ []) }
 {
     let place = places.get(number as usize)?.as_ref()?;
-    if place.client != client {
+    if !place.is_of(client) {
         return None;
     }
     Some(HeldSession {
@@ -142,26 +175,26 @@ pub(crate) fn listed_session(
     })
 }
 
-// The session that a client saved under a handle, where these bytes are the context that was handed
-// out for it.
+// The session that a client saved under a handle, or left under it, where these bytes are the
+// context that was handed out for it.
 pub(crate) fn saved_session(
     places: &[Option<Owned>],
     client: u32,
     handle: u32,
     bytes: &[u8],
 ) -> Option<Session>
-    ensures { let owned = worlds.owned_under (owners_of places.now) client handle in
+    ensures { let owned = worlds.loadable_under (owners_of places.now) client handle in
         let saved = saved_as bytes.now owned in
         MatchOption result (saved ≡ None) (λ s. saved ≡ Some (session_of s)) }
 {
-    let owned = owned_under(places, client, handle)?;
+    let owned = loadable_under(places, client, handle)?;
     if !owned.is_handed(bytes) {
         return None;
     }
     Some(owned.session.copied())
 }
 
-// How many sessions all clients have.
+// How many sessions are active: those of all clients, and those that were left.
 pub(crate) fn active_count(places: &[Option<Owned>]) -> usize
     ensures count { result ≡ active (owners_of places.now) }
     ensures most { result ≤ length places.now }
@@ -208,32 +241,24 @@ pub(crate) fn put_session(
     handle
 }
 
-// Without the sessions of a client.
-pub(crate) fn drop_sessions(places: &mut [Option<Owned>], client: u32)
-    ensures { owners_of places.new ≡ without_owner client (owners_of places.old) }
+// What a place is once this client is closed; whether its session is left.
+pub(crate) fn leave_place(place: &mut Option<Owned>, client: u32) -> bool
+    ensures place { option_map owned_of place.new
+        ≡ left_place client (option_map owned_of place.old) }
+    ensures saved { result ≡ is_saved_by client (option_map owned_of place.old) }
 {
-    for place in places.iter_mut() {
-        drop_owned(place, client);
+    let Some(owned) = place else {
+        return false;
+    };
+    if !owned.is_of(client) {
+        return false;
     }
-}
-
-// What a number is afterwards, where its client is gone.
-fn drop_owned(place: &mut Option<Owned>, client: u32)
-    ensures { option_map owned_of place.new ≡ unless_owned client (option_map owned_of place.old) }
-{
-    if is_owned_by(place, client) {
-        *place = None;
+    if owned.handed.is_some() {
+        owned.client = None;
+        return true;
     }
-}
-
-// Whether a number is this client's.
-fn is_owned_by(place: &Option<Owned>, client: u32) -> bool
-    ensures { result ≡ is_owned_by client (option_map owned_of place.now) }
-{
-    match place {
-        Some(owned) => owned.client == client,
-        None => false,
-    }
+    *place = None;
+    false
 }
 
 // All 64 numbers, unused. It fails only for want of memory.

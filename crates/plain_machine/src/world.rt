@@ -5,7 +5,8 @@ ghost use Rattle.plain_machine.specs.declared.step_error.StepError.TheVariants.{
 ghost use Rattle.plain_machine.specs.Clients.{is_open_in, place_in};
 
 use crate::client::OpenClient;
-use crate::sessions::{drop_sessions, unused_places};
+use crate::left::Left;
+use crate::sessions::unused_places;
 use crate::shared::Shared;
 use crate::step_error::StepError;
 use history_spec::Pick;
@@ -15,8 +16,8 @@ use tab_bytes::Buffer;
 use tab_values::Persist;
 
 /// The machine that all clients share as each of them sees it: what is kept, the sessions of all of
-/// them, which contexts may be handed out yet, how many clients were opened, and the open ones,
-/// each with its own objects.
+/// them and those that were left, which contexts may be handed out yet, how many clients were
+/// opened, and the open ones, each with its own objects.
 #[derive(Drop)]
 pub struct World {
     alloc: Global,
@@ -38,6 +39,7 @@ impl Model for World {
       opened = w.opened;
       clients = w.clients.items;
       sessions = owners_of w.shared.sessions.items;
+      left = w.shared.left;
       object_sequence = w.shared.object_sequence;
       session_sequence = w.shared.session_sequence;
     } };
@@ -45,8 +47,8 @@ impl Model for World {
 
 impl World {
     /// A world that keeps this, in which no client was opened, and at most so many sessions are
-    /// active at once. It takes the memory of all 64 session numbers now, and fails only for want
-    /// of it.
+    /// active at once. It takes the memory of all session numbers and of the list of left ones now,
+    /// and fails only for want of it.
     pub fn new(alloc: Global, base: Persist, most: u8) -> Result<World, AllocError>
         ensures { IfOk result (λ w. w ≡ empty_world base most) }
     {
@@ -56,6 +58,7 @@ impl World {
                 persist: base,
                 most,
                 sessions: unused_places(alloc)?,
+                left: Left::new(alloc)?,
                 object_sequence: 0,
                 session_sequence: 0,
             },
@@ -78,14 +81,17 @@ impl World {
         Ok(client)
     }
 
-    /// Closes an open client. Its objects and its sessions go with it.
+    /// Closes an open client. Its objects and its sessions in use go with it, and those that it
+    /// saved are left. Of all that are left, at most the lesser of 8 and a quarter of how many may
+    /// be active stay; what was left longest goes first. It takes no memory.
     pub fn close_client(&mut self, client: u32)
         requires open { is_open_in (self.old).clients client ≡ true }
         ensures { self.new ≡ closed_world self.old client }
     {
         let place = place_of(&self.clients, client);
         self.clients.remove(place);
-        drop_sessions(&mut self.shared.sessions, client);
+        let shared = &mut self.shared;
+        shared.left.close(&mut shared.sessions, client, shared.most);
     }
 
     /// How many clients were opened, which is the number of the next one.

@@ -58,15 +58,24 @@ const CLOSED_SESSION: &[u8] = b"\
     0 80010000000e0000018903000000\n\
     1 80010000002b0000017640000007400000070010000000000000000000000000000000000000030010000b\n";
 
+// A session that its client saves, and leaves when it closes; and the next client's commands.
+const LEFT_SESSION: &[u8] = b"\
+    0 80010000002b0000017640000007400000070010000000000000000000000000000000000000000010000b\n\
+    0 80010000000e0000016202000000\n\
+    0 close\n\
+    1 80010000000e0000016502000000\n\
+    1 80010000002b0000017640000007400000070010000000000000000000000000000000000000000010000b\n";
+
 #[test]
 fn commands_are_sent_once(rt: HostRuntime) -> Result<(), Fail> {
-    let cases: [(&[u8], u64); 6] = [
+    let cases: [(&[u8], u64); 7] = [
         (STARTUPS, 8),
         (OWN_SESSION, 11),
         (POLICY, 16),
         (FOUR_SESSIONS, 30),
         (ENDED_SESSION, 12),
         (CLOSED_SESSION, 12),
+        (LEFT_SESSION, 12),
     ];
     for (script, sent) in cases {
         let outcome = over(&rt, rt.alloc(), RUN, script, WELL)?;

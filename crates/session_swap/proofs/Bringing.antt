@@ -213,6 +213,23 @@ room_failed numbers seen a b needed new most count xs ys next new_next first las
       listed = listed;
     }
 
+-- which sessions were left doesn't count
+pub room_whole : {D : Type 0} (seen : D → Seen) (a b : D) (needed : List ℕ) (new : ℕ) (view new_view : SessionsView)
+    (result : Result (Unit {0}) SwapError)
+    → MakesRoom seen a b needed new (record view { left = [] }) (record new_view { left = [] }) result
+    → MakesRoom seen a b needed new view new_view result
+room_whole seen a b needed new view new_view result room = record {
+  sent = room.sent;
+  few = room.few;
+  full = room.full;
+  rest = room.rest;
+  idle = room.idle;
+  order = room.order;
+  saved = room.saved;
+  failed = room.failed;
+  listed = room.listed;
+}
+
 -- so many places are free, where that is so by what is kept
 pub free_places : (state : Option SlotState) (view : SessionsView) (new : ℕ) → Stand state view [] → loaded_items view.items + new ≤ view.numbers.loaded
     → AreFree state new

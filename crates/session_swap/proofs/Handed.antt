@@ -10,17 +10,21 @@ use Rattle.tab_spec.specs.Shape.{number_of_session}
 use Rattle.device_spec.specs.ContextCommands.{context_save_command}
 use Rattle.device_spec.specs.Slots.{SlotState}
 use Rattle.device_port.specs.Device.{Seen}
+use Rattle.device_port.specs.Use.{without_one}
 use Rattle.device_port.specs.Own.{Asks, Succeeds}
 use Rattle.device_port.specs.declared.own.SwapError.{SwapError}
 use Rattle.session_swap.specs.declared.record.Place.{Place}
 use Rattle.session_swap.specs.declared.record.Place.TheVariants as places
 use Rattle.session_swap.specs.declared.record.Record.{Record}
-use Rattle.session_swap.specs.Items.{HandsOut, Item, Saved, SessionsStand, SessionsView, Stand, context_number, is_handed_to, is_loaded_item, is_saved_item, item_at, item_of, item_session, number_of_item, saved_by_client, sessions_of, taken_back}
+use Rattle.session_swap.specs.Items.{HandsOut, Item, ListsThose, Saved, SessionsStand, SessionsView, Stand, context_number, is_handed_to, is_held, is_left, is_loaded_item, is_saved_item, item_at, item_of, item_session, number_of_item, saved_by_client, sessions_of, taken_back}
 use Rattle.session_swap.specs.Moves.{KeepsReply, Ready, RepliesOf, with_context, with_handed}
-use Rattle.session_swap.specs.Records.{AreRecords, IsHandleOf, IsRecord, OrderView, handed_by, handed_of, item_in, item_of_record, items_of, view_of, view_with}
+use Rattle.session_swap.specs.Records.{AreListed, AreRecords, IsHandleOf, IsRecord, OrderView, handed_by, handed_of, item_in, item_of_record, items_of, view_of, whole_view}
 use Rattle.session_swap.proofs.Among.{loaded_inside, loaded_whole, named_is}
 use Rattle.session_swap.proofs.Commands.{is_saved}
+use Rattle.session_swap.proofs.Holders.{altered, altered_view, kept_altered, taken_there, with_holder}
+use Rattle.session_swap.proofs.Listing.{lists_without}
 use Rattle.session_swap.proofs.Moved.{IsSavedAt, has_item, items_set, named_inside, record_item, records_set, saved_at, saved_item}
+use Rattle.session_swap.proofs.Owners.{count_unchanged, given_held, owner_held, taken_owner, taken_unleft}
 use Rattle.session_swap.proofs.Standing.{handed_held, sessions_held, stands_held, taken_held}
 
 -- ---- one record
@@ -131,7 +135,7 @@ stand_handed : (state : Option SlotState) (view : SessionsView) (others : List �
     → Stand state (record view { items = set view.items n (with_handed bytes (item_at view.items n)) }) others
 stand_handed None view others n bytes stand inside = tt
 stand_handed (Some slots) view others n bytes stand inside =
-    stands_held slots view others n (with_handed bytes (item_at view.items n)) stand inside (handed_held bytes (item_at view.items n))
+    stands_held slots view view.left others n (with_handed bytes (item_at view.items n)) stand inside (handed_held bytes (item_at view.items n))
 
 pub ready_handed : (numbers : Numbers) (state : Option SlotState) (items : List (Option Item)) (mid : List Record) (next n : ℕ) (bytes : List ℕ) (r new : Record)
     (others : List ℕ) → Hands items mid n bytes r new → Stand state (view_of numbers mid next) others
@@ -140,7 +144,7 @@ ready_handed numbers state items mid next n bytes r new others hands stand =
     let at = at_mid items mid n bytes r new hands in
     record {
       sound = handed_records items mid n bytes r new hands;
-      stand = subst (λ (l : List (Option Item)). Stand state (record { numbers = numbers; items = l; next = next; order = []; saved = [] }) others)
+      stand = subst (λ (l : List (Option Item)). Stand state (record { numbers = numbers; items = l; next = next; order = []; saved = []; left = [] }) others)
           (sym (item_handed items mid n bytes r new hands))
           (stand_handed state (view_of numbers mid next) others n bytes stand (omega (arith, at.inside, length-map mid item_of_record)));
     }
@@ -258,135 +262,53 @@ number_told (Some slots) items mid n bytes is items_are told =
 
 -- ---- a context is given back
 
--- a record whose session is in use again
-abbrev pub used_again : Record → Record
-used_again r = record r { in_use = true }
-
-taken_in : (place : Place) (client : Option ℕ) (handle : ℕ) (context : List ℕ) (handed : Option (List ℕ))
-    → item_in place client handle context None ≡ taken_back (item_in place client handle context handed)
-taken_in places.Unused client handle context handed = refl
-taken_in places.Loaded client handle context handed = refl
-taken_in (places.Saved number) client handle context handed = refl
-
--- the items of records that these are
-record Takes (records : List Record) (n : ℕ) (r : Record) : Type 0 where
-  sound : AreRecords records
-  inside : n < length records
-  there : r ≡ get_or records n r
-
-taken_there : (records : List Record) (n : ℕ) (r : Record) → Takes records n r
-    → item_of_record (used_again r) ≡ taken_back (item_at (items_of records) n)
-taken_there records n r takes =
-    taken_in r.place r.client r.handle r.context.items (handed_of r)
-    ∙ ap taken_back (ap item_of_record takes.there ∙ sym (record_item records n r takes.inside))
-
-taken_items : (records : List Record) (n : ℕ) (r : Record) → Takes records n r
-    → items_of (set records n (used_again r)) ≡ set (items_of records) n (taken_back (item_at (items_of records) n))
-taken_items records n r takes = items_set records n (used_again r) (taken_back (item_at (items_of records) n)) (taken_there records n r takes)
-
-taken_handle : (number : ℕ) (item : Option Item) → IfSome item (λ item. IsHandleOf number item)
-    → IfSome (taken_back item) (λ item. IsHandleOf number item)
-taken_handle number None is = tt
-taken_handle number (Some item) is = record { session = is.session; number_is = is.number_is }
-
-taken_records : (records : List Record) (n : ℕ) (r : Record) → Takes records n r → AreRecords (set records n (used_again r))
-taken_records records n r takes =
-    let was : IsRecord r = subst (λ (r : Record). IsRecord r) (sym takes.there) (takes.sound.each n r takes.inside) in
-    records_set records n (used_again r) takes.inside takes.sound
-    (record { room = was.room; handed_room = was.handed_room; context = was.context })
-    (subst (λ (o : Option Item). IfSome o (λ item. IsHandleOf n item)) (sym (taken_there records n r takes))
-    (taken_handle n (item_at (items_of records) n) (takes.sound.handles n)))
-
--- the session stands on, and is what it was
-record TakesBack (view new_view : SessionsView) : Type 0 where
-  stand : (slots : SlotState) → SessionsStand slots view [] → SessionsStand slots new_view []
-  sessions : (slots : SlotState) → map (item_session slots) new_view.items ≡ map (item_session slots) view.items
-
-takes_back : (view new_view : SessionsView) (n : ℕ) → n < length view.items
-    → new_view ≡ record view { items = set view.items n (taken_back (item_at view.items n)) } → TakesBack view new_view
-takes_back view new_view n inside is =
-    let other = taken_back (item_at view.items n) in
-    let held = taken_held (item_at view.items n) in
-    record {
-      stand = λ slots stand.
-          subst (λ (v : SessionsView). SessionsStand slots v []) (sym is) (stands_held slots view [] n other stand inside held);
-      sessions = λ slots.
-          ap (λ (v : SessionsView). map (item_session slots) v.items) is ∙ sessions_held slots view.items n other held;
-    }
-
 -- a handle under which these bytes were handed out names a session
 handed_some : (client : ℕ) (bytes : List ℕ) (item : Option Item) → is_handed_to client bytes item ≡ true → is_some item ≡ true
 handed_some client bytes None is = absurd cc
 handed_some client bytes (Some item) is = refl
 
--- the handle of a session for which these bytes were handed out, and its record
-record Gives (numbers : Numbers) (records : List Record) (next : ℕ) (order : OrderView) (view : SessionsView) (client handle : ℕ) (bytes : List ℕ) (n : ℕ) (r : Record) : Type 0 where
-  sound : AreRecords records
-  view_is : view_with numbers records next order ≡ view
-  number_is : n ≡ number_of_session handle
-  handed : is_handed_to client bytes (item_of (items_of records) handle) ≡ true
-  there : r ≡ get_or records n r
-
-gives_takes : (numbers : Numbers) (records : List Record) (next : ℕ) (order : OrderView) (view : SessionsView) (client handle : ℕ) (bytes : List ℕ) (n : ℕ) (r : Record)
-    → Gives numbers records next order view client handle bytes n r → Takes records n r
-gives_takes numbers records next order view client handle bytes n r gives =
-    let named = handed_some client bytes (item_of (items_of records) handle) gives.handed in
-    record {
-      sound = gives.sound;
-      inside = named_inside records (items_of records) n handle refl gives.number_is named;
-      there = gives.there;
-    }
-
-abbrev view_after : SessionsView → ℕ → SessionsView
-view_after view number = record view { items = set view.items number (taken_back (item_at view.items number)) }
-
-taken_view : (numbers : Numbers) (records : List Record) (next : ℕ) (order : OrderView) (view : SessionsView) (client handle : ℕ) (bytes : List ℕ) (n : ℕ) (r : Record)
-    → Gives numbers records next order view client handle bytes n r
-    → view_with numbers (set records n (used_again r)) next order ≡ view_after view (number_of_session handle)
-taken_view numbers records next order view client handle bytes n r gives =
-    let takes = gives_takes numbers records next order view client handle bytes n r gives in
-    ap (λ (l : List (Option Item)). record { numbers = numbers; items = l; next = next; order = order.loaded; saved = order.saved }) (taken_items records n r takes)
-    ∙ ap (λ (v : SessionsView). view_after v n) gives.view_is
-    ∙ ap (view_after view) gives.number_is
-
 -- what a context that is given back leaves
-pub record GivenBack (numbers : Numbers) (records : List Record) (next : ℕ) (order : OrderView) (view : SessionsView) (handle n : ℕ) (r : Record) : Type 0 where
-  pub sound : AreRecords (set records n (used_again r))
-  pub view_is : view_with numbers (set records n (used_again r)) next order ≡ record view {
-    items = set view.items (number_of_session handle) (taken_back (item_at view.items (number_of_session handle)));
-  }
-  pub stand : (slots : SlotState) → SessionsStand slots view []
-      → SessionsStand slots (view_with numbers (set records n (used_again r)) next order) []
-  pub sessions : (slots : SlotState) → map (item_session slots) (items_of (set records n (used_again r))) ≡ map (item_session slots) view.items
-  pub item_is : item_of_record (used_again r) ≡ taken_back (item_at (items_of records) n)
+pub record GivenBack (numbers : Numbers) (new_records : List Record) (next : ℕ) (order : OrderView) (new_left : List ℕ) (held : ℕ)
+    (view : SessionsView) (client number : ℕ) : Type 0 where
+  pub kept : AreListed numbers new_records order new_left held
+  pub view_is : whole_view numbers new_records next order new_left ≡ altered (taken_back client) without_one number view
+  pub stand : (slots : SlotState) → SessionsStand slots view [] → SessionsStand slots (whole_view numbers new_records next order new_left) []
+  pub sessions : (slots : SlotState) → map (item_session slots) (items_of new_records) ≡ map (item_session slots) view.items
 
-pub given_back : (numbers : Numbers) (records found : List Record) (next : ℕ) (order : OrderView) (view : SessionsView) (client handle : ℕ) (bytes : List ℕ) (n : ℕ) (r : Record)
-    → AreRecords records → view_with numbers records next order ≡ view → found ≡ records
+pub given_back : {numbers : Numbers} {next : ℕ} {view : SessionsView} (records found : List Record) (order : OrderView) (left new_left : List ℕ)
+    (held client handle n : ℕ) (bytes : List ℕ) (r : Record)
+    → AreListed numbers records order left held → whole_view numbers records next order left ≡ view → found ≡ records
     → is_handed_to client bytes (item_of (items_of found) handle) ≡ true → n ≡ number_of_session handle → r ≡ get_or records n r
-    → GivenBack numbers records next order view handle n r
-given_back numbers records found next order view client handle bytes n r sound view_is found_is handed number_is there =
-    let gives : Gives numbers records next order view client handle bytes n r =
+    → new_left ≡ without_one (number_of_session handle) left
+    → GivenBack numbers (set records n (with_holder (Some client) true r)) next order new_left held view client (number_of_session handle)
+given_back {numbers} {next} {view} records found order left new_left held client handle n bytes r kept view_is found_is handed number_is there left_is =
+    let items = items_of records in
+    let number = number_of_session handle in
+    let given = subst (λ (l : List Record). is_handed_to client bytes (item_of (items_of l) handle) ≡ true) found_is handed in
+    let named = handed_some client bytes (item_of items handle) given in
+    let inside = named_inside records items n handle refl number_is named in
+    let whole : item_of items handle ≡ item_at items n = named_is items handle named ∙ ap (item_at items) (sym number_is) in
+    let was : is_held (item_at items n) ≡ true = ap is_held (sym whole) ∙ given_held client bytes (item_of items handle) given in
+    let some : is_some (item_at items n) ≡ true = ap (λ (o : Option Item). is_some o) (sym whole) ∙ named in
+    let item = taken_back client (item_at items n) in
+    let is_now : is_held item ≡ true = owner_held item (taken_owner client (item_at items n) some) in
+    let gone = left_is ∙ ap (λ (k : ℕ). without_one k left) (sym number_is) in
+    let alters = taken_there client records n r inside there in
+    let after = altered_view (taken_back client) without_one numbers records next order left new_left view n number r (Some client) true view_is
+    number_is alters gone in
+    let long = ap (λ (v : SessionsView). length v.items) view_is in
+    let fits : number < length view.items = omega (arith, inside, number_is, length-map records item_of_record, long) in
     record {
-      sound = sound;
-      view_is = view_is;
-      number_is = number_is;
-      handed = subst (λ (l : List Record). is_handed_to client bytes (item_of (items_of l) handle) ≡ true) found_is handed;
-      there = there;
-    } in
-    let takes = gives_takes numbers records next order view client handle bytes n r gives in
-    let after = taken_view numbers records next order view client handle bytes n r gives in
-    let inside : number_of_session handle < length view.items = omega (
-      arith,
-      takes.inside,
-      number_is,
-      length-map records item_of_record,
-      ap (λ (v : SessionsView). length v.items) view_is,
-    ) in
-    let back = takes_back view (view_with numbers (set records n (used_again r)) next order) (number_of_session handle) inside after in
-    record {
-      sound = taken_records records n r takes;
+      kept = kept_altered records order left new_left held held n r (Some client) true item kept alters
+          (subst (λ (l : List ℕ). ListsThose is_left l (set items n item)) (sym gone)
+          (lists_without is_left refl items left n item kept.left_are (taken_unleft client (item_at items n))))
+          (kept.held_is ∙ sym (count_unchanged is_held items n item (is_now ∙ sym was)));
       view_is = after;
-      stand = back.stand;
-      sessions = back.sessions;
-      item_is = taken_there records n r takes;
+      stand = λ slots stand.
+          subst (λ (v : SessionsView). SessionsStand slots v []) (sym after)
+          (stands_held slots view (without_one number view.left) [] number (taken_back client (item_at view.items number)) stand fits
+          (taken_held client (item_at view.items number)));
+      sessions = λ slots.
+          ap (λ (v : SessionsView). map (item_session slots) v.items) after
+          ∙ sessions_held slots view.items number (taken_back client (item_at view.items number)) (taken_held client (item_at view.items number));
     }

@@ -6,6 +6,8 @@ pub mod Counts
 mod Firsts
 pub mod Gaps
 pub mod Handed
+mod Holders
+mod Leaving
 mod Listing
 pub mod Making
 mod Missing

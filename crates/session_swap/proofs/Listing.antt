@@ -13,7 +13,7 @@ use Rattle.tab_spec.specs.declared.TheConstants.{SESSION_NUMBERS}
 use Rattle.device_port.specs.Use.{used_after, without_one}
 use Rattle.session_swap.specs.declared.record.Record.{Record}
 use Rattle.session_swap.specs.Items.{Item, Lists, ListsThose, flag, is_loaded_item, is_saved_item, item_at, no_items}
-use Rattle.session_swap.specs.Records.{AreListed, IsSoundView, ListsIn, OrderView, item_of_record, items_of, order_in, order_out, order_used, order_without, view_with}
+use Rattle.session_swap.specs.Records.{AreListed, IsSoundView, ListsIn, OrderView, item_of_record, items_of, order_in, order_out, order_used, order_without, whole_view}
 use Rattle.session_swap.proofs.Among.{loaded_inside, not_loaded}
 use Rattle.session_swap.proofs.Counts.{count_cons, count_one, count_set, flag_false, flag_true, is_true}
 use Rattle.session_swap.proofs.Uses.{stands, without_less}
@@ -333,13 +333,14 @@ listed_saved (Err e) records new_records order new_order number listed was ok er
     listed_still records new_records order new_order err still listed
 
 -- what is seen of all that is kept
-pub sound_view : (numbers : Numbers) (records : List Record) (next owned : ℕ) (order : OrderView) → AreListed numbers records order owned
-    → IsSoundView (view_with numbers records next order)
-sound_view numbers records next owned order kept = record {
+pub sound_view : (numbers : Numbers) (records : List Record) (next held : ℕ) (order : OrderView) (left : List ℕ) → AreListed numbers records order left held
+    → IsSoundView (whole_view numbers records next order left)
+sound_view numbers records next held order left kept = record {
   range = kept.listed.range;
   count = omega (arith, length-map records item_of_record, kept.sound.count);
   lists = kept.listed.lists;
   most = omega (arith, kept.listed.most, kept.listed.lists.count);
   saved = kept.listed.saved;
+  left = kept.left_are;
   few = kept.few;
 }

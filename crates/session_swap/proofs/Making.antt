@@ -1,6 +1,6 @@
 -- Sessions are saved and loaded, one after the other: what is kept, how many contexts there may be, when a place is free.
 use Rattle.std.proofs.Common.{◌≡◌, ◌≢◌, ◌+◌, ◌<◌, ◌≤◌, inl, inr, ℕ, Bool, true, false, List, [], length, get_or, set, refl, ap, subst, sym, ◌∙◌, arith}
-use Rattle.std.specs.Prelude.{◌==◌, Option, Some, None, is_some, not, IfSome, Result, Ok, Err, OnOk, OnErr, if◌then◌else◌}
+use Rattle.std.specs.Prelude.{◌==◌, ◌&&◌, ◌||◌, Option, Some, None, is_some, not, IfSome, Result, Ok, Err, OnOk, OnErr, if◌then◌else◌}
 use Rattle.std.specs.List.{count_by}
 use Rattle.std.proofs.lemmas.Bool.{false≢true, cases_eq, eq-eqb, ne_eqb}
 use Rattle.std.proofs.lemmas.List.{get_or-map, get_or-set_other, length-map, length-set, map-set}
@@ -13,9 +13,9 @@ use Rattle.session_swap.specs.declared.TheConstants.{NEEDED_MOST}
 use Rattle.session_swap.specs.declared.record.Place.{Place}
 use Rattle.session_swap.specs.declared.record.Place.TheVariants as places
 use Rattle.session_swap.specs.declared.record.Record.{Record}
-use Rattle.session_swap.specs.Items.{Holder, IsNarrow, Item, KeepsSessions, Moved, Names, SessionsView, Stand, counter_of, gap_in, has_owner, holder_of, holders, is_loaded_item, is_saved_item, item_at, item_of, loaded_items, owner_by, renewal_gap, rest_of, with_handle}
+use Rattle.session_swap.specs.Items.{Holder, IsNarrow, Item, KeepsSessions, ListsThose, Moved, Names, SessionsView, Stand, counter_of, flag, gap_in, holder_of, holders, is_held, is_left, is_loaded_item, is_saved_item, item_at, item_of, loaded_items, owner_by, renewal_gap, rest_of, with_handle}
 use Rattle.device_port.specs.Use.{is_among}
-use Rattle.session_swap.specs.Records.{AreListed, AreRecords, IsHandleOf, IsRecord, ListsIn, OrderView, handed_of, item_in, item_of_record, items_of, view_of, view_with}
+use Rattle.session_swap.specs.Records.{AreListed, AreRecords, IsHandleOf, IsRecord, ListsIn, OrderView, handed_of, item_in, item_of_record, items_of, view_of, whole_view}
 use Rattle.session_swap.specs.Moves.{HasContexts, HasNumber, HasPlace, Ready, ReadyIn, RiseIn, Saves, Swaps, handle_at, handle_of}
 use Rattle.session_swap.proofs.Counts.{count_same, count_set, flag_false, flag_true}
 use Rattle.session_swap.proofs.Among.{holder_again, loaded_inside, loaded_whole, named_inside, named_is, named_some, not_loaded, saved_or, set_each}
@@ -105,15 +105,20 @@ own_number places.Loaded client handle context handed number there is = is.numbe
 own_number (places.Saved last) client handle context handed number there is = is.number_is
 
 -- the number of a record's handle is that of its item
+pub own_handle : (records : List Record) (number : ℕ) (r : Record) → AreRecords records → number < length records
+    → r ≡ get_or records number r → is_some (item_of_record r) ≡ true → number_of_session r.handle ≡ number
+own_handle records number r sound inside is there =
+    let here = read_there records number r inside is in
+    let handle : IfSome (item_of_record r) (λ item. IsHandleOf number item) =
+    subst (λ (o : Option Item). IfSome o (λ item. IsHandleOf number item)) here (sound.handles number) in
+    own_number r.place r.client r.handle r.context.items (handed_of r) number there handle
+
+-- under which its item stands
 pub own_there : (records : List Record) (number : ℕ) (r : Record) → AreRecords records → number < length records
     → r ≡ get_or records number r
     → is_some (item_of_record r) ≡ true → item_at (items_of records) (number_of_session r.handle) ≡ item_of_record r
 own_there records number r sound inside is there =
-    let here = read_there records number r inside is in
-    let handle : IfSome (item_of_record r) (λ item. IsHandleOf number item) =
-    subst (λ (o : Option Item). IfSome o (λ item. IsHandleOf number item)) here (sound.handles number) in
-    let same = own_number r.place r.client r.handle r.context.items (handed_of r) number there handle in
-    ap (λ (n : ℕ). item_at (items_of records) n) same ∙ here
+    ap (λ (n : ℕ). item_at (items_of records) n) (own_handle records number r sound inside is there) ∙ read_there records number r inside is
 
 -- the handle of a record names its item
 pub own_item : (records : List Record) (number : ℕ) (r : Record) → AreRecords records → number < length records
@@ -250,10 +255,10 @@ same_then items mid new handle first second is = second (ap is_loaded_item first
 -- ---- making
 
 -- records that were lent out of a swapper
-pub ready_lent : (numbers : Numbers) (state : Option SlotState) (records lent : List Record) (next : ℕ) (order : OrderView) (view : SessionsView) (others : List ℕ)
-    → lent ≡ records → AreRecords records → view_with numbers records next order ≡ view → Stand state view others
+pub ready_lent : (numbers : Numbers) (state : Option SlotState) (records lent : List Record) (next : ℕ) (order : OrderView) (left : List ℕ) (view : SessionsView) (others : List ℕ)
+    → lent ≡ records → AreRecords records → whole_view numbers records next order left ≡ view → Stand state view others
     → Ready state numbers lent next others
-ready_lent numbers state records lent next order view others same sound view_is stand =
+ready_lent numbers state records lent next order left view others same sound view_is stand =
     let items = ap (λ (l : List Record). items_of l) same ∙ ap (λ (v : SessionsView). v.items) view_is in
     let next_is = ap (λ (v : SessionsView). v.next) view_is in
     let numbers_are = ap (λ (v : SessionsView). v.numbers) view_is in
@@ -262,56 +267,79 @@ ready_lent numbers state records lent next order view others same sound view_is 
       stand = stand_alike state view (view_of numbers lent next) others (sym numbers_are) (sym items) (sym next_is) (rise_none state (items_of lent)) stand;
     }
 
-pub rise_lent : (numbers : Numbers) (state : Option SlotState) (records lent : List Record) (next : ℕ) (order : OrderView) (view : SessionsView) (others : List ℕ)
-    → lent ≡ records → view_with numbers records next order ≡ view → Stand state view others → RiseIn state (items_of lent) order.saved
-rise_lent numbers state records lent next order view others same view_is stand =
+pub rise_lent : (numbers : Numbers) (state : Option SlotState) (records lent : List Record) (next : ℕ) (order : OrderView) (left : List ℕ) (view : SessionsView) (others : List ℕ)
+    → lent ≡ records → whole_view numbers records next order left ≡ view → Stand state view others → RiseIn state (items_of lent) order.saved
+rise_lent numbers state records lent next order left view others same view_is stand =
     subst (λ (l : List Record). RiseIn state (items_of l) order.saved) (sym same)
     (subst (λ (v : SessionsView). RiseIn state v.items v.saved) (sym view_is) (stand_rise state view others stand))
 
-pub lent_in : (numbers : Numbers) (state : Option SlotState) (records lent : List Record) (next owned : ℕ) (order : OrderView) (view : SessionsView)
-    → lent ≡ records → AreListed numbers records order owned → view_with numbers records next order ≡ view → Stand state view []
+pub lent_in : (numbers : Numbers) (state : Option SlotState) (records lent : List Record) (next held : ℕ) (order : OrderView) (left : List ℕ) (view : SessionsView)
+    → lent ≡ records → AreListed numbers records order left held → whole_view numbers records next order left ≡ view → Stand state view []
     → ReadyIn state numbers lent next order
-lent_in numbers state records lent next owned order view same kept view_is stand = record {
-  ready = ready_lent numbers state records lent next order view [] same kept.sound view_is stand;
+lent_in numbers state records lent next held order left view same kept view_is stand = record {
+  ready = ready_lent numbers state records lent next order left view [] same kept.sound view_is stand;
   listed = subst (λ (l : List Record). ListsIn numbers l order) (sym same) kept.listed;
-  rise = rise_lent numbers state records lent next order view [] same view_is stand;
+  rise = rise_lent numbers state records lent next order left view [] same view_is stand;
 }
 
 -- what moves of the lent records leave of the swapper
 pub moved_lent : {D : Type 0} (numbers : Numbers) (seen : D → Seen) (old new : D) (records lent new_records whole : List Record) (next new_next : ℕ)
-    (order new_order : OrderView) (view : SessionsView) → lent ≡ records → view_with numbers records next order ≡ view → whole ≡ new_records
+    (order new_order : OrderView) (left : List ℕ) (view : SessionsView) → lent ≡ records → whole_view numbers records next order left ≡ view → whole ≡ new_records
     → Swaps seen old new lent new_records → ReadyIn (seen new).state numbers new_records new_next new_order
-    → Moved seen old new view (view_with numbers whole new_next new_order)
-moved_lent numbers seen old new records lent new_records whole next new_next order new_order view same view_is back swaps held =
+    → Moved seen old new view (whole_view numbers whole new_next new_order left)
+moved_lent numbers seen old new records lent new_records whole next new_next order new_order left view same view_is back swaps held =
     let start = (seen old).state in
     let state = (seen new).state in
     let before = ap (λ (l : List Record). items_of l) same ∙ ap (λ (v : SessionsView). v.items) view_is in
     let after = ap (λ (l : List Record). items_of l) (sym back) in
     record {
       numbers = ap (λ (v : SessionsView). v.numbers) view_is;
+      left = ap (λ (v : SessionsView). v.left) view_is;
       sessions = subst (λ (l : List (Option Item)). KeepsSessions start state view.items l) after
           (subst (λ (l : List (Option Item)). KeepsSessions start state l (items_of new_records)) before swaps.sessions);
-      stand = stand_alike state (view_of numbers new_records new_next) (view_with numbers whole new_next new_order) [] refl after refl
+      stand = stand_alike state (view_of numbers new_records new_next) (whole_view numbers whole new_next new_order left) [] refl after refl
           (subst (λ (l : List (Option Item)). RiseIn state l new_order.saved) after held.rise) held.ready.stand;
       rest = record { base_is = swaps.base_is; rest = swaps.rest; rises = swaps.rises; count = swaps.count };
     }
 
--- how many of the sessions are clients'
-holder_owned : Option Holder → Bool
-holder_owned None = false
-holder_owned (Some holder) = is_some (owner_by (not (is_some holder.handed)) holder.client)
+-- ---- what holds of an item by whose it is, and what was handed out for it
 
-owned_of : (item : Option Item) → has_owner item ≡ holder_owned (holder_of item)
-unfolding holder_owned
-owned_of None = refl
-owned_of (Some item) = refl
+module _ (is : Option Item → Bool) (by : Option Holder → Bool) (same : (item : Option Item) → is item ≡ by (holder_of item)) where
+  at_moved : (items new_items : List (Option Item)) → holders new_items ≡ holders items → (number : ℕ)
+      → is (item_at new_items number) ≡ is (item_at items number)
+  at_moved items new_items held number =
+      same (item_at new_items number) ∙ ap by (holder_again items new_items number held) ∙ sym (same (item_at items number))
 
-pub owned_moved : (items new_items : List (Option Item)) → holders new_items ≡ holders items
-    → count_by has_owner new_items ≡ count_by has_owner items
-owned_moved items new_items same =
-    let long : length new_items ≡ length items = sym (length-map new_items holder_of) ∙ ap length same ∙ length-map items holder_of in
-    count_same has_owner has_owner new_items items None None long
-    (λ i inside. owned_of (item_at new_items i) ∙ ap holder_owned (holder_again items new_items i same) ∙ sym (owned_of (item_at items i)))
+  count_moved : (items new_items : List (Option Item)) → holders new_items ≡ holders items → count_by is new_items ≡ count_by is items
+  count_moved items new_items held =
+      let long : length new_items ≡ length items = sym (length-map new_items holder_of) ∙ ap length held ∙ length-map items holder_of in
+      count_same is is new_items items None None long (λ i inside. at_moved items new_items held i)
+
+  lists_moved : (items new_items : List (Option Item)) (numbers : List ℕ) → holders new_items ≡ holders items → ListsThose is numbers items
+      → ListsThose is numbers new_items
+  lists_moved items new_items numbers held lists = record {
+    each = λ number. lists.each number ∙ ap flag (sym (at_moved items new_items held number));
+    count = lists.count ∙ sym (count_moved items new_items held);
+  }
+
+holder_left : Option Holder → Bool
+holder_left None = false
+holder_left (Some holder) = not (is_some holder.client) && is_some holder.handed
+
+left_by : (item : Option Item) → is_left item ≡ holder_left (holder_of item)
+unfolding holder_left
+left_by None = refl
+left_by (Some item) = refl
+
+holder_held : Option Holder → Bool
+holder_held None = false
+holder_held (Some holder) =
+    is_some (owner_by (not (is_some holder.handed)) holder.client) || (not (is_some holder.client) && is_some holder.handed)
+
+held_by : (item : Option Item) → is_held item ≡ holder_held (holder_of item)
+unfolding holder_held
+held_by None = refl
+held_by (Some item) = refl
 
 some_of : (item : Option Item) → is_some item ≡ is_some (holder_of item)
 some_of None = refl
@@ -319,22 +347,22 @@ some_of (Some item) = refl
 
 -- how many there are
 pub some_moved : (items new_items : List (Option Item)) → holders new_items ≡ holders items → count_by is_some new_items ≡ count_by is_some items
-some_moved items new_items same =
-    let long : length new_items ≡ length items = sym (length-map new_items holder_of) ∙ ap length same ∙ length-map items holder_of in
-    count_same is_some is_some new_items items None None long
-    (λ i inside. some_of (item_at new_items i) ∙ ap (λ (o : Option Holder). is_some o) (holder_again items new_items i same) ∙ sym (some_of (item_at items i)))
+some_moved items new_items held = count_moved is_some is_some some_of items new_items held
 
 -- what holds of all that is kept, after moves of lent records
-pub kept_lent : (numbers : Numbers) (records lent new_records whole : List Record) (order new_order : OrderView) (owned : ℕ) → AreListed numbers records order owned → lent ≡ records
-    → whole ≡ new_records → AreRecords new_records → ListsIn numbers new_records new_order
-    → holders (items_of new_records) ≡ holders (items_of lent) → AreListed numbers whole new_order owned
-kept_lent numbers records lent new_records whole order new_order owned kept same back sound listed held =
+pub kept_lent : (numbers : Numbers) (records lent new_records whole : List Record) (order new_order : OrderView) (left : List ℕ) (count : ℕ)
+    → AreListed numbers records order left count → lent ≡ records → whole ≡ new_records → AreRecords new_records → ListsIn numbers new_records new_order
+    → holders (items_of new_records) ≡ holders (items_of lent) → AreListed numbers whole new_order left count
+kept_lent numbers records lent new_records whole order new_order left count kept same back sound listed held =
+    let items = items_of records in
+    let new_items = items_of new_records in
     let holders_are = held ∙ ap (λ (l : List Record). holders (items_of l)) same in
-    subst (λ (l : List Record). AreListed numbers l new_order owned) (sym back) (record {
+    subst (λ (l : List Record). AreListed numbers l new_order left count) (sym back) (record {
       sound = sound;
       listed = listed;
-      owned_is = kept.owned_is ∙ sym (owned_moved (items_of records) (items_of new_records) holders_are);
-      few = omega (arith, kept.few, some_moved (items_of records) (items_of new_records) holders_are);
+      left_are = lists_moved is_left holder_left left_by items new_items left holders_are kept.left_are;
+      held_is = kept.held_is ∙ sym (count_moved is_held holder_held held_by items new_items holders_are);
+      few = omega (arith, kept.few, some_moved items new_items holders_are);
     })
 
 pub gap_below : (state new_state : Option SlotState) (view : SessionsView) → Stand state view [] → IsNarrow state

@@ -136,11 +136,11 @@ owned_moved slots view others n place counter item stand moves m =
     ]
 
 pub stands_moved : (slots : SlotState) (view : SessionsView) (others : List ℕ) (n : ℕ) (place : SessionPlace) (counter : ℕ)
-    (item : Option Item) (next : ℕ) (order listed : List ℕ)
+    (item : Option Item) (next : ℕ) (order listed left : List ℕ)
     → SessionsStand slots view others → Moves slots view.items n place counter item
     → (list_any is_saved_item (set view.items n item) ≡ true → next ≡ counter) → Rise (numbers_along (set view.items n item) listed)
-    → SessionsStand (moved slots n place counter) (record { numbers = view.numbers; items = set view.items n item; next = next; order = order; saved = listed }) others
-stands_moved slots view others n place counter item next order listed stand moves next_is rise = record {
+    → SessionsStand (moved slots n place counter) (record { numbers = view.numbers; items = set view.items n item; next = next; order = order; saved = listed; left = left }) others
+stands_moved slots view others n place counter item next order listed left stand moves next_is rise = record {
   started = stand.started;
   sound = moved_sound slots n counter place stand.sound moves.places moves.limit;
   numbers = stand.numbers;
@@ -243,7 +243,7 @@ pub record Keeps (numbers : Numbers) (old_state new_state : Option SlotState) (i
     (others : List ℕ) : Type 0 where
   pub rest : rest_of new_state ≡ rest_of old_state
   pub sessions : KeepsSessions old_state new_state items new_items
-  pub stand : Stand new_state (record { numbers = numbers; items = new_items; next = next; order = []; saved = [] }) others
+  pub stand : Stand new_state (record { numbers = numbers; items = new_items; next = next; order = []; saved = []; left = [] }) others
   pub gap : gap_in new_state + counter_of old_state ≤ gap_in old_state + counter_of new_state
   pub rises : counter_of old_state ≤ counter_of new_state
 
@@ -369,7 +369,7 @@ saved_told slots view others client handed handle next context stand was may sam
             );
         holders = map_kept holder_of view.items n item inside (sym (ap holder_of was));
       };
-      stand = stands_moved slots view others n place (slots.counter + 1) item next [] [] stand moves.1 (λ some. next_is) tt;
+      stand = stands_moved slots view others n place (slots.counter + 1) item next [] [] [] stand moves.1 (λ some. next_is) tt;
       gap = omega (
         arith,
         gap_saved slots.counter slots.sessions n place (omega (arith, moves.1.fits, stand.sound.numbers))
@@ -404,7 +404,7 @@ loaded_told slots view others client handed handle number context s stand was ro
             );
         holders = map_kept holder_of view.items n item inside (sym (ap holder_of was));
       };
-      stand = stands_moved slots view others n place slots.counter item view.next [] [] stand moves.1
+      stand = stands_moved slots view others n place slots.counter item view.next [] [] [] stand moves.1
           (λ some. stand.next (any_set is_saved_item view.items n item refl some)) tt;
       gap = omega (arith, gap_unsaved slots.counter slots.sessions n place refl);
       rises = omega arith;
@@ -485,7 +485,7 @@ pub record Drops (numbers : Numbers) (old_state new_state : Option SlotState) (i
     (others : List ℕ) : Type 0 where
   pub rest : rest_of new_state ≡ rest_of old_state
   pub sessions : sessions_of new_state new_items ≡ without_session n (sessions_of old_state items)
-  pub stand : Stand new_state (record { numbers = numbers; items = new_items; next = next; order = []; saved = [] }) others
+  pub stand : Stand new_state (record { numbers = numbers; items = new_items; next = next; order = []; saved = []; left = [] }) others
   pub counter : counter_of new_state ≡ counter_of old_state
   pub gap : gap_in new_state ≤ gap_in old_state
 
@@ -502,7 +502,7 @@ ended_drops (Some slots) view others handle item stand was =
       rest = refl;
       sessions = ap (λ (sessions : List (Option Session)). Some sessions)
           (sessions_moved slots view others n inactive slots.counter None stand);
-      stand = stands_moved slots view others n inactive slots.counter None view.next [] [] stand
+      stand = stands_moved slots view others n inactive slots.counter None view.next [] [] [] stand
           (ending slots view others n item stand was)
           (λ some. stand.next (any_set is_saved_item view.items n None refl some)) tt;
       counter = refl;
@@ -732,7 +732,7 @@ swaps_from seen old new records new_records new_next others keeps base_is count 
 
 -- nothing is left changed where a command fails
 pub keeps_same : (numbers : Numbers) (state new_state : Option SlotState) (items new_items : List (Option Item)) (next : ℕ) (others : List ℕ)
-    → Stand state (record { numbers = numbers; items = items; next = next; order = []; saved = [] }) others → new_state ≡ state → new_items ≡ items
+    → Stand state (record { numbers = numbers; items = items; next = next; order = []; saved = []; left = [] }) others → new_state ≡ state → new_items ≡ items
     → Keeps numbers state new_state items new_items next others
 keeps_same numbers state new_state items new_items next others stand state_is items_are =
     let at_rest : Keeps numbers state state items items next others =
@@ -748,7 +748,8 @@ keeps_by numbers state moved new_state items moved_items new_items next others s
     subst (λ (st : Option SlotState). Keeps numbers state st items new_items next others) (sym state_is)
     (subst (λ (list : List (Option Item)). Keeps numbers state moved items list next others) (sym items_are) keeps)
 
--- what stands doesn't depend on the order of the loaded sessions, and on that of the saved ones by their numbers alone
+-- what stands doesn't depend on which sessions were left and on the order of the loaded ones, and on that of the saved ones by their
+-- numbers alone
 pub stands_alike : (slots : SlotState) (view new_view : SessionsView) (others : List ℕ) → view.numbers ≡ new_view.numbers
     → view.items ≡ new_view.items → view.next ≡ new_view.next
     → Rise (numbers_along new_view.items new_view.saved) → SessionsStand slots view others → SessionsStand slots new_view others
@@ -759,8 +760,9 @@ stands_alike slots view new_view others numbers items next rise stand =
       next = view.next;
       order = new_view.order;
       saved = new_view.saved;
+      left = new_view.left;
     } ≡ new_view =
-    λ i. record { numbers = numbers i; items = items i; next = next i; order = new_view.order; saved = new_view.saved } in
+    λ i. record { numbers = numbers i; items = items i; next = next i; order = new_view.order; saved = new_view.saved; left = new_view.left } in
     subst (λ (v : SessionsView). SessionsStand slots v others) same (record {
       started = stand.started;
       sound = stand.sound;

@@ -1,17 +1,19 @@
--- Sessions of a client and of nobody: how they are found, and what is left of one whose client is closed.
-use Rattle.std.proofs.Common.{◌≡◌, ◌<◌, ℕ, Bool, true, false, List, length, get_or, set, refl, ap, subst, sym, ◌∙◌, arith}
-use Rattle.std.specs.Prelude.{Option, Some, None, is_some, IfSome}
+-- Sessions of a client, left ones and orphans: how they are found.
+use Rattle.std.proofs.Common.{◌≡◌, ◌<◌, ℕ, Bool, true, false, List, length, get_or, refl, ap, sym, subst, ◌∙◌, arith}
+use Rattle.std.specs.Prelude.{slice_get, Option, Some, None, is_some, IfSome}
 use Rattle.std.specs.List.{list_any}
-use Rattle.std.proofs.lemmas.List.{length-map, map-set}
+use Rattle.std.proofs.lemmas.List.{length-map}
 use Rattle.std.proofs.lemmas.List.Elements.{All-from_get_or}
 use Rattle.std.proofs.lemmas.List.Folds.{list_any_none}
+use Rattle.std.proofs.lemmas.Option.{get_or_from_slice_get, slice_get_within}
 use Rattle.tab_spec.specs.Shape.{number_of_session}
-use Rattle.session_swap.specs.declared.record.Place.{Place}
-use Rattle.session_swap.specs.declared.record.Place.TheVariants as places
+use Rattle.tab_spec.specs.declared.numbers.Numbers.{Numbers}
 use Rattle.session_swap.specs.declared.record.Record.{Record}
-use Rattle.session_swap.specs.Items.{Item, Names, disowned, is_orphan, is_owned, is_owner, item_at, owner_in}
-use Rattle.session_swap.specs.Records.{AreRecords, IsHandleOf, IsRecord, handed_of, item_in, item_of_record, items_of}
-use Rattle.session_swap.proofs.Making.{item_there, own_item, own_there, records_set}
+use Rattle.session_swap.specs.Items.{Item, Names, is_left, is_orphan, is_owned, is_owner, item_at, owner_in}
+use Rattle.session_swap.specs.Records.{AreListed, AreRecords, IsHandleOf, OrderView, handed_of, item_of_record, items_of}
+use Rattle.session_swap.proofs.Among.{some_inside}
+use Rattle.session_swap.proofs.Listing.{listed_is}
+use Rattle.session_swap.proofs.Making.{own_handle, own_item, own_number, own_there, read_there}
 
 -- ---- a session that is found
 
@@ -34,6 +36,12 @@ owned_found records number client r sound inside is owned =
       ap (is_owned client) own ∙ owned,
     )
 
+-- its handle has its number
+pub owned_number : (records : List Record) (number client : ℕ) (r : Record) → AreRecords records → number < length records
+    → r ≡ get_or records number r → is_owned client (item_of_record r) ≡ true → number_of_session r.handle ≡ number
+owned_number records number client r sound inside is owned =
+    own_handle records number r sound inside is (owned_some client (item_of_record r) owned)
+
 -- a record of nobody's session
 pub orphan_found : (records : List Record) (number : ℕ) (r : Record) → AreRecords records → number < length records
     → r ≡ get_or records number r → is_orphan (item_of_record r) ≡ true
@@ -52,43 +60,42 @@ none_found records test none =
     list_any_none test items (All-from_get_or (λ (item : Option Item). test item ≡ false) items None
     (λ k inside. none k (omega (arith, inside, length-map records item_of_record))))
 
--- ---- a session that is left to nobody
+-- ---- a left session
 
-disowned_in : (place : Place) (client : Option ℕ) (handle : ℕ) (context : List ℕ) (handed : Option (List ℕ))
-    → item_in place None handle context handed ≡ disowned (item_in place client handle context handed)
-disowned_in places.Unused client handle context handed = refl
-disowned_in places.Loaded client handle context handed = refl
-disowned_in (places.Saved number) client handle context handed = refl
+left_some : (item : Option Item) → is_left item ≡ true → is_some item ≡ true
+left_some None is = absurd cc
+left_some (Some item) is = refl
 
-disowned_handle : (number : ℕ) (item : Option Item) → IfSome item (λ item. IsHandleOf number item)
-    → IfSome (disowned item) (λ item. IsHandleOf number item)
-disowned_handle number None is = tt
-disowned_handle number (Some item) is = record { session = is.session; number_is = is.number_is }
+-- what is listed as left has a record
+pub left_inside : {numbers : Numbers} (records : List Record) (order : OrderView) (left : List ℕ) (held place number : ℕ)
+    → AreListed numbers records order left held → slice_get left place ≡ Some number → is_some (item_at (items_of records) number) ≡ true
+left_inside records order left held place number kept there =
+    let items = items_of records in
+    left_some (item_at items number)
+    (ap (λ (n : ℕ). is_left (item_at items n)) (sym (get_or_from_slice_get left place number 0 there))
+    ∙ listed_is is_left refl items left place 0 kept.left_are (slice_get_within left place number there))
 
--- a record without its client
-abbrev pub without_client : Record → Record
-without_client r = record r { client = None }
+pub left_below : {numbers : Numbers} (records : List Record) (order : OrderView) (left : List ℕ) (held place number : ℕ)
+    → AreListed numbers records order left held → slice_get left place ≡ Some number → number < length records
+left_below records order left held place number kept there =
+    omega (
+      arith,
+      some_inside (items_of records) number (left_inside records order left held place number kept there),
+      length-map records item_of_record,
+    )
 
-pub disowned_record : (r : Record) → item_of_record (without_client r) ≡ disowned (item_of_record r)
-disowned_record r = disowned_in r.place r.client r.handle r.context.items (handed_of r)
-
-pub disowned_there : (records : List Record) (number : ℕ) (r : Record) → number < length records → r ≡ get_or records number r
-    → item_of_record (without_client r) ≡ disowned (item_at (items_of records) number)
-disowned_there records number r inside is =
-    disowned_record r ∙ ap disowned (ap item_of_record is ∙ sym (item_there records number r inside))
-
-pub disowned_items : (records : List Record) (number : ℕ) (r : Record) → number < length records → r ≡ get_or records number r
-    → items_of (set records number (without_client r))
-    ≡ set (items_of records) number (disowned (item_at (items_of records) number))
-disowned_items records number r inside is =
-    map-set item_of_record records number (without_client r)
-    ∙ ap (set (items_of records) number) (disowned_there records number r inside is)
-
-pub disowned_records : (records : List Record) (number : ℕ) (r : Record) → AreRecords records → number < length records
-    → r ≡ get_or records number r → AreRecords (set records number (without_client r))
-disowned_records records number r sound inside is =
-    let was : IsRecord r = subst (λ (r : Record). IsRecord r) (sym is) (sound.each number r inside) in
-    records_set records number (without_client r) sound inside (record { room = was.room; handed_room = was.handed_room; context = was.context })
-    (subst (λ (o : Option Item). IfSome o (λ item. IsHandleOf number item))
-    (sym (disowned_there records number r inside is))
-    (disowned_handle number (item_at (items_of records) number) (sound.handles number)))
+-- and its handle names it
+pub left_named : {numbers : Numbers} (records : List Record) (order : OrderView) (left : List ℕ) (held place number : ℕ) (r : Record)
+    → AreListed numbers records order left held → slice_get left place ≡ Some number → r ≡ get_or records number r
+    → (slice_get left place ≡ Some (number_of_session r.handle)) × Names (items_of records) r.handle
+left_named records order left held place number r kept there is =
+    let items = items_of records in
+    let inside = left_below records order left held place number kept there in
+    let here = read_there records number r inside is in
+    let some : is_some (item_of_record r) ≡ true =
+    ap (λ (o : Option Item). is_some o) (sym here) ∙ left_inside records order left held place number kept there in
+    let handle : IfSome (item_of_record r) (λ item. IsHandleOf number item) =
+    subst (λ (o : Option Item). IfSome o (λ item. IsHandleOf number item)) here (kept.sound.handles number) in (
+      there ∙ ap (λ (n : ℕ). Some n) (sym (own_number r.place r.client r.handle r.context.items (handed_of r) number some handle)),
+      ap (λ (o : Option Item). is_some o) (own_item records number r kept.sound inside is some) ∙ some,
+    )

@@ -1,60 +1,119 @@
--- How many sessions there are, and how many clients have, where one changes; and all that is kept of the sessions then.
+-- How many sessions there are, and how many of them clients have, or left, where one changes.
 use Rattle.std.proofs.Common.{◌≡◌, ◌+◌, ◌-◌, ◌<◌, ◌≤◌, inl, inr, ℕ, Bool, true, false, List, [], ◌∷◌, ◌++◌, length, set, refl, ap, subst, sym, ◌∙◌, arith}
-use Rattle.std.specs.Prelude.{IfSome, None, Option, Some, is_some, not}
+use Rattle.std.specs.Prelude.{◌&&◌, ◌||◌, IfSome, None, Option, Some, is_some, not}
 use Rattle.std.specs.List.{count_by}
-use Rattle.std.proofs.lemmas.Bool.{cases_lt}
-use Rattle.std.proofs.lemmas.List.{map-set, set_past}
+use Rattle.std.proofs.lemmas.Bool.{and_parts, cases_lt, or_left, or_right}
+use Rattle.std.proofs.lemmas.List.{set_past}
 use Rattle.device_spec.specs.Slots.{SlotState}
-use Rattle.tab_spec.specs.declared.numbers.Numbers.{Numbers}
-use Rattle.session_swap.specs.declared.record.Record.{Record}
-use Rattle.session_swap.specs.Items.{Item, ListsThose, SessionsView, Stand, context_number, disowned, flag, has_owner, is_loaded_item, is_orphan, is_saved_item, item_at, loaded_items, number_of_item, owner_by, rest_of, saved_by_client, saved_items, taken_back}
+use Rattle.tab_spec.specs.Shape.{number_of_session}
+use Rattle.session_swap.specs.Items.{Item, ListsThose, SessionsView, Stand, context_number, disowned, equals_handed, flag, has_owner, is_handed_to, is_held, is_left, is_loaded_item, is_orphan, is_owned, is_owner, is_saved_for_owner, is_saved_item, item_at, item_of, left_behind, loaded_items, number_of_item, owner_by, owner_of_item, rest_of, saved_by_client, saved_items, taken_back}
 use Rattle.session_swap.specs.Moves.{RiseIn}
-use Rattle.session_swap.specs.Records.{AreListed, AreRecords, OrderView, item_of_record, items_of}
-use Rattle.session_swap.proofs.Among.{loaded_inside}
+use Rattle.session_swap.proofs.Among.{loaded_inside, named_is}
 use Rattle.session_swap.proofs.Counts.{count_cons, count_one, count_set, flag_false}
-use Rattle.session_swap.proofs.Listing.{listed_set, not_listed, unsaved_by}
+use Rattle.session_swap.proofs.Listing.{not_listed, unsaved_by}
 use Rattle.session_swap.proofs.Rising.{number_under, rise_saved}
 
-owner_some : (used : Bool) (client : Option ℕ) → is_some (owner_by used client) ≡ is_some client
+pub owner_some : (used : Bool) (client : Option ℕ) → is_some (owner_by used client) ≡ is_some client
 owner_some used None = refl
 owner_some used (Some client) = refl
 
+-- ---- a session of a client, or left, or an orphan
+
+-- a client's is held, and so is a left one
+pub owner_held : (item : Option Item) → has_owner item ≡ true → is_held item ≡ true
+owner_held item is = or_left (has_owner item) (is_left item) is
+
+left_held : (item : Option Item) → is_left item ≡ true → is_held item ≡ true
+left_held item is = or_right (has_owner item) (is_left item) is
+
+owner_unleft_by : (client : Option ℕ) (handed : Option (List ℕ)) → is_some client ≡ true → (not (is_some client) && is_some handed) ≡ false
+owner_unleft_by client handed is = ap (λ (b : Bool). not b && is_some handed) is
+
+-- and a client's isn't left
+pub owner_unleft : (item : Option Item) → has_owner item ≡ true → is_left item ≡ false
+owner_unleft None is = refl
+owner_unleft (Some item) is =
+    owner_unleft_by item.client item.handed (sym (owner_some (not (is_some item.handed)) item.client) ∙ is)
+
+owner_there : (client : ℕ) (owner : Option (ℕ × Bool)) → is_owner client owner ≡ true → is_some owner ≡ true
+owner_there client None is = absurd cc
+owner_there client (Some owner) is = refl
+
+either_held : (client : ℕ) (item : Option Item) (own : Bool) → is_owned client item ≡ own → (own || is_left item) ≡ true → is_held item ≡ true
+either_held client item true own any = owner_held item (owner_there client (owner_of_item item) own)
+either_held client item false own any = left_held item any
+
+-- one that a client may take back
+pub given_held : (client : ℕ) (bytes : List ℕ) (item : Option Item) → is_handed_to client bytes item ≡ true → is_held item ≡ true
+given_held client bytes None is = absurd cc
+given_held client bytes (Some item) is =
+    either_held client (Some item) (is_owned client (Some item)) refl
+    (and_parts (is_owned client (Some item) || is_left (Some item)) (equals_handed bytes item.handed) is).0
+
+-- it is the client's then
+pub taken_owner : (client : ℕ) (item : Option Item) → is_some item ≡ true → has_owner (taken_back client item) ≡ true
+taken_owner client None there = absurd cc
+taken_owner client (Some item) there = refl
+
+pub taken_unleft : (client : ℕ) (item : Option Item) → is_left (taken_back client item) ≡ false
+taken_unleft client None = refl
+taken_unleft client (Some item) = refl
+
+pub disowned_unleft : (item : Option Item) → is_left (disowned item) ≡ false
+disowned_unleft None = refl
+disowned_unleft (Some item) = refl
+
+pub disowned_unheld : (item : Option Item) → is_held (disowned item) ≡ false
+disowned_unheld None = refl
+disowned_unheld (Some item) = refl
+
+-- one that its client saved, and leaves
+pub saved_owner : (item : Option Item) → is_saved_for_owner item ≡ true → has_owner item ≡ true
+saved_owner None is = absurd cc
+saved_owner (Some item) is =
+    owner_some (not (is_some item.handed)) item.client ∙ (and_parts (is_some item.client) (is_some item.handed) is).0
+
+pub saved_there : (item : Option Item) → is_saved_for_owner item ≡ true → is_some item ≡ true
+saved_there None is = absurd cc
+saved_there (Some item) is = refl
+
+pub behind_left : (item : Option Item) → is_saved_for_owner item ≡ true → is_left (left_behind item) ≡ true
+behind_left None is = absurd cc
+behind_left (Some item) is = (and_parts (is_some item.client) (is_some item.handed) is).1
+
+pub behind_counts : (item : Option Item) → is_saved_for_owner item ≡ true → is_held (left_behind item) ≡ true
+behind_counts item is = left_held (left_behind item) (behind_left item is)
+
+-- the context of a client's session is handed out
 pub owner_saved : (bytes : List ℕ) (item : Option Item) → has_owner (saved_by_client bytes item) ≡ has_owner item
 owner_saved bytes None = refl
 owner_saved bytes (Some item) =
     owner_some (not (is_some (Some bytes))) item.client ∙ sym (owner_some (not (is_some item.handed)) item.client)
 
-pub owner_taken : (item : Option Item) → has_owner (taken_back item) ≡ has_owner item
-owner_taken None = refl
-owner_taken (Some item) = owner_some true item.client ∙ sym (owner_some (not (is_some item.handed)) item.client)
+pub held_saved : (bytes : List ℕ) (item : Option Item) → has_owner item ≡ true → is_held (saved_by_client bytes item) ≡ is_held item
+held_saved bytes item is =
+    owner_held (saved_by_client bytes item) (owner_saved bytes item ∙ is) ∙ sym (owner_held item is)
 
-pub owner_disowned : (item : Option Item) → has_owner (disowned item) ≡ false
-owner_disowned None = refl
-owner_disowned (Some item) = refl
+pub left_saved : (bytes : List ℕ) (item : Option Item) → has_owner item ≡ true → is_left (saved_by_client bytes item) ≡ is_left item
+left_saved bytes item is =
+    owner_unleft (saved_by_client bytes item) (owner_saved bytes item ∙ is) ∙ sym (owner_unleft item is)
+
+owned_there : (item : Option Item) → has_owner item ≡ true → is_some item ≡ true
+owned_there None is = absurd cc
+owned_there (Some item) is = refl
+
+-- the item of a handle that names one is that of its number
+pub owner_whole : (items : List (Option Item)) (handle : ℕ) → has_owner (item_of items handle) ≡ true
+    → has_owner (item_at items (number_of_session handle)) ≡ true
+owner_whole items handle is = ap has_owner (sym (named_is items handle (owned_there (item_of items handle) is))) ∙ is
+
+pub saved_whole : (items : List (Option Item)) (handle : ℕ) → is_saved_for_owner (item_of items handle) ≡ true
+    → is_saved_for_owner (item_at items (number_of_session handle)) ≡ true
+saved_whole items handle is = ap is_saved_for_owner (sym (named_is items handle (saved_there (item_of items handle) is))) ∙ is
 
 pub some_saved : (bytes : List ℕ) (item : Option Item) → is_some (saved_by_client bytes item) ≡ is_some item
 some_saved bytes None = refl
 some_saved bytes (Some item) = refl
-
-pub some_disowned : (item : Option Item) → is_some (disowned item) ≡ is_some item
-some_disowned None = refl
-some_disowned (Some item) = refl
-
-pub taken_loaded : (item : Option Item) → is_loaded_item (taken_back item) ≡ is_loaded_item item
-taken_loaded None = refl
-taken_loaded (Some item) = refl
-
-pub taken_saved : (item : Option Item) → is_saved_item (taken_back item) ≡ is_saved_item item
-taken_saved None = refl
-taken_saved (Some item) = refl
-
-pub disowned_loaded : (item : Option Item) → is_loaded_item (disowned item) ≡ is_loaded_item item
-disowned_loaded None = refl
-disowned_loaded (Some item) = refl
-
-pub disowned_saved : (item : Option Item) → is_saved_item (disowned item) ≡ is_saved_item item
-disowned_saved None = refl
-disowned_saved (Some item) = refl
 
 -- what is there and isn't loaded is saved
 pub saved_else : (item : Option Item) → is_some item ≡ true → is_saved_item item ≡ not (is_loaded_item item)
@@ -71,24 +130,25 @@ flags_both : (b : Bool) → flag b + flag (not b) ≡ 1
 flags_both true = refl
 flags_both false = refl
 
-split_one : (item : Option Item) → flag (has_owner item) + flag (is_orphan item) ≡ flag (is_loaded_item item) + flag (is_saved_item item)
-split_one None = refl
-split_one (Some item) =
-    omega (
-      arith,
-      ap flag (owner_some (not (is_some item.handed)) item.client),
-      flags_both (is_some item.client),
-      flags_both (is_some item.saved),
-    )
+held_else : (client : Option ℕ) (handed : Option (List ℕ))
+    → flag (is_some (owner_by (not (is_some handed)) client) || (not (is_some client) && is_some handed))
+    + flag (not (is_some client) && not (is_some handed)) ≡ 1
+held_else None None = refl
+held_else None (Some handed) = refl
+held_else (Some client) handed = refl
 
--- each session is loaded or saved, and a client's or nobody's
+split_one : (item : Option Item) → flag (is_held item) + flag (is_orphan item) ≡ flag (is_loaded_item item) + flag (is_saved_item item)
+split_one None = refl
+split_one (Some item) = omega (arith, held_else item.client item.handed, flags_both (is_some item.saved))
+
+-- each session is loaded or saved, and held or an orphan
 pub owners_split : (items : List (Option Item))
-    → count_by has_owner items + count_by is_orphan items ≡ loaded_items items + saved_items items
+    → count_by is_held items + count_by is_orphan items ≡ loaded_items items + saved_items items
 owners_split [] = refl
 owners_split (item ∷ items) =
     omega (
       arith,
-      count_cons has_owner item items,
+      count_cons is_held item items,
       count_cons is_orphan item items,
       count_cons is_loaded_item item items,
       count_cons is_saved_item item items,
@@ -121,42 +181,15 @@ count_unchanged p items n item same =
       | inr past ↦ ap (count_by p) (set_past items n item past)
     ]
 
--- one that had an owner, or hadn't, has none any more
-pub owned_less : (items : List (Option Item)) (n : ℕ) (item : Option Item) (had : Bool) → n < length items → has_owner (item_at items n) ≡ had
-    → has_owner item ≡ false → count_by has_owner (set items n item) ≡ count_by has_owner items - flag had
-owned_less items n item had inside was out =
-    omega (arith, count_set has_owner items n item None inside, ap flag was, flag_false (has_owner item) out)
+-- one that was held, or wasn't, isn't any more
+pub held_less : (items : List (Option Item)) (n : ℕ) (item : Option Item) (was : Bool) → n < length items → is_held (item_at items n) ≡ was
+    → is_held item ≡ false → count_by is_held (set items n item) ≡ count_by is_held items - flag was
+held_less items n item was inside is out =
+    omega (arith, count_set is_held items n item None inside, ap flag is, flag_false (is_held item) out)
 
-pub owned_most : (items : List (Option Item)) (n : ℕ) (had : Bool) → n < length items → has_owner (item_at items n) ≡ had
-    → flag had ≤ count_by has_owner items
-owned_most items n had inside was = omega (arith, count_one has_owner items n None inside, ap flag was)
-
--- ---- all that is kept
-
--- one record changes, and counts as before
-pub kept_set : {numbers : Numbers} (records : List Record) (order : OrderView) (owned n : ℕ) (r : Record) → AreListed numbers records order owned → AreRecords (set records n r)
-    → is_loaded_item (item_of_record r) ≡ is_loaded_item (item_at (items_of records) n)
-    → is_saved_item (item_of_record r) ≡ is_saved_item (item_at (items_of records) n)
-    → has_owner (item_of_record r) ≡ has_owner (item_at (items_of records) n) → AreListed numbers (set records n r) order owned
-kept_set records order owned n r kept sound loaded saved owner =
-    let items = items_of records in
-    let item = item_of_record r in
-    record {
-      sound = sound;
-      listed = listed_set records order n r kept.listed loaded saved;
-      owned_is = kept.owned_is
-          ∙ sym (count_unchanged has_owner items n item owner)
-          ∙ ap (count_by has_owner) (sym (map-set item_of_record records n r));
-      few = omega (
-        arith,
-        kept.few,
-        ap (λ (l : List (Option Item)). count_by is_some l) (map-set item_of_record records n r),
-        some_split items,
-        some_split (set items n item),
-        count_unchanged is_loaded_item items n item loaded,
-        count_unchanged is_saved_item items n item saved,
-      );
-    }
+pub held_most : (items : List (Option Item)) (n : ℕ) (was : Bool) → n < length items → is_held (item_at items n) ≡ was
+    → flag was ≤ count_by is_held items
+held_most items n was inside is = omega (arith, count_one is_held items n None inside, ap flag is)
 
 -- ---- a session that was saved for its client
 

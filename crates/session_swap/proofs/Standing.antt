@@ -11,7 +11,7 @@ use Rattle.tab_spec.specs.Session.{Session}
 use Rattle.tab_spec.specs.Shape.{number_of_session, octet_of}
 use Rattle.device_spec.specs.Slots.{SessionPlace, SlotState, IsSlots, inactive, loaded, saved, is_active, is_active_with, is_loaded, session_in_place}
 use Rattle.device_laws.proofs.Places.{ArePlaces}
-use Rattle.session_swap.specs.Items.{AreAlike, IsPlaceOf, Item, ItemStands, Names, Saved, SessionsStand, SessionsView, context_of, disowned, flag, is_saved_item, item_at, item_session, new_item, number_of_item, place_at, taken_back}
+use Rattle.session_swap.specs.Items.{AreAlike, IsPlaceOf, Item, ItemStands, Names, Saved, SessionsStand, SessionsView, context_of, disowned, flag, is_loaded_item, is_saved_item, item_at, item_session, left_behind, new_item, number_of_item, place_at, taken_back}
 use Rattle.session_swap.specs.Moves.{with_handed}
 use Rattle.session_swap.proofs.Moved.{Moves, are_places, ending, has_item, item_inside, moved, session_loaded, stands_moved}
 use Rattle.session_swap.proofs.Rising.{rise_gone, rise_set, unsaved_none}
@@ -117,7 +117,7 @@ stands_by : (slots new : SlotState) (view : SessionsView) (others : List ℕ) (n
     → SessionsStand new (record view { items = set view.items n item }) others
 stands_by slots new view others n place item stand started sound counter seed numbers sessions moves unsaved =
     stands_changed (moved slots n place slots.counter) new (record view { items = set view.items n item }) others
-    (stands_moved slots view others n place slots.counter item view.next view.order view.saved stand moves
+    (stands_moved slots view others n place slots.counter item view.next view.order view.saved view.left stand moves
     (λ some. stand.next (any_set is_saved_item view.items n item unsaved some))
     (rise_gone view.items n item view.saved (unsaved_none item unsaved) stand.rise))
     started sound counter seed numbers
@@ -187,7 +187,7 @@ stands_ended slots new view others handle stand started sound counter seed numbe
     stands_by slots new view others (number_of_session handle) inactive None stand started sound counter seed numbers sessions
     (ending slots view others (number_of_session handle) has.item stand has.was) refl
 
--- ---- a session is left to nobody, or its context is handed out or taken back
+-- ---- whose a session is changes, or its context is handed out
 
 -- the same session, with this client, and with this context that was handed out
 abbrev pub held_as : Option ℕ → Option (List ℕ) → Option Item → Option Item
@@ -201,15 +201,19 @@ pub record IsHeldAs (item other : Option Item) : Type 0 where
 
 disowned_held : (item : Option Item) → IsHeldAs item (disowned item)
 disowned_held None = record { client = None; handed = None; is = refl }
-disowned_held (Some item) = record { client = None; handed = item.handed; is = refl }
+disowned_held (Some item) = record { client = None; handed = None; is = refl }
+
+behind_held : (item : Option Item) → IsHeldAs item (left_behind item)
+behind_held None = record { client = None; handed = None; is = refl }
+behind_held (Some item) = record { client = None; handed = item.handed; is = refl }
 
 pub handed_held : (bytes : List ℕ) (item : Option Item) → IsHeldAs item (with_handed bytes item)
 handed_held bytes None = record { client = None; handed = None; is = refl }
 handed_held bytes (Some item) = record { client = item.client; handed = Some bytes; is = refl }
 
-pub taken_held : (item : Option Item) → IsHeldAs item (taken_back item)
-taken_held None = record { client = None; handed = None; is = refl }
-taken_held (Some item) = record { client = item.client; handed = None; is = refl }
+pub taken_held : (client : ℕ) (item : Option Item) → IsHeldAs item (taken_back client item)
+taken_held client None = record { client = None; handed = None; is = refl }
+taken_held client (Some item) = record { client = Some client; handed = None; is = refl }
 
 held_item : (slots : SlotState) (number : ℕ) (client : Option ℕ) (handed : Option (List ℕ)) (item : Option Item)
     → IfSome item (λ item. ItemStands slots number item)
@@ -218,11 +222,16 @@ held_item slots number client handed None stands = tt
 held_item slots number client handed (Some item) stands =
     record { number_is = stands.number_is; handle = stands.handle; place = stands.place; there = stands.there }
 
-held_some : (client : Option ℕ) (handed : Option (List ℕ)) (item : Option Item) → is_some (held_as client handed item) ≡ is_some item
+pub held_some : (client : Option ℕ) (handed : Option (List ℕ)) (item : Option Item) → is_some (held_as client handed item) ≡ is_some item
 held_some client handed None = refl
 held_some client handed (Some item) = refl
 
-held_saved : (client : Option ℕ) (handed : Option (List ℕ)) (item : Option Item)
+pub held_loaded : (client : Option ℕ) (handed : Option (List ℕ)) (item : Option Item)
+    → is_loaded_item (held_as client handed item) ≡ is_loaded_item item
+held_loaded client handed None = refl
+held_loaded client handed (Some item) = refl
+
+pub held_saved : (client : Option ℕ) (handed : Option (List ℕ)) (item : Option Item)
     → is_saved_item (held_as client handed item) ≡ is_saved_item item
 held_saved client handed None = refl
 held_saved client handed (Some item) = refl
@@ -270,10 +279,10 @@ item_set items n m item P inside this other =
       | inr apart ↦ subst P (sym (get_or-set_other items n m item None apart)) other
     ]
 
-stands_held_as : (slots : SlotState) (view : SessionsView) (others : List ℕ) (n : ℕ) (client : Option ℕ) (handed : Option (List ℕ))
+stands_held_as : (slots : SlotState) (view : SessionsView) (left others : List ℕ) (n : ℕ) (client : Option ℕ) (handed : Option (List ℕ))
     → SessionsStand slots view others → n < length view.items
-    → SessionsStand slots (record view { items = set view.items n (held_as client handed (item_at view.items n)) }) others
-stands_held_as slots view others n client handed stand inside =
+    → SessionsStand slots (record view { items = set view.items n (held_as client handed (item_at view.items n)); left = left }) others
+stands_held_as slots view left others n client handed stand inside =
     let was = item_at view.items n in
     let other = held_as client handed was in
     record {
@@ -300,27 +309,46 @@ stands_held_as slots view others n client handed stand inside =
       rise = rise_set view.items n other view.saved (λ m is. sym (held_number client handed was) ∙ is) stand.rise;
     }
 
--- and it stands on
-pub stands_held : (slots : SlotState) (view : SessionsView) (others : List ℕ) (n : ℕ) (other : Option Item)
+-- and it stands on, whichever sessions were left
+pub stands_held : (slots : SlotState) (view : SessionsView) (left others : List ℕ) (n : ℕ) (other : Option Item)
     → SessionsStand slots view others → n < length view.items → IsHeldAs (item_at view.items n) other
-    → SessionsStand slots (record view { items = set view.items n other }) others
-stands_held slots view others n other stand inside held =
-    subst (λ (o : Option Item). SessionsStand slots (record view { items = set view.items n o }) others) (sym held.is)
-    (stands_held_as slots view others n held.client held.handed stand inside)
+    → SessionsStand slots (record view { items = set view.items n other; left = left }) others
+stands_held slots view left others n other stand inside held =
+    subst (λ (o : Option Item). SessionsStand slots (record view { items = set view.items n o; left = left }) others) (sym held.is)
+    (stands_held_as slots view left others n held.client held.handed stand inside)
 
 pub sessions_disowned : (slots : SlotState) (items : List (Option Item)) (number : ℕ)
     → map (item_session slots) (set items number (disowned (item_at items number))) ≡ map (item_session slots) items
 sessions_disowned slots items number =
     sessions_held slots items number (disowned (item_at items number)) (disowned_held (item_at items number))
 
-pub stands_disowned : (slots : SlotState) (view : SessionsView) (others : List ℕ) (handle : ℕ)
+pub sessions_behind : (slots : SlotState) (items : List (Option Item)) (number : ℕ)
+    → map (item_session slots) (set items number (left_behind (item_at items number))) ≡ map (item_session slots) items
+sessions_behind slots items number =
+    sessions_held slots items number (left_behind (item_at items number)) (behind_held (item_at items number))
+
+pub stands_disowned : (slots : SlotState) (view : SessionsView) (left others : List ℕ) (handle : ℕ)
     → SessionsStand slots view others → Names view.items handle
     → SessionsStand slots (record view {
       items = set view.items (number_of_session handle)
           (disowned (item_at view.items (number_of_session handle)));
+      left = left;
     }) others
-stands_disowned slots view others handle stand named =
+stands_disowned slots view left others handle stand named =
     let n = number_of_session handle in
     let has = has_item view.items handle named in
-    stands_held slots view others n (disowned (item_at view.items n)) stand (item_inside view.items n has.item has.was)
+    stands_held slots view left others n (disowned (item_at view.items n)) stand (item_inside view.items n has.item has.was)
     (disowned_held (item_at view.items n))
+
+pub stands_behind : (slots : SlotState) (view : SessionsView) (left others : List ℕ) (handle : ℕ)
+    → SessionsStand slots view others → Names view.items handle
+    → SessionsStand slots (record view {
+      items = set view.items (number_of_session handle)
+          (left_behind (item_at view.items (number_of_session handle)));
+      left = left;
+    }) others
+stands_behind slots view left others handle stand named =
+    let n = number_of_session handle in
+    let has = has_item view.items handle named in
+    stands_held slots view left others n (left_behind (item_at view.items n)) stand (item_inside view.items n has.item has.was)
+    (behind_held (item_at view.items n))

@@ -20,6 +20,13 @@ without_at number (x ∷ xs) (suc at) inside before here =
     ap (λ (b : Bool). if b then xs else x ∷ without_one number xs) (ne_eqb x number (before 0 (omega arith)))
     ∙ ap (λ (l : List ℕ). x ∷ l) (without_at number xs at (omega (arith, inside)) (λ k below. before (suc k) (omega (arith, below))) here)
 
+-- and where it stands at none, nothing is taken out
+pub without_never : (number : ℕ) (xs : List ℕ) → ((k : ℕ) → k < length xs → get_or xs k 0 ≡ number → ⊥) → without_one number xs ≡ xs
+without_never number [] never = refl
+without_never number (x ∷ xs) never =
+    ap (λ (b : Bool). if b then xs else x ∷ without_one number xs) (ne_eqb x number (never 0 (omega arith)))
+    ∙ ap (λ (l : List ℕ). x ∷ l) (without_never number xs (λ k below. never (suc k) (omega (arith, below))))
+
 -- where the number stands: nowhere, and nothing is taken out, or at this place
 abbrev Stands : ℕ → List ℕ → Type 0
 Stands number xs =

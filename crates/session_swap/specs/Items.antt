@@ -1,6 +1,7 @@
 -- The sessions that a swapper holds for its clients, each under its number: loaded in the device, or saved in a context beside it
--- (Part 1, "Session Context Management"). A client may have saved one itself: that isn't in use until it gives the context back that
--- was handed out for it. What a device that tells its state has of them is said over that state.
+-- (Part 1, "Session Context Management"). A client may have saved one itself: that isn't in use until the context that was handed out
+-- for it is given back. Once its client has closed, such a session is left: whoever gives the context back gets it. What a device that
+-- tells its state has of them is said over that state.
 use Rattle.std.specs.Prelude.{◌≡◌, ◌<◌, ◌≤◌, ◌⊎◌, ℕ, ◌+◌, ◌-◌, ◌*◌, ◌^◌, ◌==◌, ◌&&◌, ◌||◌, min, not, bytes_eq, Bool, true, false, List, [], ◌∷◌, ◌++◌, length, map, get_or, set, replicate, slice_get, Option, Some, None, is_some, IfSome, IsSomeAnd, Result, Ok, Err, OnErr, OnOk, take, drop, if◌then◌else◌}
 use Rattle.std.specs.Int.{w64, from_be_bytes}
 use Rattle.std.specs.List.{AllByRecursion, count_by, list_any}
@@ -26,8 +27,8 @@ pub record Saved : Type 0 where
   pub number : ℕ
   pub context : List ℕ
 
--- the client that has the session, if any; its handle; its last context, if it isn't loaded; and the context that was handed out,
--- if its client saved it. Without that it is in use
+-- the client that has the session, none for a left session and an orphan; its handle; its last context, if it isn't loaded; and the
+-- context that was handed out, if a client saved it. Without that it is in use, or an orphan
 pub record Item : Type 0 where
   pub client : Option ℕ
   pub handle : ℕ
@@ -35,13 +36,15 @@ pub record Item : Type 0 where
   pub handed : Option (List ℕ)
 
 -- what is seen of a swapper: how much the device has room for, its sessions, by number, the number that the next context gets, the
--- numbers of the loaded sessions, the least recently used first, and those of the saved ones, in the order in which they were saved
+-- numbers of the loaded sessions, the least recently used first, those of the saved ones, in the order in which they were saved, and
+-- those of the left ones, in the order in which they were left
 pub record SessionsView : Type 0 where
   pub numbers : Numbers
   pub items : List (Option Item)
   pub next : ℕ
   pub order : List ℕ
   pub saved : List ℕ
+  pub left : List ℕ
 
 -- ---- items
 
@@ -69,15 +72,30 @@ loaded_items items = count_by is_loaded_item items
 abbrev pub new_item : ℕ → ℕ → Item
 new_item client handle = record { client = Some client; handle = handle; saved = None; handed = None }
 
--- the same session, left to nobody
+-- the same session as an orphan: nobody's, and only still to be flushed
 abbrev pub disowned : Option Item → Option Item
 disowned None = None
-disowned (Some item) = Some (record item { client = None })
+disowned (Some item) = Some (record item { client = None; handed = None })
 
--- a session of nobody
+-- an orphan
 abbrev pub is_orphan : Option Item → Bool
 is_orphan None = false
-is_orphan (Some item) = not (is_some item.client)
+is_orphan (Some item) = not (is_some item.client) && not (is_some item.handed)
+
+-- the session that its client saved, left by it
+abbrev pub left_behind : Option Item → Option Item
+left_behind None = None
+left_behind (Some item) = Some (record item { client = None })
+
+-- a session that a client saved and left: nobody's, but whoever gives back the context that was handed out gets it
+abbrev pub is_left : Option Item → Bool
+is_left None = false
+is_left (Some item) = not (is_some item.client) && is_some item.handed
+
+-- a session that its client saved, and still has
+abbrev pub is_saved_for_owner : Option Item → Bool
+is_saved_for_owner None = false
+is_saved_for_owner (Some item) = is_some item.client && is_some item.handed
 
 -- the session of a handle
 abbrev pub with_handle : ℕ → Option Item → Option Item
@@ -99,6 +117,10 @@ owner_of_item (Some item) = owner_by (not (is_some item.handed)) item.client
 -- a session of a client
 abbrev pub has_owner : Option Item → Bool
 has_owner item = is_some (owner_of_item item)
+
+-- a session of a client, or one that was left: all but orphans
+abbrev pub is_held : Option Item → Bool
+is_held item = has_owner item || is_left item
 
 abbrev pub owner_in : List (Option Item) → ℕ → Option (ℕ × Bool)
 owner_in items handle = owner_of_item (item_of items handle)
@@ -171,19 +193,19 @@ abbrev pub equals_handed : List ℕ → Option (List ℕ) → Bool
 equals_handed bytes None = false
 equals_handed bytes (Some context) = bytes_eq bytes context
 
--- whether it is a session of this client for which these bytes were handed out
+-- whether these bytes were handed out for it, and it is this client's or was left
 abbrev pub is_handed_to : ℕ → List ℕ → Option Item → Bool
 is_handed_to client bytes None = false
-is_handed_to client bytes (Some item) = is_owned client (Some item) && equals_handed bytes item.handed
+is_handed_to client bytes (Some item) = (is_owned client (Some item) || is_left (Some item)) && equals_handed bytes item.handed
 
 -- the same of the session whose handle stands in the bytes (Part 2, "TPMS_CONTEXT")
 abbrev pub may_take_back : List (Option Item) → ℕ → List ℕ → Bool
 may_take_back items client bytes = is_word (λ handle. is_handed_to client bytes (item_of items handle)) (word_at 8 bytes)
 
--- the session is in use again; the context that is kept stays
-abbrev pub taken_back : Option Item → Option Item
-taken_back None = None
-taken_back (Some item) = Some (record item { handed = None })
+-- the session is in use again, and this client's; the context that is kept stays
+abbrev pub taken_back : ℕ → Option Item → Option Item
+taken_back client None = None
+taken_back client (Some item) = Some (record item { client = Some client; handed = None })
 
 -- the number of a context, where a session is saved
 abbrev pub saved_number : Option Saved → Option ℕ
@@ -424,9 +446,11 @@ pub record KeepsSessions (old_state new_state : Option SlotState) (old new : Lis
   pub sessions : sessions_of new_state new ≡ sessions_of old_state old
   pub holders : holders new ≡ holders old
 
--- every session stands as before, and whose it is; the device keeps what is neither a session nor the number of its next context
+-- every session stands as before, and whose it is, and which ones were left; the device keeps what is neither a session nor the
+-- number of its next context
 pub record Moved {D : Type 0} (seen : D → Seen) (old new : D) (view new_view : SessionsView) : Type 0 where
   pub numbers : new_view.numbers ≡ view.numbers
+  pub left : new_view.left ≡ view.left
   pub sessions : KeepsSessions (seen old).state (seen new).state view.items new_view.items
   pub stand : Stand (seen new).state new_view []
   pub rest : KeepsRest seen old new
@@ -502,8 +526,9 @@ pub record MakesRoom {D : Type 0} (seen : D → Seen) (old new : D) (needed : Li
 
 -- ---- clients
 
--- a session can be saved for its client
+-- a session can be saved for the client that has it
 pub record MayHandOut (state : Option SlotState) (handle : ℕ) (items : List (Option Item)) : Type 0 where
+  pub owned : has_owner (item_of items handle) ≡ true
   pub loaded : is_loaded_item (item_of items handle) ≡ true
   pub gap : IfSome state (λ slots. gap_of slots < renewal_gap slots.numbers + NEEDED_MOST)
   pub counter : counter_of state + 1000 ≤ CONTEXT_LIMIT
@@ -514,6 +539,7 @@ pub record Ends (state new_state : Option SlotState) (handle : ℕ) (view new_vi
     items = set view.items (number_of_session handle) None;
     order = without_one (number_of_session handle) view.order;
     saved = without_one (number_of_session handle) view.saved;
+    left = without_one (number_of_session handle) view.left;
   }
   pub sessions : sessions_of new_state new_view.items ≡ without_session (number_of_session handle) (sessions_of state view.items)
 

@@ -16,7 +16,7 @@ use Rattle.device_spec.specs.Answers.{is_context_of}
 use Rattle.session_swap.specs.declared.record.Place.{Place}
 use Rattle.session_swap.specs.declared.record.Place.TheVariants as places
 use Rattle.session_swap.specs.declared.record.Record.{Record}
-use Rattle.session_swap.specs.Items.{Item, Lists, ListsThose, SessionsView, flag, has_owner, is_saved_item, item_at, loaded_items}
+use Rattle.session_swap.specs.Items.{Item, Lists, ListsThose, SessionsView, flag, is_held, is_left, is_saved_item, item_at, loaded_items}
 
 -- the context that was handed out, where the session isn't in use
 abbrev pub handed_by : Bool → List ℕ → Option (List ℕ)
@@ -47,10 +47,20 @@ pub record OrderView : Type 0 where
 abbrev pub no_order : OrderView
 no_order = record { loaded = []; saved = [] }
 
--- what is seen of the records, over a device of these numbers, where the numbers of these sessions are listed
+-- what is seen of the records, over a device of these numbers, where the numbers of these sessions are listed, and these were left
+abbrev pub whole_view : Numbers → List Record → ℕ → OrderView → List ℕ → SessionsView
+whole_view numbers records next order left = record {
+  numbers = numbers;
+  items = items_of records;
+  next = next;
+  order = order.loaded;
+  saved = order.saved;
+  left = left;
+}
+
+-- the same where it doesn't count which ones were left
 abbrev pub view_with : Numbers → List Record → ℕ → OrderView → SessionsView
-view_with numbers records next order =
-    record { numbers = numbers; items = items_of records; next = next; order = order.loaded; saved = order.saved }
+view_with numbers records next order = whole_view numbers records next order []
 
 -- the same where the order of the sessions doesn't count
 abbrev pub view_of : Numbers → List Record → ℕ → SessionsView
@@ -95,11 +105,13 @@ pub record ListsIn (numbers : Numbers) (records : List Record) (order : OrderVie
   pub most : length order.loaded ≤ numbers.loaded
   pub saved : ListsThose is_saved_item order.saved (items_of records)
 
--- what holds of all that is kept: so many sessions are clients', and there are no more than may be active
-pub record AreListed (numbers : Numbers) (records : List Record) (order : OrderView) (owned : ℕ) : Type 0 where
+-- what holds of all that is kept: each left session is listed, so many sessions are clients' or left, and there are no more than may
+-- be active
+pub record AreListed (numbers : Numbers) (records : List Record) (order : OrderView) (left : List ℕ) (held : ℕ) : Type 0 where
   pub sound : AreRecords records
   pub listed : ListsIn numbers records order
-  pub owned_is : owned ≡ count_by has_owner (items_of records)
+  pub left_are : ListsThose is_left left (items_of records)
+  pub held_is : held ≡ count_by is_held (items_of records)
   pub few : count_by is_some (items_of records) ≤ numbers.active
 
 -- and of what is seen of it
@@ -109,7 +121,13 @@ pub record IsSoundView (view : SessionsView) : Type 0 where
   pub lists : Lists view.order view.items
   pub most : loaded_items view.items ≤ view.numbers.loaded
   pub saved : ListsThose is_saved_item view.saved view.items
+  pub left : ListsThose is_left view.left view.items
   pub few : count_by is_some view.items ≤ view.numbers.active
+
+-- there is room for the number of each session, and no more are listed than there are
+pub record HasRoom (numbers : List ℕ) (capacity : ℕ) : Type 0 where
+  pub room : SESSION_NUMBERS ≤ capacity
+  pub few : length numbers ≤ SESSION_NUMBERS
 
 -- ---- the lists
 

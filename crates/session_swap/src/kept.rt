@@ -1,12 +1,12 @@
 ghost use Rattle.std.specs.Prelude.{◌≡◌, ◌≤◌, ◌<◌, length, vec_capacity, is_some, IfOk, IfSome};
-ghost use Rattle.std.specs.Prelude.{MatchOption, Some, false, true};
+ghost use Rattle.std.specs.Prelude.{MatchOption, Some, false, true, ℕ};
 ghost use Rattle.std.specs.List.{count_by, list_any};
 ghost use Rattle.tab_spec.specs.Shape.{number_of_session};
 ghost use Rattle.device_spec.specs.Answers.{word_at};
 ghost use Rattle.device_spec.specs.Slots.{gap_from};
 ghost use Rattle.session_swap.specs.Items.{Names, equals_handed};
-ghost use Rattle.session_swap.specs.Items.{has_owner, is_handed_to, is_loaded_item, is_orphan};
-ghost use Rattle.session_swap.specs.Items.{is_owned, item_at, item_of};
+ghost use Rattle.session_swap.specs.Items.{is_handed_to, is_held, is_left, is_loaded_item};
+ghost use Rattle.session_swap.specs.Items.{is_orphan, is_owned, item_at, item_of};
 ghost use Rattle.session_swap.specs.Items.{may_take_back, no_items, number_of_item, is_owner};
 ghost use Rattle.session_swap.specs.Items.{number_at, owner_in, owner_of_item};
 ghost use Rattle.session_swap.specs.Records.{AreRecords, handed_by, item_of_record};
@@ -59,34 +59,41 @@ impl Record {
         }
     }
 
-    /// Whether it has a session of a client.
-    pub fn has_owner(&self) -> bool
-        ensures { result ≡ has_owner (item_of_record self.now) }
+    /// Whether its session was left by a client.
+    pub fn is_left(&self) -> bool
+        ensures { result ≡ is_left (item_of_record self.now) }
     {
         match self.place {
             Place::Unused => false,
-            _ => self.client.is_some(),
+            _ => self.client.is_none() && !self.in_use,
         }
     }
 
-    /// Whether it has a session of nobody.
+    /// Whether it has a session of a client, or one that was left.
+    pub fn is_held(&self) -> bool
+        ensures { result ≡ is_held (item_of_record self.now) }
+    {
+        match self.place {
+            Place::Unused => false,
+            _ => self.client.is_some() || !self.in_use,
+        }
+    }
+
+    /// Whether its session is an orphan.
     pub fn is_orphan(&self) -> bool
         ensures { result ≡ is_orphan (item_of_record self.now) }
     {
         match self.place {
             Place::Unused => false,
-            _ => self.client.is_none(),
+            _ => self.client.is_none() && self.in_use,
         }
     }
 
-    /// Whether it has a session of this client for which these bytes were handed out.
+    /// Whether these bytes were handed out for its session, and it is this client's or was left.
     pub fn is_handed_to(&self, client: u32, context: &[u8]) -> bool
         ensures { result ≡ is_handed_to client context.now (item_of_record self.now) }
     {
-        match self.place {
-            Place::Unused => false,
-            _ => self.client == Some(client) && self.is_handed(context),
-        }
+        (self.is_of(client) || self.is_left()) && self.is_handed(context)
     }
 
     // Whether these bytes were handed out.
@@ -164,12 +171,14 @@ pub fn has_number(records: &[Record], handle: u32) -> bool
     }
 }
 
-/// The handle of a session of this client; nothing where it has none.
+/// The handle of the session of this client that has the least number; nothing where it has none.
 pub fn find_owned(records: &[Record], client: u32) -> Option<u32>
     requires { AreRecords records.now }
     ensures { MatchOption result (list_any (is_owned client) (items_of records.now) ≡ false)
         (λ handle. Names (items_of records.now) handle
-        × (is_owner client (owner_in (items_of records.now) handle) ≡ true)) }
+        × (is_owner client (owner_in (items_of records.now) handle) ≡ true)
+        × ((lower : ℕ) → lower < number_of_session handle
+        → is_owned client (item_at (items_of records.now) lower) ≡ false)) }
 {
     for record in records {
         if record.is_of(client) {
@@ -179,7 +188,7 @@ pub fn find_owned(records: &[Record], client: u32) -> Option<u32>
     None
 }
 
-/// The handle of a session of nobody; nothing where there is none.
+/// The handle of an orphan; nothing where there is none.
 pub fn find_orphan(records: &[Record]) -> Option<u32>
     requires { AreRecords records.now }
     ensures { MatchOption result (list_any is_orphan (items_of records.now) ≡ false)
@@ -204,8 +213,8 @@ fn saved_handle(context: &[u8]) -> Option<u32>
     Some(u32::from_be_bytes([context[8], context[9], context[10], context[11]]))
 }
 
-/// The handle of the session of this client for which these bytes were handed out; nothing where
-/// there is none.
+/// The handle of the session for which these bytes were handed out, where it is this client's or
+/// was left; nothing where there is none.
 pub fn find_handed(records: &[Record], client: u32, context: &[u8]) -> Option<u32>
     ensures { MatchOption result (may_take_back (items_of records.now) client context.now ≡ false)
         (λ handle. (word_at 8 context.now ≡ Some handle)

@@ -5,10 +5,11 @@ ghost use Rattle.tab_spec.specs.Session.{Session};
 ghost use Rattle.tab_spec.specs.Shape.{number_of_session, octet_of};
 ghost use Rattle.device_spec.specs.Slots.{SlotState, IsSlots, inactive, loaded};
 ghost use Rattle.session_swap.specs.Items.{AreAlike, Item, Names, SessionsStand, SessionsView};
-ghost use Rattle.session_swap.specs.Items.{disowned, item_at, item_session, new_item, place_at};
+ghost use Rattle.session_swap.specs.Items.{disowned, item_at, item_session, left_behind};
+ghost use Rattle.session_swap.specs.Items.{new_item, place_at};
 
 /// Sessions stand over what else becomes of them: a client's command may change one that is loaded,
-/// start one, or end one that is loaded, and one may be left to nobody.
+/// start one, or end one that is loaded, and one may be left by its client, or become an orphan.
 pub fn sessions_stand_on()
     ensures changed { (slots new : SlotState) (view : SessionsView) (others : List ℕ)
         → SessionsStand slots view others → new.started ≡ true → IsSlots new
@@ -35,13 +36,24 @@ pub fn sessions_stand_on()
         → new.sessions ≡ set slots.sessions (number_of_session handle) inactive
         → SessionsStand new (record view
         { items = set view.items (number_of_session handle) None }) others }
-    ensures disowned { (slots : SlotState) (view : SessionsView) (others : List ℕ) (handle : ℕ)
-        → SessionsStand slots view others → Names view.items handle
+    ensures disowned { (slots : SlotState) (view : SessionsView) (left others : List ℕ)
+        (handle : ℕ) → SessionsStand slots view others → Names view.items handle
         → SessionsStand slots (record view {
           items = set view.items (number_of_session handle)
               (disowned (item_at view.items (number_of_session handle)));
+          left = left;
         }) others }
     ensures stays { (slots : SlotState) (items : List (Option Item)) (number : ℕ)
         → map (item_session slots) (set items number (disowned (item_at items number)))
+        ≡ map (item_session slots) items }
+    ensures left { (slots : SlotState) (view : SessionsView) (left others : List ℕ)
+        (handle : ℕ) → SessionsStand slots view others → Names view.items handle
+        → SessionsStand slots (record view {
+          items = set view.items (number_of_session handle)
+              (left_behind (item_at view.items (number_of_session handle)));
+          left = left;
+        }) others }
+    ensures left_stays { (slots : SlotState) (items : List (Option Item)) (number : ℕ)
+        → map (item_session slots) (set items number (left_behind (item_at items number)))
         ≡ map (item_session slots) items }
 {}

@@ -18,7 +18,7 @@ pub struct Record {
     pub place: Place,
     /// Room for a context.
     pub context: Vec<u8>,
-    /// Whether its client uses it: it didn't save it.
+    /// Whether its client uses it: it didn't save it. True of an orphan too.
     pub in_use: bool,
     /// Room for the context that was handed out where its client saved it.
     pub handed: Vec<u8>,

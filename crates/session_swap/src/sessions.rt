@@ -1,11 +1,12 @@
 ghost use Rattle.std.specs.Prelude.{◌≡◌, ◌≤◌, ◌<◌, ◌+◌, ◌==◌, ◌++◌, ◌∷◌, [], ℕ, List, map, set};
 ghost use Rattle.std.specs.Prelude.{true, false, is_some, ◌*◌, length, None, Some, IfOk};
+ghost use Rattle.std.specs.Prelude.{slice_get};
 ghost use Rattle.std.specs.Prelude.{◌-◌, IfErr, IfSome, MatchOption, OnOk, OnErr};
 ghost use Rattle.std.specs.List.{count_by, list_any};
 ghost use Rattle.tab_spec.specs.Shape.{number_of_session};
 ghost use Rattle.tab_spec.specs.declared.TheConstants.{CONTEXT_LIMIT, SESSION_NUMBERS};
 ghost use Rattle.tab_spec.specs.declared.TheConstants.{RC_1, RC_HANDLE, RC_P};
-ghost use Rattle.tab_spec.specs.Numbers.{AreInRange};
+ghost use Rattle.tab_spec.specs.Numbers.{AreInRange, left_most};
 ghost use Rattle.device_port.specs.Device.{last_of};
 ghost use Rattle.device_port.specs.Use.{without_one};
 ghost use Rattle.session_swap.specs.declared.TheConstants.{NEEDED_MOST};
@@ -19,8 +20,9 @@ ghost use Rattle.session_swap.specs.Items.{MakesNoContext};
 ghost use Rattle.session_swap.specs.Items.{MakesRoom, MayHandOut, Moved, Names, RenewalCounts};
 ghost use Rattle.session_swap.specs.Items.{Renews, Rise, SavesForClient, SavesTold, SessionsStand};
 ghost use Rattle.session_swap.specs.Items.{Stand, StillStand, counter_of, disowned, gap_first};
-ghost use Rattle.session_swap.specs.Items.{flag, gap_in, gap_kept, numbers_along};
-ghost use Rattle.session_swap.specs.Items.{has_owner, is_handed_to, is_loaded_item, is_orphan};
+ghost use Rattle.session_swap.specs.Items.{ListsThose, flag, gap_in, gap_kept, numbers_along};
+ghost use Rattle.session_swap.specs.Items.{is_handed_to, is_held, is_left, is_loaded_item};
+ghost use Rattle.session_swap.specs.Items.{is_orphan, is_saved_for_owner, left_behind};
 ghost use Rattle.session_swap.specs.Items.{is_owned, is_owner, item_at, item_of, item_session};
 ghost use Rattle.session_swap.specs.Items.{loaded_items, may_take_back, new_item, no_items};
 ghost use Rattle.session_swap.specs.Items.{owner_in, renewal_gap, saved_items, sessions_of};
@@ -32,6 +34,7 @@ use crate::clients::save_for_client;
 use crate::kept::{
     find_handed, find_orphan, find_owned, gap_above, has_number, owner_of, unused_records,
 };
+use crate::left::Left;
 use crate::moves::flush;
 use crate::order::{Order, Uncounted, Visits, list_saved};
 use crate::places::swap_sessions;
@@ -43,7 +46,7 @@ use std::alloc::{AllocError, Global};
 use std::marker::Model;
 use std::sync::ledger::Ledger;
 use tab_bytes::Buffer;
-use tab_spec::{Numbers, RC_1, RC_HANDLE, RC_P};
+use tab_spec::{Numbers, RC_1, RC_HANDLE, RC_P, left_most};
 
 /// The number of a session handle (Part 2, "TPM_HC").
 pub(crate) fn number_of(handle: u32) -> usize
@@ -62,29 +65,32 @@ fn less_one(count: u8, one: bool) -> u8
 
 /// The sessions of all clients, under at most 64 numbers: more of them than the device has places
 /// for loaded ones, and no more than may be active. Each is loaded, or saved in a context that the
-/// device made of it. It is seen as how much the device has room for, its items, by number, the
-/// number that the next context gets, the numbers of the loaded sessions, the least recently used
-/// first, and those of the saved ones, in the order in which they were saved.
+/// device made of it. It is a client's, or was left by one that had saved it and closed, or is an
+/// orphan, which is only still to be flushed. It is seen as how much the device has room for, its
+/// items, by number, the number that the next context gets, the numbers of the loaded sessions, the
+/// least recently used first, those of the saved ones, in the order in which they were saved, and
+/// those of the left ones, in the order in which they were left.
 #[derive(Drop)]
 pub struct Sessions {
     records: Vec<Record>,
     order: Order,
+    left: Left,
     next: u64,
-    // How many of them clients have. The others are nobody's.
-    owned: u8,
+    // How many of them clients have, or left. The others are orphans.
+    held: u8,
     // How much the device has room for.
     numbers: Numbers,
 }
 
 impl Model for Sessions {
     ghost use Rattle.session_swap.specs.Items.{SessionsView};
-    ghost use Rattle.session_swap.specs.Records.{AreListed, view_with};
+    ghost use Rattle.session_swap.specs.Records.{AreListed, whole_view};
 
     ghost Value = { SessionsView };
 
-    ghost view = { λ s. view_with s.numbers s.records.items s.next s.order };
+    ghost view = { λ s. whole_view s.numbers s.records.items s.next s.order s.left };
 
-    ghost invariant = { λ s. AreListed s.numbers s.records.items s.order s.owned };
+    ghost invariant = { λ s. AreListed s.numbers s.records.items s.order s.left s.held };
 }
 
 impl Sessions {
@@ -97,15 +103,18 @@ impl Sessions {
           next = 0;
           order = [];
           saved = [];
+          left = [];
         }) }
     {
         let records = unused_records(alloc)?;
         let order = Order::new(alloc)?;
+        let left = Left::new(alloc)?;
         Ok(Sessions {
             records,
             order,
+            left,
             next: 0,
-            owned: 0,
+            held: 0,
             numbers,
         })
     }
@@ -118,7 +127,7 @@ impl Sessions {
     }
 
     /// The client that has the session of this handle, and whether it is in use, that is, not saved
-    /// by that client; nothing where no client has it.
+    /// by that client; nothing where no client has it. A left session has none.
     pub fn owner_of(&self, handle: u32) -> Option<(u32, bool)>
         ensures { result ≡ owner_in self.now.items handle }
     {
@@ -132,16 +141,19 @@ impl Sessions {
         has_number(&self.records, handle)
     }
 
-    /// The handle of a session of this client, in use or saved by it; nothing where it has none.
+    /// The handle of the session of this client that has the least number, in use or saved by it;
+    /// nothing where it has none.
     pub fn of_client(&self, client: u32) -> Option<u32>
         ensures { MatchOption result (list_any (is_owned client) self.now.items ≡ false)
             (λ handle. Names self.now.items handle
-            × (is_owner client (owner_in self.now.items handle) ≡ true)) }
+            × (is_owner client (owner_in self.now.items handle) ≡ true)
+            × ((lower : ℕ) → lower < number_of_session handle
+            → is_owned client (item_at self.now.items lower) ≡ false)) }
     {
         find_owned(&self.records, client)
     }
 
-    /// The handle of a session of nobody; nothing where there is none.
+    /// The handle of an orphan; nothing where there is none.
     pub fn orphan(&self) -> Option<u32>
         ensures { MatchOption result (list_any is_orphan self.now.items ≡ false)
             (λ handle. Names self.now.items handle
@@ -153,24 +165,24 @@ impl Sessions {
         find_orphan(&self.records)
     }
 
-    /// How many sessions clients have, in use or saved by them. Those of nobody don't count.
+    /// How many sessions clients have, in use or saved by them, or left. Orphans don't count.
     pub fn active(&self) -> u8
-        ensures count { result ≡ count_by has_owner self.now.items }
+        ensures count { result ≡ count_by is_held self.now.items }
         ensures most { result ≤ self.now.numbers.active }
         // There is an item for each number.
         ensures numbers { length self.now.items ≡ SESSION_NUMBERS }
     {
         // So what holds of the fields is known here.
         let _ = &self.records;
-        self.owned
+        self.held
     }
 
-    /// How many sessions are nobody's.
+    /// How many sessions are orphans.
     pub fn orphans(&self) -> u8
         ensures { result ≡ count_by is_orphan self.now.items }
     {
         // Each session is loaded or saved.
-        self.order.loaded() as u8 + self.order.saved() - self.owned
+        self.order.loaded() as u8 + self.order.saved() - self.held
     }
 
     /// How many sessions are saved.
@@ -321,32 +333,90 @@ impl Sessions {
         record.place = Place::Loaded;
         record.in_use = true;
         self.order.start(number);
-        self.owned += 1;
+        self.held += 1;
     }
 
-    /// Leaves a session to nobody: its client is closed, and its flush failed.
+    /// A client that closes leaves a session that it saved: nobody has it then, and whoever gives
+    /// back the context that was handed out gets it. Where more are left than may be, the lesser of
+    /// 8 and a quarter of the sessions that may be active, the result is the handle of the one that
+    /// was left longest, which has to be dropped. It takes no memory.
+    pub fn leave(&mut self, handle: u32) -> Option<u32>
+        requires saved { is_saved_for_owner (item_of self.old.items handle) ≡ true }
+        ensures left { self.new ≡ record self.old {
+          items = set self.old.items (number_of_session handle)
+              (left_behind (item_at self.old.items (number_of_session handle)));
+          left = self.old.left ++ number_of_session handle ∷ [];
+        } }
+        ensures first { MatchOption result
+            (length self.new.left ≤ left_most self.new.numbers.active)
+            (λ first. (left_most self.new.numbers.active < length self.new.left)
+            × (slice_get self.new.left 0 ≡ Some (number_of_session first))
+            × Names self.new.items first) }
+    {
+        let number = number_of(handle);
+        self.records[number].client = None;
+        self.left.push(number);
+        if self.left.count() <= left_most(self.numbers.active) {
+            return None;
+        }
+        self.left_at(0)
+    }
+
+    /// How many sessions are left.
+    pub fn left(&self) -> u8
+        ensures count { result ≡ length self.now.left }
+        // Each left session is listed, and once.
+        ensures listed { ListsThose is_left self.now.left self.now.items }
+    {
+        // So what holds of the fields is known here.
+        let _ = &self.records;
+        self.left.count()
+    }
+
+    /// The handle of the session that was left at this place, from 0, in the order of leaving;
+    /// nothing where no more are left.
+    pub fn left_at(&self, place: u8) -> Option<u32>
+        ensures { MatchOption result (length self.now.left ≤ place)
+            (λ handle. (slice_get self.now.left place ≡ Some (number_of_session handle))
+            × Names self.now.items handle) }
+    {
+        let number = self.left.at(usize::from(place))?;
+        let record = &self.records[number];
+        Some(record.handle)
+    }
+
+    /// Makes a session an orphan, a client's or a left one: it had to go, and its flush failed.
     pub fn orphan_session(&mut self, handle: u32)
         requires { Names self.old.items handle }
         ensures { self.new ≡ record self.old {
           items = set self.old.items (number_of_session handle)
               (disowned (item_at self.old.items (number_of_session handle)));
+          left = without_one (number_of_session handle) self.old.left;
         } }
     {
-        let record = &mut self.records[number_of(handle)];
-        let had_owner = record.has_owner();
+        let number = number_of(handle);
+        let record = &mut self.records[number];
+        let was_held = record.is_held();
         record.client = None;
-        self.owned = less_one(self.owned, had_owner);
+        record.in_use = true;
+        self.left.remove(number);
+        self.held = less_one(self.held, was_held);
     }
 
     /// Forgets a session, and sends nothing: the device ended it.
     pub fn end_session(&mut self, handle: u32)
         requires { Names self.old.items handle }
-        ensures { self.new ≡ record self.old {
+        ensures ended { self.new ≡ record self.old {
           items = set self.old.items (number_of_session handle) None;
           order = without_one (number_of_session handle) self.old.order;
           saved = without_one (number_of_session handle) self.old.saved;
+          left = without_one (number_of_session handle) self.old.left;
         } }
+        // Each left session was listed, and once.
+        ensures listed { ListsThose is_left self.old.left self.old.items }
     {
+        // So what holds of the fields is known here.
+        let _ = &self.records;
         self.forget(number_of(handle));
     }
 
@@ -357,14 +427,16 @@ impl Sessions {
           items = set self.old.items number None;
           order = without_one number self.old.order;
           saved = without_one number self.old.saved;
+          left = without_one number self.old.left;
         } }
     {
         let record = &mut self.records[number];
         let is_loaded = record.is_loaded();
-        let had_owner = record.has_owner();
+        let was_held = record.is_held();
         record.place = Place::Unused;
         self.order.end(number, is_loaded);
-        self.owned = less_one(self.owned, had_owner);
+        self.left.remove(number);
+        self.held = less_one(self.held, was_held);
     }
 
     /// Ends a session on the device, loaded or saved, and forgets it (Part 3, "TPM2_FlushContext").
@@ -382,6 +454,8 @@ impl Sessions {
         ensures err { OnErr result (self.new ≡ self.old) }
         ensures stands { StillStand D.seen device.old device.new self.old self.new }
         ensures counts { MakesNoContext (D.seen device.old).state (D.seen device.new).state }
+        // Each left session was listed, and once.
+        ensures listed { ListsThose is_left self.old.left self.old.items }
         // Exactly one FlushContext is sent.
         ensures asks { Asks D.seen device.old device.new (flush_context_command handle) result }
     {
@@ -421,10 +495,11 @@ impl Sessions {
         saved
     }
 
-    /// Takes back the context that was handed out for a session of this client: the session is in
-    /// use again, and its handle is told. Nothing is sent, and no memory is taken. An error is the
-    /// response code 0x1CB (HANDLE of parameter 1): the client has no saved session for which these
-    /// bytes were handed out. It changes nothing.
+    /// Takes back the context that was handed out for a session of this client, or for one that was
+    /// left: the session is in use again, and this client's, and its handle is told. Nothing is
+    /// sent, and no memory is taken. An error is the response code 0x1CB (HANDLE of parameter 1):
+    /// these bytes were handed out for no session that this client saved or that was left. It
+    /// changes nothing.
     pub fn client_load(&mut self, client: u32, context: &[u8]) -> Result<u32, u32>
         // The handle stands in the context.
         ensures handle { IfOk result (λ handle. word_at 8 context.now ≡ Some handle) }
@@ -432,7 +507,8 @@ impl Sessions {
             is_handed_to client context.now (item_of self.old.items handle) ≡ true) }
         ensures ok { IfOk result (λ handle. self.new ≡ record self.old {
           items = set self.old.items (number_of_session handle)
-              (taken_back (item_at self.old.items (number_of_session handle)));
+              (taken_back client (item_at self.old.items (number_of_session handle)));
+          left = without_one (number_of_session handle) self.old.left;
         }) }
         ensures refused { OnErr result (may_take_back self.old.items client context.now ≡ false) }
         ensures code { IfErr result (λ code. code ≡ RC_HANDLE + RC_P + RC_1) }
@@ -446,7 +522,10 @@ impl Sessions {
         let Some(handle) = find_handed(&self.records, client, context) else {
             return Err(RC_HANDLE + RC_P + RC_1);
         };
-        self.records[number_of(handle)].in_use = true;
+        let record = &mut self.records[number_of(handle)];
+        record.client = Some(client);
+        record.in_use = true;
+        self.left.remove(number_of(handle));
         Ok(handle)
     }
 

@@ -6,17 +6,18 @@ use Rattle.device_spec.specs.Slots.{SlotState}
 use Rattle.device_spec.specs.Answers.{IsWrongAnswer}
 use Rattle.tab_spec.specs.declared.numbers.Numbers.{Numbers}
 use Rattle.tab_spec.specs.Persist.{Persist}
+use Rattle.device_port.specs.Device.{Seen}
 use Rattle.history_spec.specs.Entry.{Entry}
 use Rattle.world_spec.specs.World.{world_of}
 use Rattle.world_spec.specs.Legal.{Legal}
 use Rattle.broker_lock.specs.Known.{Origin, origin_of}
-use Rattle.broker_core.specs.Broker.{BrokerView, StandsFor, told_origin}
+use Rattle.broker_core.specs.Broker.{BrokerView, HoldsLeft, StandsFor, told_origin}
 use Rattle.script_player.specs.declared.stop.Stop.{Stop}
 use Rattle.script_player.specs.declared.stop.Stop.TheVariants as stops
 use Rattle.script_player.specs.Play.{IsPulledUpTo, most_pulled}
 use Rattle.script_player.specs.Ends.{IsCaused}
 use Rattle.tab_server.specs.Status.{Faults, HasCause, IsPulled, cause_of, detail_of, status_of}
-use Rattle.tab_server.specs.Run.{IsHistoryOf}
+use Rattle.tab_server.specs.Run.{HoldsLeftOf, IsHistoryOf}
 
 -- a device that gave a wrong answer tells no state
 pub untold : (state : Option SlotState) (wrong : Option ℕ) → (IsSome state → wrong ≡ None) → IsSome wrong → state ≡ None
@@ -150,6 +151,18 @@ is_history base state history broker stands o slots is_origin is_state =
       sound = after.stands.settled.objects.sound;
       numbers = same;
     }
+
+-- what it holds, by the world of the journal: the sessions that are left there are those that the broker lists
+pub holds_left : (began : ℕ) (seen : Seen) (history : List Entry) {D : Type 0} (broker : BrokerView D) → StandsFor seen.base seen.state history broker.tables broker.held
+    → IfSome seen.state (λ slots. HoldsLeft began seen.faults history slots broker.held.sessions.left)
+    → HoldsLeftOf (origin_of seen.base broker.held.sessions.numbers) began seen history
+holds_left began seen history broker stands holds o slots is_origin is_state =
+    let origin = origin_is seen.base broker.held.sessions.numbers o is_origin in
+    let after = stands o.persist slots origin.0 is_state in
+    let same : slots.numbers ≡ o.numbers = after.stands.settled.sessions.numbers ∙ sym origin.1 in
+    subst (λ (n : Numbers). HoldsLeft began seen.faults history slots (world_of o.persist n.active history).left) same
+    (subst (λ (left : List ℕ). HoldsLeft began seen.faults history slots left) (sym after.stands.left)
+    (subst (λ (s : Option SlotState). IfSome s (λ slots. HoldsLeft began seen.faults history slots broker.held.sessions.left)) is_state holds))
 
 -- the device tells what the history begins from
 pub origin_told : (base : Option Persist) (state : Option SlotState) (history : List Entry) {D : Type 0} (broker : BrokerView D) → is_some state ≡ is_some base → StandsFor base state history broker.tables broker.held

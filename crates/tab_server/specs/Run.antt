@@ -1,7 +1,7 @@
 -- What a run leaves: how its status, its journal and its output stand to what there was before it.
 use Rattle.std.specs.Prelude.{◌≡◌, ◌≤◌, ◌⊎◌, ℕ, Bool, false, true, IsTrue, List, [], Option, None, Some, IfSome, IsSome, IsSomeAnd}
 use Rattle.tab_spec.specs.Count.{Rose}
-use Rattle.device_spec.specs.Slots.{SlotState, IsSlots, held}
+use Rattle.device_spec.specs.Slots.{SlotState, IsSlots}
 use Rattle.device_spec.specs.Answers.{IsRight, IsWrongAnswer, wrong}
 use Rattle.history_spec.specs.Entry.{Entry}
 use Rattle.history_spec.specs.AuditText.{audit_text}
@@ -12,7 +12,7 @@ use Rattle.script_spec.specs.Calls.{Call, calls_from}
 use Rattle.audit_journal.specs.Text.{WroteFrontOf}
 use Rattle.device_port.specs.Device.{Seen, asked_of, last_of}
 use Rattle.broker_lock.specs.Known.{Origin, origin_of}
-use Rattle.broker_core.specs.Broker.{AreWhole, BrokerView, FaultsCounted, LegalOver, told_origin}
+use Rattle.broker_core.specs.Broker.{AreWhole, BrokerView, FaultsCounted, HoldsLeft, LegalOver, told_origin}
 use Rattle.script_player.specs.Ends.{LeavesFull, LeavesPart, LeavesRead, LeavesWhole, MakesUpTo, with_audit}
 use Rattle.script_player.specs.Stops.{AreFirst, EndsInClose, Unanswered, WroteFront}
 use Rattle.tab_server.specs.declared.status.TheConstants.{BAD_LINE, DONE, INPUT_FAILED, JOURNAL_FULL, NO_MEMORY, OUTPUT_FAILED, OUT_OF_RANGE, START_FAILED, WRONG_ANSWER}
@@ -84,13 +84,20 @@ pub record IsHistory (origin : Origin) (slots : SlotState) (history : List Entry
 abbrev pub IsHistoryOf : Option Origin → Option SlotState → List Entry → Type 0
 IsHistoryOf base state history = (o : Origin) (slots : SlotState) → base ≡ Some o → state ≡ Some slots → IsHistory o slots history
 
--- what is left of a broker whose clients are all closed
+-- what it holds when all clients are closed: the sessions that are left in the world after the journal, no more than may be, and
+-- orphans, no more than transmissions failed; where there is no orphan, just those sessions
+abbrev pub HoldsLeftOf : Option Origin → (began : ℕ) → Seen → List Entry → Type 0
+HoldsLeftOf base began seen history =
+    (o : Origin) (slots : SlotState) → base ≡ Some o → seen.state ≡ Some slots
+    → HoldsLeft began seen.faults history slots (world_of o.persist o.numbers.active history).left
+
+-- what there is of a broker whose clients are all closed
 pub record IsEnded (base : Option Origin) (began : ℕ) (seen : Seen) (wrong : Option ℕ) (history : List Entry) : Type 0 where
   pub legal : IsHistoryOf base seen.state history
   pub faulted : FaultsCounted began seen.faults history 0
   pub replies : AreWhole history
   pub base_is : told_origin seen.base seen.state ≡ base
-  pub holds : IfSome seen.state (λ slots. FaultsCounted began seen.faults history (held slots))
+  pub holds : HoldsLeftOf base began seen history
   pub right : wrong ≡ None → IsRight (asked_of seen) (last_of seen)
   pub answer : IfSome wrong (IsWrongAnswer (asked_of seen) (last_of seen))
   pub taken : IsSome seen.state → wrong ≡ None
@@ -145,8 +152,9 @@ pub record IsSound (before : Before) (after : After) (status : ℕ) (journal : O
   pub begun : (status ≡ START_FAILED) ⊎ (status ≡ OUT_OF_RANGE) → journal ≡ None
   -- The device keeps its base and its numbers.
   pub base : told_origin after.seen.base after.seen.state ≡ before.base
-  -- The device holds no more in the end than its failures left: nothing, where it never failed.
-  pub held : IfSome journal (λ history. IfSome after.seen.state (λ slots. FaultsCounted before.faults.device after.seen.faults history (held slots)))
+  -- All clients are closed. The device holds the sessions that they saved and left, at most eight, and orphans, no more than it had
+  -- failures: just those sessions, where it never failed.
+  pub held : IfSome journal (λ history. HoldsLeftOf before.base before.faults.device after.seen history)
 
 -- what a run of words that aren't refused leaves, with a journal where the broker began
 pub record Leaves (limit : ℕ) (audit : Bool) (before : Before) (after : After) (status detail : ℕ) (journal : Option (List Entry)) : Type 0 where

@@ -1,5 +1,5 @@
 -- How much of each a device has at once (Part 2, "TPM_PT").
-use Rattle.std.specs.Prelude.{◌≤◌}
+use Rattle.std.specs.Prelude.{◌≤◌, ℕ, ◌/◌, min}
 use Rattle.tab_spec.specs.declared.numbers.Numbers.{Numbers}
 use Rattle.tab_spec.specs.declared.TheConstants.{ACTIVE_SESSIONS, CONTEXT_GAP, LOADED_SESSIONS, OBJECT_SLOTS, SESSION_NUMBERS}
 
@@ -15,3 +15,7 @@ pub record AreInRange (numbers : Numbers) : Type 0 where
   pub loaded_most : numbers.loaded ≤ numbers.active
   pub active_most : numbers.active ≤ SESSION_NUMBERS
   pub gap_least : CONTEXT_GAP ≤ numbers.gap
+
+-- how many sessions may be left by their clients at once, over a device that may have so many active
+abbrev pub left_most : ℕ → ℕ
+left_most active = min 8 (active / 4)

@@ -6,7 +6,7 @@
 mod examples;
 mod numbers;
 
-pub use numbers::Numbers;
+pub use numbers::{Numbers, left_most};
 
 /// The fewest bytes of a command or a response: its header, of tag, size and code.
 pub const HEADER_BYTES: u32 = 10;

@@ -1,5 +1,5 @@
 ghost use Rattle.std.specs.Prelude.{◌≡◌};
-ghost use Rattle.tab_spec.specs.Numbers.{profile_numbers};
+ghost use Rattle.tab_spec.specs.Numbers.{left_most, profile_numbers};
 
 use crate::{ACTIVE_SESSIONS, CONTEXT_GAP, LOADED_SESSIONS, OBJECT_SLOTS};
 
@@ -29,4 +29,12 @@ impl Numbers {
             gap: CONTEXT_GAP as u32,
         }
     }
+}
+
+/// How many sessions may be left by their clients at once, over a device that may have so many
+/// active: the lesser of 8 and a quarter of these (the project's own).
+pub fn left_most(active: u8) -> u8
+    ensures { result ≡ left_most active }
+{
+    (active / 4).min(8)
 }

@@ -1,15 +1,20 @@
 -- What one more entry makes of a history.
-use Rattle.std.proofs.Common.{◌≡◌, ◌<◌, ◌≤◌, ◌+◌, ℕ, Bool, true, false, cond, eqb, List, [], ◌∷◌, ◌++◌, length, refl, sym, subst, append_assoc, arith, inl, inr, ◌∙◌}
-use Rattle.std.specs.Prelude.{◌||◌, Option, Some, None, IfSome}
+use Rattle.std.proofs.Common.{◌≡◌, ◌<◌, ◌≤◌, ◌+◌, ℕ, zero, suc, Bool, true, false, true≢false, cond, eqb, List, [], ◌∷◌, ◌++◌, length, get_or, replicate, refl, ap, sym, subst, append_assoc, arith, inl, inr, ◌∙◌}
+use Rattle.std.specs.Prelude.{◌||◌, Option, Some, None, IfSome, if◌then◌else◌}
 use Rattle.std.specs.List.{AllByRecursion, list_any, filter}
 use Rattle.std.proofs.lemmas.List.{append-nil}
+use Rattle.tab_spec.specs.Numbers.{left_most}
 use Rattle.tab_spec.specs.Persist.{Persist}
+use Rattle.tab_spec.specs.declared.TheConstants.{SESSION_NUMBERS}
 use Rattle.tab_spec.specs.Count.{Rose}
 use Rattle.history_spec.specs.declared.EntryKind.{EntryKind}
 use Rattle.history_spec.specs.declared.EntryKind.TheVariants.{Open, Command, Canceled, Fault, Close}
 use Rattle.history_spec.specs.Entry.{Entry, Clients, clients_by, clients_from, clients_of, without, is_fault}
-use Rattle.world_spec.specs.World.{ClientStep, World, after_step, client_step, empty_world, plain_step, state_in, step_in, world_after, world_by, world_from, world_of}
+use Rattle.world_spec.specs.World.{ClientStep, Owned, World, after_step, client_step, empty_world, no_sessions, plain_step, state_in, step_in, world_after, world_by, world_from, world_of}
+use Rattle.world_laws.specs.Left.{LeftStands, is_left}
+use Rattle.world_laws.proofs.Leaving.{client_stands}
 use Rattle.world_laws.proofs.Most.{client_most}
+use Rattle.world_laws.proofs.Owners.{closed_few, closed_stands}
 use Rattle.world_spec.specs.Legal.{MayFollow, LegalFrom, Legal, IsNextCount}
 
 clients_from-push : (clients : Clients) (history : List Entry) (e : Entry) → clients_from clients (history ++ e ∷ []) ≡ clients_by (clients_from clients history) e
@@ -48,6 +53,58 @@ from_most world (e ∷ history) = from_most (world_by world e) history ∙ after
 
 pub world_most : (base : Persist) (most : ℕ) (history : List Entry) → (world_of base most history).most ≡ most
 world_most base most history = from_most (empty_world base most) history
+
+-- ---- the list of left sessions
+
+-- it stands after each entry, and has no more than may be left
+record Lists (world : World) : Type 0 where
+  stands : LeftStands world.sessions world.left
+  few : length world.left ≤ left_most world.most
+
+stepped_lists : (world : World) (client : ℕ) (step : Option ClientStep) → Lists world → IfSome step (λ s. s.0.most ≡ world.most)
+    → IfSome step (λ s. LeftStands s.0.sessions s.0.left × (length s.0.left ≤ length world.left)) → Lists (after_step world (step_in world client step))
+stepped_lists world client None lists keeps follows = lists
+stepped_lists world client (Some step) lists keeps follows =
+    record { stands = follows.0; few = omega (arith, follows.1, lists.few, ap left_most keeps) }
+
+after_lists : (kind : EntryKind) (world : World) (e : Entry) → Lists world → Lists (world_after kind world e)
+unfolding plain_step
+after_lists Open world e lists = record { stands = lists.stands; few = lists.few }
+after_lists Command world e lists =
+    stepped_lists world e.client (client_step e.client (state_in world e.client) e.command e.pick) lists
+    (client_most e.client (state_in world e.client) e.command e.pick)
+    (client_stands e.client (state_in world e.client) e.command e.pick lists.stands)
+after_lists (Canceled upto) world e lists = lists
+after_lists Fault world e lists = lists
+after_lists Close world e lists =
+    record { stands = closed_stands world e.client lists.stands; few = closed_few world e.client }
+
+from_lists : (world : World) (history : List Entry) → Lists world → Lists (world_from world history)
+from_lists world [] lists = lists
+from_lists world (e ∷ history) lists = from_lists (world_by world e) history (after_lists e.kind world e lists)
+
+none_placed : (n count : ℕ) → ◌≡◌ {A = Option Owned} (get_or (replicate count None) n None) None
+none_placed n zero = refl
+none_placed zero (suc count) = refl
+none_placed (suc n) (suc count) = none_placed n count
+
+none_left : LeftStands no_sessions []
+none_left = record {
+  listed = λ n. sym (ap (λ (place : Option Owned). if is_left place then 1 else 0) (none_placed n SESSION_NUMBERS));
+  saved = λ n left. absurd (true≢false (sym left ∙ ap is_left (none_placed n SESSION_NUMBERS)));
+}
+
+lists_of : (base : Persist) (most : ℕ) (history : List Entry) → Lists (world_of base most history)
+lists_of base most history = from_lists (empty_world base most) history (record { stands = none_left; few = omega arith })
+
+pub left_stands : (base : Persist) (most : ℕ) (history : List Entry)
+    → (let world = world_of base most history in LeftStands world.sessions world.left)
+left_stands base most history = (lists_of base most history).stands
+
+pub left_few : (base : Persist) (most : ℕ) (history : List Entry) → length (world_of base most history).left ≤ left_most most
+left_few base most history = omega (arith, (lists_of base most history).few, ap left_most (world_most base most history))
+
+-- ---- legal histories
 
 legal_from-push : (base : Persist) (most : ℕ) (before history : List Entry) (e : Entry) → LegalFrom base most before history → MayFollow base most (before ++ history) e → LegalFrom base most before (history ++ e ∷ [])
 legal_from-push base most before [] e legal follows = (subst (λ (h : List Entry). MayFollow base most h e) (append-nil before) follows, tt)

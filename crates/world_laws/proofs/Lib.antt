@@ -1,4 +1,7 @@
 pub mod Most
+pub mod Listed
+pub mod Named
+pub mod Leaving
+pub mod Owners
 pub mod Histories
 pub mod Clients
-pub mod Owners

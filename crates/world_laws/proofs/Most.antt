@@ -16,7 +16,7 @@ use Rattle.effect_spec.specs.Operands.{Created, nothing, new_object, new_session
 use Rattle.history_spec.specs.declared.Pick.{Pick}
 use Rattle.history_spec.specs.declared.Pick.TheVariants as picks
 use Rattle.history_spec.specs.Table.{held_under}
-use Rattle.world_spec.specs.World.{ClientState, ClientStep, Owned, admitted_step, capability_step, choosing_nothing, client_capability, client_operands, client_step, effect_step, flush_fault, flush_handle, flush_step, flushed_step, handed_step, has_object, is_handed, is_unused, left_by, load_parameters, load_step, made_step, may_hand_out, numbered_step, object_handed, object_opened, owned_under, owns_session, room_for, run_step, save_parameters, save_step, session_handed, session_of, session_taken, tables_of, unless_full, without_named}
+use Rattle.world_spec.specs.World.{ClientState, ClientStep, Owned, admitted_step, capability_step, choosing_nothing, client_capability, client_operands, client_step, effect_step, flush_fault, flush_handle, flush_step, flushed_step, handed_step, has_object, is_handed, is_unused, left_by, load_parameters, load_step, loadable_under, made_step, may_hand_out, numbered_step, object_handed, object_opened, owns_session, room_for, run_step, save_parameters, save_step, session_handed, session_of, session_taken, tables_of, unless_full, without_named}
 
 abbrev Keeps : ℕ → Option ClientStep → Type 0
 Keeps most step = IfSome step (λ s. s.0.most ≡ most)
@@ -88,8 +88,8 @@ loads client state bytes (Ok context) =
     let IsKept : ClientStep → Type 0 = λ step. step.0.most ≡ state.most in
     cond_both (handle == TRANSIENT_FIRST) (object_opened state (opened_object state.persist.seed bytes)) _ IsKept
     (λ object. opened state (opened_object state.persist.seed bytes)) (λ other.
-    cond_both (is_session_handle handle) (session_taken client state handle bytes (owned_under state.sessions client handle)) _ IsKept
-    (λ session. taken client state handle bytes (owned_under state.sessions client handle)) (λ none. refl))
+    cond_both (is_session_handle handle) (session_taken client state handle bytes (loadable_under state.sessions client handle)) _ IsKept
+    (λ session. taken client state handle bytes (loadable_under state.sessions client handle)) (λ none. refl))
 
 tells : (state : ClientState) (row : Result (List ℕ) ℕ) → (capability_step state row).0.most ≡ state.most
 tells state (Err code) = refl

@@ -1,5 +1,5 @@
 //! Laws of worlds: what one more entry makes of a history and of its world, which clients it
-//! leaves, and whose sessions there are.
+//! leaves, whose sessions there are, and which were left.
 #![tactic(auto)]
 
 mod laws;
@@ -8,4 +8,4 @@ mod sessions;
 
 pub use laws::histories_grow;
 pub use open_clients::{tables_follow_their_clients, worlds_have_their_clients};
-pub use sessions::sessions_follow_their_clients;
+pub use sessions::{left_sessions_are_listed, sessions_follow_their_clients};

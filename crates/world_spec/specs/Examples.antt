@@ -1,9 +1,10 @@
 -- Frames and worlds that the worked examples speak of.
-use Rattle.std.specs.Prelude.{ℕ, ◌-◌, Bool, false, List, [], ◌∷◌, ◌++◌, length, take, drop, bytes_eq, replicate, set, Option, Some, None}
+use Rattle.std.specs.Prelude.{ℕ, ◌+◌, ◌-◌, Bool, false, List, [], ◌∷◌, ◌++◌, length, map, take, drop, bytes_eq, replicate, set, Option, Some, None}
+use Rattle.std.specs.List.{range_with_len}
 use Rattle.history_spec.specs.declared.Pick.TheVariants.{Nothing}
 use Rattle.history_spec.specs.Examples.{zero_persist}
 use Rattle.tab_spec.specs.Persist.{Persist}
-use Rattle.world_spec.specs.World.{Client, ClientState, ClientStep, Owned, World, client_step, no_sessions}
+use Rattle.world_spec.specs.World.{Client, ClientState, ClientStep, Owned, World, client_step, new_client, no_sessions}
 use Rattle.tab_spec.specs.declared.TheConstants.{CC_CONTEXT_LOAD, CC_CONTEXT_SAVE, CC_CREATE_PRIMARY, CC_GET_CAPABILITY, CC_POLICY_GET_DIGEST, CC_READ_PUBLIC, CC_START_AUTH_SESSION, RH_NULL, RH_OWNER, RS_PW}
 use Rattle.tab_spec.specs.declared.SessionKind.TheVariants as kinds
 use Rattle.effect_spec.specs.Contexts.{session_context}
@@ -21,6 +22,7 @@ world_with persist opened clients =
       opened = opened;
       clients = clients;
       sessions = no_sessions;
+      left = [];
       object_sequence = 0;
       session_sequence = 0;
     }
@@ -42,6 +44,7 @@ state_with objects = record {
   most = 64;
   objects = objects;
   sessions = no_sessions;
+  left = [];
   object_sequence = 0;
   session_sequence = 0;
 }
@@ -119,10 +122,10 @@ get_digest handle = frame 0x8001 CC_POLICY_GET_DIGEST (u32 handle)
 
 -- a policy session as it begins, with that nonce, of this client
 abbrev pub begun_policy : ℕ → Owned
-begun_policy client = record { client = client; octet = 3; session = initial_session kinds.Policy first_nonce; handed = None }
+begun_policy client = record { client = Some client; octet = 3; session = initial_session kinds.Policy first_nonce; handed = None }
 
 abbrev pub begun_hmac : ℕ → Owned
-begun_hmac client = record { client = client; octet = 2; session = initial_session kinds.Hmac first_nonce; handed = None }
+begun_hmac client = record { client = Some client; octet = 2; session = initial_session kinds.Hmac first_nonce; handed = None }
 
 -- the reply with a digest of zeros
 abbrev pub digest_reply : List ℕ
@@ -140,6 +143,7 @@ world_of_sessions place sessions = record {
   opened = 2;
   clients = record { number = 0; objects = [] } ∷ record { number = 1; objects = [] } ∷ [];
   sessions = sessions;
+  left = [];
   object_sequence = 0;
   session_sequence = 0;
 }
@@ -174,6 +178,59 @@ first_session client handed = set no_sessions 0 (Some (record (begun_hmac client
 abbrev pub world_handed : ℕ → Option (List ℕ) → World
 world_handed sequence handed =
     record (world_of_sessions 0 (first_session 0 handed)) { session_sequence = sequence }
+
+-- ---- sessions that were left
+
+-- the first three clients, all open
+abbrev pub three_clients : List Client
+three_clients = new_client 0 ∷ new_client 1 ∷ new_client 2 ∷ []
+
+-- a world of these clients, in which one context of a session was handed out at most: below this sequence, and with these sessions
+abbrev pub world_among : List Client → ℕ → List (Option Owned) → World
+world_among clients sequence sessions =
+    record (world_of_sessions 0 sessions) { opened = 3; clients = clients; session_sequence = sequence }
+
+-- the first of them has closed, and has left its session, for which the first context was handed out
+abbrev pub world_left : World
+world_left =
+    record (world_among (drop 1 three_clients) 1 (
+    set no_sessions 0 (Some (record (begun_hmac 0) { client = None; handed = Some first_context }))
+    )) { left = 0 ∷ [] }
+
+-- what is read of the context of a session under this number, before it is compared with the one that was handed out
+abbrev pub short_context : ℕ → List ℕ
+short_context number = u32 0 ++ u32 number ++ u32 (0x02000000 + number) ++ u32 RH_OWNER ++ 0 ∷ 0 ∷ []
+
+-- so many sessions from this number on, all saved by this client or left, with such a context each
+abbrev pub saved_from : Option ℕ → ℕ → ℕ → List (Option Owned)
+saved_from client first count =
+    map (λ number. Some (record (begun_hmac 0) { client = client; handed = Some (short_context number) })) (
+    range_with_len first count
+    )
+
+abbrev pub saved_alone : Option ℕ → ℕ → ℕ → List (Option Owned)
+saved_alone client first count =
+    replicate first None ++ saved_from client first count ++ replicate (64 - first - count) None
+
+-- the first client of such a world has closed, and so many sessions from this number on are left
+abbrev pub first_closed : World → ℕ → ℕ → World
+first_closed world first count = record world {
+  clients = new_client 1 ∷ [];
+  sessions = saved_alone None first count;
+  left = range_with_len first count;
+}
+
+-- a world in which the first client saved nine sessions, and the same after it has closed
+abbrev pub nine_saved : World
+nine_saved = world_of_sessions 0 (saved_alone (Some 0) 0 9)
+
+abbrev pub nine_left : World
+nine_left = first_closed nine_saved 1 8
+
+-- the reply of a step
+abbrev pub reply_in : Option (World × List ℕ) → List ℕ
+reply_in None = []
+reply_in (Some step) = step.1
 
 -- the reply that tells a handle
 abbrev pub handle_reply : ℕ → List ℕ

@@ -41,7 +41,7 @@ pub record IsFault (base : Persist) (most : ℕ) (before : List Entry) (e : Entr
   pub number : IsNextNumber before e.client e.number
   pub count : IsNextCount before e.faults
 
--- the client's tables go
+-- the client's tables go, and its saved sessions are left
 pub record IsClosing (base : Persist) (most : ℕ) (before : List Entry) (e : Entry) : Type 0 where
   pub form : e ≡ close_entry e.client
   pub is_open : IsOpen before e.client

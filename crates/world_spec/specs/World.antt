@@ -1,7 +1,7 @@
 -- The machine as its clients see it: one shared persistent state, for each open client a table of its own, in which its objects
--- stand by number, and 64 session numbers, each of one client or unused, of which a bounded number are used at once. It has no
--- slots and no places, and moves nothing.
-use Rattle.std.specs.Prelude.{ℕ, ◌+◌, ◌*◌, ◌^◌, ◌==◌, ◌&&◌, not, nat_le, nat_lt, bytes_eq, Bool, false, List, [], ◌∷◌, ◌++◌, get_or, set, map, replicate, drop, Option, Some, None, is_some, Result, Ok, Err, if◌then◌else◌}
+-- stand by number, and 64 session numbers. Each is unused, or has a session of one client or one that its client saved and left;
+-- a bounded number of them are used at once. It has no slots and no places, and moves nothing.
+use Rattle.std.specs.Prelude.{ℕ, ◌+◌, ◌-◌, ◌*◌, ◌^◌, ◌==◌, ◌&&◌, ◌||◌, not, nat_le, nat_lt, bytes_eq, Bool, false, List, [], ◌∷◌, ◌++◌, length, get_or, set, map, replicate, take, drop, Option, Some, None, is_some, Result, Ok, Err, if◌then◌else◌}
 use Rattle.std.specs.Int.{w32, to_be_bytes}
 use Rattle.std.specs.List.{count_by}
 use Rattle.tab_spec.specs.declared.TheConstants.{CC_CONTEXT_LOAD, CC_CONTEXT_SAVE, CC_FLUSH_CONTEXT, CC_GET_CAPABILITY, CC_START_AUTH_SESSION, CONTEXT_LIMIT, HT_TRANSIENT, RC_1, RC_HANDLE, RC_INSUFFICIENT, RC_INTEGRITY, RC_P, RC_SESSION_HANDLES, RC_SUCCESS, RC_VALUE, SESSION_NUMBERS, ST_NO_SESSIONS, TRANSIENT_FIRST}
@@ -10,6 +10,7 @@ use Rattle.tab_spec.specs.declared.Auths.{Auths}
 use Rattle.tab_spec.specs.declared.Admitted.{Admitted}
 use Rattle.tab_spec.specs.Admission.{Tables, client_admitted, is_session_handle}
 use Rattle.tab_spec.specs.Commands.{all_commands}
+use Rattle.tab_spec.specs.Numbers.{left_most}
 use Rattle.tab_spec.specs.Object.{Object}
 use Rattle.tab_spec.specs.Parameters.{in_parameter, nothing_of, when_read}
 use Rattle.tab_spec.specs.Persist.{Persist}
@@ -26,7 +27,7 @@ use Rattle.history_spec.specs.declared.Pick.{Pick}
 use Rattle.history_spec.specs.declared.Pick.TheVariants as picks
 use Rattle.history_spec.specs.declared.EntryKind.{EntryKind}
 use Rattle.history_spec.specs.declared.EntryKind.TheVariants.{Open, Command, Canceled, Fault, Close}
-use Rattle.history_spec.specs.Entry.{Entry}
+use Rattle.history_spec.specs.Entry.{Entry, without}
 use Rattle.history_spec.specs.Table.{held_under, is_full, next_handle, put_least, without_handle}
 
 -- an open client, and its objects by number
@@ -34,10 +35,10 @@ pub record Client : Type 0 where
   pub number : ℕ
   pub objects : List (Option Object)
 
--- a session: whose it is, the first octet of its handle, what a device has of it, and where the client saved it the context that
--- was handed out for it. A session without one is in use
+-- a session: whose it is, nobody's where its client left it; the first octet of its handle; what a device has of it; and where a
+-- client saved it the context that was handed out for it. A session without one is in use; a left one has one
 pub record Owned : Type 0 where
-  pub client : ℕ
+  pub client : Option ℕ
   pub octet : ℕ
   pub session : Session
   pub handed : Option (List ℕ)
@@ -50,8 +51,10 @@ pub record World : Type 0 where
   pub opened : ℕ
   -- the open ones, in the order of opening
   pub clients : List Client
-  -- the sessions of all of them, by number
+  -- the sessions of all of them and those that were left, by number
   pub sessions : List (Option Owned)
+  -- the numbers of the sessions that clients saved and left, in the order in which they were left
+  pub left : List ℕ
   -- the least sequence under which the next context of an object, and of a session, may be handed out
   pub object_sequence : ℕ
   pub session_sequence : ℕ
@@ -66,6 +69,7 @@ empty_world base most = record {
   opened = 0;
   clients = [];
   sessions = no_sessions;
+  left = [];
   object_sequence = 0;
   session_sequence = 0;
 }
@@ -92,14 +96,28 @@ without_client client (c ∷ clients) = if c.number == client then clients else 
 
 -- ---- sessions
 
+-- whether it is this client's
+abbrev pub is_of : ℕ → Option ℕ → Bool
+is_of client None = false
+is_of client (Some owner) = owner == client
+
 -- what stands under a number, where it is this client's and its handle has this octet
 abbrev pub owned_by : ℕ → ℕ → Option Owned → Option Owned
 owned_by client octet None = None
-owned_by client octet (Some place) = if place.client == client && place.octet == octet then Some place else None
+owned_by client octet (Some place) = if is_of client place.client && place.octet == octet then Some place else None
 
 -- what stands under a client's handle: a session in use, or one that the client saved
 abbrev pub owned_under : List (Option Owned) → ℕ → ℕ → Option Owned
 owned_under sessions client handle = owned_by client (octet_of handle) (get_or sessions (number_of_session handle) None)
+
+-- what ContextLoad may take under a client's handle: a session of this client, or one that was left
+abbrev pub loadable_by : ℕ → ℕ → Option Owned → Option Owned
+loadable_by client octet None = None
+loadable_by client octet (Some place) =
+    if (is_of client place.client || not (is_some place.client)) && place.octet == octet then Some place else None
+
+abbrev pub loadable_under : List (Option Owned) → ℕ → ℕ → Option Owned
+loadable_under sessions client handle = loadable_by client (octet_of handle) (get_or sessions (number_of_session handle) None)
 
 -- a session that is in use
 abbrev pub in_use : Option Owned → Option Session
@@ -112,38 +130,64 @@ session_of sessions client handle = in_use (owned_under sessions client handle)
 
 -- what stands under the number of a client's handle: a session in use
 abbrev pub own_place : ℕ → ℕ → Session → Option Owned
-own_place client handle s = Some (record { client = client; octet = octet_of handle; session = s; handed = None })
+own_place client handle s = Some (record { client = Some client; octet = octet_of handle; session = s; handed = None })
 
 -- and one that the client saved, for which this context was handed out
 abbrev pub saved_place : ℕ → ℕ → Session → List ℕ → Option Owned
 saved_place client handle s context =
-    Some (record { client = client; octet = octet_of handle; session = s; handed = Some context })
+    Some (record { client = Some client; octet = octet_of handle; session = s; handed = Some context })
 
--- how many sessions all clients have
+-- how many sessions are active: those of all clients, and those that were left
 abbrev pub active : List (Option Owned) → ℕ
 active sessions = count_by is_some sessions
 
--- whether a number is one that a new session may have: below 64, and no client's
+-- whether a number is one that a new session may have: below 64, and no session's
 abbrev pub is_unused : List (Option Owned) → ℕ → Bool
 is_unused sessions number = nat_lt number SESSION_NUMBERS && not (is_some (get_or sessions number None))
 
--- without the sessions of a client
-abbrev pub unless_owned : ℕ → Option Owned → Option Owned
-unless_owned client None = None
-unless_owned client (Some place) = if place.client == client then None else Some place
+-- ---- what a close leaves
 
-abbrev pub without_owner : ℕ → List (Option Owned) → List (Option Owned)
-without_owner client sessions = map (unless_owned client) sessions
+-- whether this client saved the session of a place
+abbrev pub is_saved_by : ℕ → Option Owned → Bool
+is_saved_by client None = false
+is_saved_by client (Some place) = is_of client place.client && is_some place.handed
+
+-- the numbers of the sessions that this client saved, rising; the first place has this number
+abbrev pub saved_numbers : ℕ → ℕ → List (Option Owned) → List ℕ
+saved_numbers client number [] = []
+saved_numbers client number (place ∷ places) =
+    (if is_saved_by client place then number ∷ [] else []) ++ saved_numbers client (number + 1) places
+
+-- what this client's close leaves of a place: its session in use goes, and one that it saved is nobody's
+abbrev pub left_place : ℕ → Option Owned → Option Owned
+left_place client None = None
+left_place client (Some place) =
+    if is_of client place.client then (if is_some place.handed then Some (record place { client = None }) else None)
+    else Some place
+
+-- without the sessions of these numbers
+abbrev pub without_places : List ℕ → List (Option Owned) → List (Option Owned)
+without_places [] sessions = sessions
+without_places (number ∷ numbers) sessions = without_places numbers (set sessions number None)
+
+-- what the close of a client leaves of all sessions, and which ones are left then: its sessions in use go, and those that it saved
+-- are left; of all that are left, those past the limit go, which were left longest
+abbrev pub closed_sessions : ℕ → ℕ → List (Option Owned) → List ℕ → List (Option Owned) × List ℕ
+closed_sessions client most sessions left =
+    let all = left ++ saved_numbers client 0 sessions in
+    let gone = length all - left_most most in
+    (without_places (take gone all) (map (left_place client) sessions), drop gone all)
 
 -- ---- what a command names
 
--- What a command of a client is run over: what is kept, how many sessions there may be, the client's objects, and the sessions, of
--- which it may name its own
+-- What a command of a client is run over: what is kept, how many sessions there may be, the client's objects, and all sessions. It
+-- may name those of the client, and ContextLoad may take a left one, too
 pub record ClientState : Type 0 where
   pub persist : Persist
   pub most : ℕ
   pub objects : List (Option Object)
   pub sessions : List (Option Owned)
+  pub left : List ℕ
   pub object_sequence : ℕ
   pub session_sequence : ℕ
 
@@ -314,7 +358,8 @@ abbrev pub is_handed : List ℕ → Option (List ℕ) → Bool
 is_handed bytes None = false
 is_handed bytes (Some context) = bytes_eq bytes context
 
--- a session that the client saved is in use again, exactly where this is the context that was handed out for it
+-- a session that the client saved, or that was left, is the client's and in use, exactly where this is the context that was handed
+-- out for it
 abbrev pub session_taken : ℕ → ClientState → ℕ → List ℕ → Option Owned → ClientStep
 session_taken client state handle bytes None = refused_step state (RC_HANDLE + RC_P + RC_1)
 session_taken client state handle bytes (Some place) =
@@ -322,6 +367,7 @@ session_taken client state handle bytes (Some place) =
     then (
       record state {
         sessions = set state.sessions (number_of_session handle) (own_place client handle place.session);
+        left = without (number_of_session handle) state.left;
       },
       response ST_NO_SESSIONS RC_SUCCESS (to_be_bytes w32 handle),
     )
@@ -333,7 +379,7 @@ load_step client state bytes (Ok context) =
     let handle = context.saved_handle in
     if handle == TRANSIENT_FIRST then object_opened state (opened_object state.persist.seed bytes)
     else if is_session_handle handle
-    then session_taken client state handle bytes (owned_under state.sessions client handle)
+    then session_taken client state handle bytes (loadable_under state.sessions client handle)
     else refused_step state (RC_VALUE + RC_P + RC_1)
 
 -- what ContextLoad reads
@@ -346,7 +392,7 @@ load_parameters params = when_read (context_parameter params) (λ context. Ok co
 abbrev pub listed_owned : ℕ → ℕ → Option Owned → List Listed
 listed_owned client number None = []
 listed_owned client number (Some place) =
-    if place.client == client
+    if is_of client place.client
     then record { handle = place.octet * 2 ^ 24 + number; in_use = not (is_some place.handed) } ∷ []
     else []
 
@@ -356,7 +402,7 @@ listed_sessions client number [] = []
 listed_sessions client number (place ∷ places) =
     listed_owned client number place ++ listed_sessions client (number + 1) places
 
--- over the client's objects and sessions, and the count of the sessions of all clients
+-- over the client's objects and sessions, and the count of all active sessions
 abbrev pub client_capability : ℕ → ClientState → List ℕ → Result (List ℕ) ℕ
 client_capability client state params =
     capability_of (client_limits state.most) all_commands state.persist (transient_from TRANSIENT_FIRST state.objects)
@@ -411,6 +457,7 @@ state_in world client = record {
   most = world.most;
   objects = table_in world.clients client;
   sessions = world.sessions;
+  left = world.left;
   object_sequence = world.object_sequence;
   session_sequence = world.session_sequence;
 }
@@ -421,6 +468,7 @@ world_with_state world client state = record world {
   most = state.most;
   clients = with_table client state.objects world.clients;
   sessions = state.sessions;
+  left = state.left;
   object_sequence = state.object_sequence;
   session_sequence = state.session_sequence;
 }
@@ -439,11 +487,15 @@ abbrev pub opened_world : World → ℕ → World
 opened_world world client =
     record world { opened = world.opened + 1; clients = world.clients ++ new_client client ∷ [] }
 
+-- a client's objects go, and its sessions are closed
 abbrev pub closed_world : World → ℕ → World
-closed_world world client = record world {
-  clients = without_client client world.clients;
-  sessions = without_owner client world.sessions;
-}
+closed_world world client =
+    let closed = closed_sessions client world.most world.sessions world.left in
+    record world {
+      clients = without_client client world.clients;
+      sessions = closed.0;
+      left = closed.1;
+    }
 
 abbrev pub after_step : World → Option (World × List ℕ) → World
 after_step world None = world

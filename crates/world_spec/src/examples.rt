@@ -1,6 +1,7 @@
 //! Worked examples: what the definitions make of them, and what they refuse.
 
 mod contexts;
+mod left;
 mod refusals;
 mod sessions;
 

@@ -3,8 +3,7 @@
 ghost use Rattle.std.specs.Prelude.{◌≡◌, ◌^◌, ◌∷◌, ◌++◌, [], Some, None};
 ghost use Rattle.tab_spec.specs.Examples.{flush, frame, refusal, u32};
 ghost use Rattle.history_spec.specs.declared.Pick.TheVariants.{Nothing, Session, Sequence};
-ghost use Rattle.world_spec.specs.World.{client_step, closed_world, new_client, no_sessions};
-ghost use Rattle.world_spec.specs.World.{plain_step};
+ghost use Rattle.world_spec.specs.World.{client_step, no_sessions, plain_step};
 ghost use Rattle.world_spec.specs.Examples.{ask, context_under, first_context, handle_reply};
 ghost use Rattle.world_spec.specs.Examples.{left_with, load, save, state_with, taken_numbers};
 ghost use Rattle.world_spec.specs.Examples.{three_places, told_list, world_handed};
@@ -84,13 +83,4 @@ fn clients_are_told_of_their_own()
     ensures anothers { plain_step (world_handed 1 (Some first_context)) 1
         (ask 1 0x03000000 8) Nothing
         ≡ Some (world_handed 1 (Some first_context), told_list 0 1 0 []) }
-{}
-
-// A closed client has no session, neither in use nor saved.
-fn closes_end_saved_sessions()
-    ensures { closed_world (world_handed 1 (Some first_context)) 0
-        ≡ record (world_of_sessions 0 no_sessions) {
-          clients = new_client 1 ∷ [];
-          session_sequence = 1;
-        } }
 {}

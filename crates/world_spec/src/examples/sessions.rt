@@ -10,8 +10,8 @@ ghost use Rattle.world_spec.specs.Examples.{begun_hmac, begun_policy, digest_rep
 ghost use Rattle.world_spec.specs.Examples.{start_session, started_reply, taken_numbers};
 ghost use Rattle.world_spec.specs.Examples.{of_16_sessions, world_of_sessions};
 
-// A session that starts gets the number that is picked, below 64 and no client's; its handle tells
-// the octet of its type and that number.
+// A session that starts gets the number that is picked, below 64 and unused; its handle tells the
+// octet of its type and that number.
 fn sessions_get_a_number()
     ensures hmac { plain_step (world_of_sessions 0 no_sessions) 0 (start_session 0) (Session 0)
         ≡ Some
@@ -89,7 +89,7 @@ fn clients_name_their_own_sessions()
         ≡ Some (world_of_sessions 0 (taken_numbers 2), refusal 0x01 0xcb) }
 {}
 
-// A closed client has no session.
+// What a closed client had in use is gone.
 fn closes_end_sessions()
     ensures { closed_world (world_of_sessions 0 (set (taken_numbers 2) 0 (Some (begun_policy 0)))) 1
         ≡ record (world_of_sessions 0 (set no_sessions 0 (Some (begun_policy 0)))) {

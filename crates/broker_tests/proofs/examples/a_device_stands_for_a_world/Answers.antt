@@ -64,6 +64,7 @@ returns-clause-at_its_place c =
       settled = settled_empty (device_at 5) profile_numbers 0 refl sound_at refl refl;
       clients = λ client. rw (nobody client) refl;
       sessions = refl;
+      left = refl;
       handed = record { of_objects = omega arith; of_sessions = omega arith };
       object_counter = omega arith;
       counter = omega arith;

@@ -103,6 +103,7 @@ returns-clause-stand c =
       settled = settled;
       clients = nobody;
       sessions = refl;
+      left = refl;
       handed = record { of_objects = omega arith; of_sessions = omega arith };
       object_counter = omega arith;
       counter = omega arith;

@@ -1,4 +1,4 @@
-use Rattle.std.proofs.Common.{ℕ, ◌+◌, [], ◌∷◌, length, length-append, ap, arith, Ok, Err, List}
+use Rattle.std.proofs.Common.{ℕ, ◌+◌, [], ◌∷◌, length, length-append, ap, arith, Ok, Err, List, ◌∙◌}
 use Rattle.std.specs.List.{count_by}
 use Rattle.std.proofs.lemmas.Result.{err_from_is_err_and}
 use Rattle.object_swap.specs.Items.{ObjectsView}
@@ -7,8 +7,10 @@ use Rattle.session_swap.specs.Items.{SessionsView}
 use Rattle.device_port.specs.Device.{sent_of}
 use Rattle.device_port.proofs.Sending.{asks_none, asks_some, asks_then, some_failed}
 use Rattle.tab_spec.specs.declared.TheConstants.{TRANSIENT_FIRST}
+use Rattle.tab_spec.specs.Shape.{number_of_session}
 use Rattle.client_machine.proofs.Before.{asks_as, flushes_all, flushes_more, flushes_none}
 use Rattle.client_machine.proofs.Costs.{sent_one}
+use Rattle.client_machine.proofs.Leaving.{orphan_unleft, unleft}
 use Rattle.client_machine.proofs.Orphans.{clears_failed, clears_none, clears_orphan, clears_session, clears_then, last_of, none_counted, orphans_less}
 use Rattle.client_machine.proofs.Settling.{gap_settled, keeps_over_objects, keeps_over_sessions, objects_settled, sessions_settled}
 use Rattle.client_machine.proofs.preparing.flush_orphans.Goals as goal
@@ -35,7 +37,11 @@ loop-handle-preserved g c =
       clears = clears_then _ _ _ _ _ _ _ so_far
           (clears_session _ _ _ c.loop-handle.held c.drop_session.new.self c.in-Some.handle c.in-Some.ensures.1
           (ap (λ (v : SessionsView). v.numbers) gone.ok.view_is) (ap (λ (v : SessionsView). v.items) gone.ok.view_is)
-          (ap (λ (v : SessionsView). v.next) gone.ok.view_is) gone.ok.sessions
+          (ap (λ (v : SessionsView). v.next) gone.ok.view_is)
+          (ap (λ (v : SessionsView). v.left) gone.ok.view_is
+          ∙ unleft c.loop-handle.held.sessions.items c.loop-handle.held.sessions.left (number_of_session c.in-Some.handle) gone.listed
+          (orphan_unleft (sessions.item_at c.loop-handle.held.sessions.items (number_of_session c.in-Some.handle)) c.in-Some.ensures.1))
+          gone.ok.sessions
           (gone.stands.stand [] (sessions_settled (seen c.loop-handle.device).state c.loop-handle.held so_far.prepared.settled))
           gone.counts.counter
           (gone.counts.room (gap_settled (seen c.loop-handle.device).state c.loop-handle.held so_far.prepared.settled))

@@ -189,7 +189,7 @@ returns-clause-stays g c = λ narrow.
     c.in_ok-load_sessions.ensures.costs.stays c.load_sessions.ensures.rest c.load_sessions.ensures.prepared.gone
     c.in_ok-bring.ensures.costs.stays c.bring.ensures.rest.1 c.bring.ensures.prepared.gone
 
--- ---- where nothing is nobody's, and no renewal is due
+-- ---- where there are no orphans, and no renewal is due
 
 pub returns-in_err-renew-clause-few : goal.returns-in_err-renew-clause-few
 returns-in_err-renew-clause-few g c = λ calm. sent_none g.D.Device.seen _ _ _ (c.renew.ensures.still calm.nobodys calm.narrow).0

@@ -74,7 +74,7 @@ returns-clause-ok g c =
         last_is = out.reply_is.last_is;
         frame = out.reply_is.frame;
         success = told.0;
-        view_is = λ i. record { numbers = numbers; items = items_are i; next = out.reply_is.next_is i; order = []; saved = number_of_session c.args.handle ∷ [] };
+        view_is = λ i. record { numbers = numbers; items = items_are i; next = out.reply_is.next_is i; order = []; saved = number_of_session c.args.handle ∷ []; left = [] };
       },
       record {
         context = told.1;

@@ -16,6 +16,7 @@ loop-renewed-init g c =
     record {
       moved = record {
         numbers = refl;
+        left = refl;
         sessions = record { sessions = refl; holders = refl };
         stand = c.requires.stand;
         rest = record { base_is = refl; rest = refl; rises = omega arith; count = omega arith };
@@ -82,6 +83,7 @@ loop-renewed-preserved g c =
     record {
       moved = record {
         numbers = again.numbers ∙ moved.numbers;
+        left = again.left ∙ moved.left;
         sessions = record {
           sessions = again.sessions.sessions ∙ moved.sessions.sessions;
           holders = again.sessions.holders ∙ moved.sessions.holders;
@@ -190,6 +192,7 @@ returns-in_err-renew_by-clause-moved g c =
     let again = c.renew_by.ensures.moved in
     record {
       numbers = again.numbers ∙ moved.numbers;
+      left = again.left ∙ moved.left;
       sessions = record {
         sessions = again.sessions.sessions ∙ moved.sessions.sessions;
         holders = again.sessions.holders ∙ moved.sessions.holders;

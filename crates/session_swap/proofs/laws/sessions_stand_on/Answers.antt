@@ -1,4 +1,4 @@
-use Rattle.session_swap.proofs.Standing.{sessions_disowned, stands_begun, stands_changed, stands_disowned, stands_ended}
+use Rattle.session_swap.proofs.Standing.{sessions_behind, sessions_disowned, stands_begun, stands_behind, stands_changed, stands_disowned, stands_ended}
 use Rattle.session_swap.proofs.laws.sessions_stand_on.Goals as goal
 
 pub returns-clause-changed : goal.returns-clause-changed
@@ -17,7 +17,13 @@ returns-clause-ended c =
     stands_ended slots new view others handle stand started sound counter seed numbers named sessions
 
 pub returns-clause-disowned : goal.returns-clause-disowned
-returns-clause-disowned c = λ slots view others handle stand named. stands_disowned slots view others handle stand named
+returns-clause-disowned c = λ slots view left others handle stand named. stands_disowned slots view left others handle stand named
 
 pub returns-clause-stays : goal.returns-clause-stays
 returns-clause-stays c = λ slots items number. sessions_disowned slots items number
+
+pub returns-clause-left : goal.returns-clause-left
+returns-clause-left c = λ slots view left others handle stand named. stands_behind slots view left others handle stand named
+
+pub returns-clause-left_stays : goal.returns-clause-left_stays
+returns-clause-left_stays c = λ slots items number. sessions_behind slots items number

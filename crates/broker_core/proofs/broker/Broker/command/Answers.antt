@@ -260,12 +260,13 @@ returns-in-Err-Failed-clause-told g c =
     let tables = tables_same c.self.inside.tables.items c.args.client c.answer.new.table.items (done.serves.stays.table_is ∙ sym is) in
     let are = are_more _ _ c.reserve.ensures.items in
     let sessions = done.serves.stays.sessions ∙ ap (λ (v : SessionsView). owned_handles v.items) c.reserve.ensures.same.2 in
+    let left = done.serves.stays.left ∙ ap (λ (v : SessionsView). v.left) c.reserve.ensures.same.2 in
     let objects = owners_more c.self.inside.machine.held.objects.items c.reserve.new.self.held.objects.items c.answer.new.self.held.objects.items are done.serves.stays.objects in
     let failed = subst (λ (d : _). Rose (g.D.Device.seen d).faults (g.D.Device.seen c.answer.new.self.device).faults × (last_of (g.D.Device.seen c.answer.new.self.device) ≡ None)) device cause in
     let sent = subst (λ (d : _). FailsAtLast g.D.Device.seen d c.answer.new.self.device) device done.serves.fails in
     entered_seen g.D.Device.seen {old = old} c.self.view_is
     (entered_faulted g.D.Device.seen old _ c.args.client c.args.number c.fault_count-faults.result c.args.bytes.now c.enter_fault.new.reply c.in-Ok.admitted
-    admitted c.enter_fault.ensures.reply c.fault_count-faults.ensures ready.0 c.enter_fault.ensures.entered failed sent tables sessions objects)
+    admitted c.enter_fault.ensures.reply c.fault_count-faults.ensures ready.0 c.enter_fault.ensures.entered failed sent tables sessions left objects)
 
 pub returns-in-Err-Answer-clause-told : goal.returns-in-Err-Answer-clause-told
 returns-in-Err-Answer-clause-told g c =

@@ -1,8 +1,7 @@
 use Rattle.std.proofs.Common.{◌≡◌, [], subst}
 use Rattle.std.specs.Prelude.{IfSome}
-use Rattle.device_spec.specs.Slots.{held}
 use Rattle.history_spec.specs.Entry.{clients_of}
-use Rattle.broker_core.specs.Broker.{FaultsCounted, StandsFor}
+use Rattle.broker_core.specs.Broker.{HoldsLeft, StandsFor}
 use Rattle.broker_core.proofs.Holding.{held_told}
 use Rattle.broker_core.proofs.broker.Broker.finish.Goals as goal
 
@@ -11,5 +10,7 @@ returns-clause-stands g c = subst (λ (v : _). StandsFor (g.D.Device.seen v.devi
 
 pub returns-clause-held : goal.returns-clause-held
 returns-clause-held g c =
-    subst (λ (v : _). (clients_of v.journal).present ≡ [] → IfSome (g.D.Device.seen v.device).state (λ slots. FaultsCounted v.began (g.D.Device.seen v.device).faults v.journal (held slots))) c.self.view_is
-    (held_told _ _ _ _ _ _ _ _ (g.met.D.Device.told_together c.self.inside.machine.device) c.self.invariant.0.stands c.self.invariant.0.objects c.self.invariant.0.answers.taken c.show_vacant.ensures)
+    subst (λ (v : _). (clients_of v.journal).present ≡ [] → IfSome (g.D.Device.seen v.device).state (λ slots.
+    HoldsLeft v.began (g.D.Device.seen v.device).faults v.journal slots v.held.sessions.left)) c.self.view_is
+    (held_told _ _ _ _ _ _ _ _ (g.met.D.Device.told_together c.self.inside.machine.device) c.self.invariant.0.stands c.self.invariant.0.objects c.self.invariant.0.answers.taken
+    c.show_vacant.ensures c.left.ensures.listed)

@@ -96,7 +96,7 @@ returns-in_err-drop_object-clause-steps g c =
       some_object c.loop-item.self.held.objects.items client c.in-Some.item (record { names = found.0; own = found.1 }),
     )
 
--- how many more are nobody's
+-- how many more orphans there are
 pub returns-clause-ok : goal.returns-clause-ok
 returns-clause-ok g c =
     λ client owner.

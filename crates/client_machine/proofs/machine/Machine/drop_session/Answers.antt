@@ -1,23 +1,27 @@
 use Rattle.std.proofs.Common.{[], Ok, Err, set, ap, arith, rules, ◌∙◌}
 use Rattle.std.specs.List.{count_by}
 use Rattle.tab_spec.specs.Shape.{number_of_session}
+use Rattle.device_port.specs.Use.{without_one}
 use Rattle.session_swap.specs.Items.{SessionsView, disowned, is_owned, item_at}
+use Rattle.session_swap.proofs.Among.{named_inside}
 use Rattle.client_machine.proofs.Costs.{sent_one}
-use Rattle.client_machine.proofs.Disowning.{ended_owned, own_at}
-use Rattle.client_machine.proofs.DroppingSessions.{ended, left, none_left, one_left}
+use Rattle.client_machine.proofs.Disowning.{owned_gone, owned_orphaned}
+use Rattle.client_machine.proofs.DroppingSessions.{ended, none_left, one_left, orphaned}
 use Rattle.client_machine.proofs.Keeping.{failed_cause}
+use Rattle.client_machine.proofs.Leaving.{going}
 use Rattle.client_machine.proofs.Settling.{gap_settled, sessions_settled}
 use Rattle.client_machine.proofs.Tried.{tried_failed, tried_ok, tried_wrong}
 use Rattle.client_machine.proofs.machine.Machine.drop_session.Goals as goal
 
 pub returns-in-Ok-clause-ok : goal.returns-in-Ok-clause-ok
 returns-in-Ok-clause-ok g c =
-    λ client own.
+    λ client dropped.
     let done = c.in-Ok.ensures in
     ended _ client _ _ c.args.self.now.held c.drop_session.new.self (number_of_session c.args.handle)
     (record {
       numbers = ap (λ (v : SessionsView). v.numbers) done.ok.view_is;
       items_are = ap (λ (v : SessionsView). v.items) done.ok.view_is;
+      left_is = ap (λ (v : SessionsView). v.left) done.ok.view_is;
       sessions = done.ok.sessions;
       stand = done.stands.stand [] (sessions_settled _ _ c.requires.settled);
       room = done.counts.room (gap_settled _ _ c.requires.settled);
@@ -25,28 +29,51 @@ returns-in-Ok-clause-ok g c =
       rest = done.stands.rest;
       answered = done.asks.answered;
     })
-    (own_at _ client c.args.handle c.requires.named own) c.requires.settled
+    (going client c.args.self.now.held.sessions c.args.handle c.requires.named done.listed dropped) c.requires.settled
+
+pub returns-in-Ok-clause-gone : goal.returns-in-Ok-clause-gone
+returns-in-Ok-clause-gone g c = ap (λ (v : SessionsView). v.left) c.in-Ok.ensures.ok.view_is
 
 pub returns-in-Ok-clause-count : goal.returns-in-Ok-clause-count
 returns-in-Ok-clause-count g c =
-    λ client own.
+    λ client.
     let items = c.args.self.now.held.sessions.items in
     omega (
       arith,
       ap (λ (v : SessionsView). count_by (is_owned client) v.items) c.in-Ok.ensures.ok.view_is,
-      ended_owned items client (number_of_session c.args.handle) (own_at items client c.args.handle c.requires.named own),
+      owned_gone items client (number_of_session c.args.handle) (named_inside items c.args.handle c.requires.named),
     )
 
 pub returns-in-Err-Failed-clause-ok : goal.returns-in-Err-Failed-clause-ok
 returns-in-Err-Failed-clause-ok g c =
-    λ client own.
+    λ client dropped.
     let failed = c.in-Err-Failed.ensures in
     let cause = failed_cause g.D.Device.seen _ c.in-Err-Failed.field-0-0 _ _ c.in-Err-Failed.field-0-is failed.asks.cause in
     let n = number_of_session c.args.handle in
-    left _ client _ _ c.args.self.now.held c.orphan_session.new.self c.args.handle
-    (c.orphan_session.ensures ∙ ap (λ (v : SessionsView). record v { items = set v.items n (disowned (item_at v.items n)) }) failed.err)
-    failed.asks.err failed.stands.rest cause.0 cause.1 c.requires.named (own_at _ client c.args.handle c.requires.named own)
-    c.requires.settled
+    orphaned _ client _ _ c.args.self.now.held c.orphan_session.new.self c.args.handle
+    (c.orphan_session.ensures
+    ∙ ap (λ (v : SessionsView). record v { items = set v.items n (disowned (item_at v.items n)); left = without_one n v.left }) failed.err)
+    failed.asks.err failed.stands.rest cause.0 cause.1 c.requires.named
+    (going client c.args.self.now.held.sessions c.args.handle c.requires.named failed.listed dropped) c.requires.settled
+
+pub returns-in-Err-Failed-clause-gone : goal.returns-in-Err-Failed-clause-gone
+returns-in-Err-Failed-clause-gone g c =
+    ap (λ (v : SessionsView). v.left) c.orphan_session.ensures
+    ∙ ap (λ (v : SessionsView). without_one (number_of_session c.args.handle) v.left) c.in-Err-Failed.ensures.err
+
+pub returns-in-Err-Failed-clause-count : goal.returns-in-Err-Failed-clause-count
+returns-in-Err-Failed-clause-count g c =
+    λ client.
+    let items = c.args.self.now.held.sessions.items in
+    let n = number_of_session c.args.handle in
+    let items_are =
+    ap (λ (v : SessionsView). v.items) c.orphan_session.ensures
+    ∙ ap (λ (v : SessionsView). set v.items n (disowned (item_at v.items n))) c.in-Err-Failed.ensures.err in
+    omega (
+      arith,
+      ap (count_by (is_owned client)) items_are,
+      owned_orphaned items client n (named_inside items c.args.handle c.requires.named),
+    )
 
 pub returns-in-Ok-clause-costs : goal.returns-in-Ok-clause-costs
 returns-in-Ok-clause-costs g c = sent_one g.D.Device.seen _ _ _ (Ok _) c.in-Ok.ensures.asks

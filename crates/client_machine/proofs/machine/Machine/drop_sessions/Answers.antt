@@ -2,9 +2,9 @@ use Rattle.std.proofs.Common.{arith, refl, ◌∙◌}
 use Rattle.std.specs.Prelude.{Ok}
 use Rattle.std.proofs.lemmas.List.Sums.{count_by-le-length}
 use Rattle.std.proofs.lemmas.Result.{err_from_is_err_and}
-use Rattle.session_swap.specs.Items.{has_owner, is_owned}
+use Rattle.session_swap.specs.Items.{is_held, is_owned}
 use Rattle.history_laws.proofs.Counts.{list_none}
-use Rattle.client_machine.proofs.Disowning.{ended_owned, others_more, others_same, own_at, owned_few}
+use Rattle.client_machine.proofs.Disowning.{ended_owned, others_same, others_then, own_at, owned_few}
 use Rattle.client_machine.proofs.Dropping.{disowns_failed, disowns_none, disowns_ok, disowns_then, drops_none, drops_then}
 use Rattle.client_machine.proofs.machine.Machine.drop_sessions.Goals as goal
 
@@ -24,15 +24,14 @@ loop-number-preserved g c =
     let so_far = c.loop-number.invariant in
     let next = c.in_ok-failed.ensures in
     let client = c.args.client in
-    let own = c.in-Some.ensures.1 in
     record {
-      drops = drops_then _ _ _ _ _ _ _ _ _ _ so_far.drops (next.ok client own);
-      left = omega (arith, so_far.left, next.count client own);
+      drops = drops_then _ _ _ _ _ _ _ _ _ _ so_far.drops next.ok;
+      left = omega (arith, so_far.left, next.count);
       few = omega (arith, so_far.few, next.few);
       disowns = disowns_then _ _ _ _ _ _ _ 0 (Ok 0) so_far.drops.lists so_far.disowns (disowns_ok _ _ _ _ _ _ 0 next.disowns);
       rest = next.rest ∙ so_far.rest;
-      costs = omega (arith, so_far.costs, next.costs, next.count client own);
-      others = others_more _ _ _ client c.in-Some.handle so_far.others c.in-Some.ensures.0 own next.others;
+      costs = omega (arith, so_far.costs, next.costs, next.count);
+      others = others_then client _ _ _ so_far.others next.others;
     }
 
 pub returns-clause-none : goal.returns-clause-none
@@ -48,7 +47,7 @@ returns-in_default-clause-few g c =
       so_far.few,
       so_far.left,
       c.active-number-end.ensures.numbers,
-      count_by-le-length has_owner c.args.self.now.held.sessions.items,
+      count_by-le-length is_held c.args.self.now.held.sessions.items,
     )
 
 pub returns-clause-few : goal.returns-clause-few
@@ -59,7 +58,7 @@ returns-clause-few g c =
       so_far.few,
       so_far.left,
       c.active-number-end.ensures.numbers,
-      count_by-le-length has_owner c.args.self.now.held.sessions.items,
+      count_by-le-length is_held c.args.self.now.held.sessions.items,
     )
 
 pub returns-in_default-clause-disowns : goal.returns-in_default-clause-disowns
@@ -76,7 +75,7 @@ returns-in_err-failed-clause-disowns g c =
 
 pub returns-in_err-failed-clause-others : goal.returns-in_err-failed-clause-others
 returns-in_err-failed-clause-others g c =
-    others_more _ _ _ c.args.client c.in-Some.handle c.loop-number.invariant.others c.in-Some.ensures.0 c.in-Some.ensures.1 c.in_err-failed.ensures.others
+    others_then c.args.client _ _ _ c.loop-number.invariant.others c.in_err-failed.ensures.others
 
 pub returns-clause-costs : goal.returns-clause-costs
 returns-clause-costs g c = omega (arith, c.loop-number.invariant.costs)

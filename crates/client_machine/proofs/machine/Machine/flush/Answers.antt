@@ -1,19 +1,19 @@
-use Rattle.std.proofs.Common.{◌≡◌, ℕ, true, false, [], inr, ap, sym, ◌∙◌, arith, rules}
+use Rattle.std.proofs.Common.{◌≡◌, ℕ, true, false, [], inr, refl, ap, sym, ◌∙◌, arith, rules}
 use Rattle.std.proofs.lemmas.Bool.{false≢true}
 use Rattle.std.specs.Prelude.{Err, Ok, Option, is_some, not}
 use Rattle.std.proofs.lemmas.Result.{err_from_is_err_and}
 use Rattle.tab_spec.specs.Shape.{number_of_session}
 use Rattle.object_swap.specs.Items.{ObjectsView, handle_in, item_at}
 use Rattle.session_swap.specs.Items.{SessionsView}
+use Rattle.session_swap.proofs.Among.{named_inside}
 use Rattle.device_port.proofs.Sending.{asks_some, asks_then, cause_then}
 use Rattle.world_spec.specs.World.{ClientState, without_named}
 use Rattle.client_machine.specs.Settled.{orphan_count}
 use Rattle.client_machine.proofs.Before.{fails_asking}
-use Rattle.client_machine.proofs.Disowning.{own_at}
-use Rattle.client_machine.proofs.Dropping.{dropped, held_named, table_after}
-use Rattle.client_machine.proofs.DroppingSessions.{ended}
+use Rattle.client_machine.proofs.Dropping.{dropped, drops_object, held_named, table_after}
+use Rattle.client_machine.proofs.DroppingSessions.{forgets}
 use Rattle.client_machine.proofs.Flushing.{leaves_after, moves_after, not_transient, object_leaves, object_sent, object_unsent, none_without_object, none_without_session, transient}
-use Rattle.client_machine.proofs.FlushingSessions.{may_flush_session, owned_stays, owner_again, owner_named, session_leaves, session_owners}
+use Rattle.client_machine.proofs.FlushingSessions.{may_flush_session, owned_stays, owner_again, owner_named, owner_unleft, session_leaves, session_owners}
 use Rattle.client_machine.proofs.Keeping.{rightly}
 use Rattle.client_machine.proofs.Orphans.{prepares_failed, prepares_same, prepares_then}
 use Rattle.client_machine.proofs.Staying.{loses_object, loses_session, loses_then}
@@ -72,10 +72,11 @@ returns-then-octet_of-ne-HT_TRANSIENT-clause-serves g c = λ client may.
     let still = owner_again client handle held.sessions.items between.sessions.items own same in
     record {
       moves = moves_after seen client _ c.flush_orphans.new.device _ _ between _ _ before.prepared
-          (ended _ client _ _ between c.drop_session.new.self n
+          (forgets _ client _ _ between c.drop_session.new.self n
           (record {
             numbers = ap (λ (v : SessionsView). v.numbers) done.ok.view_is;
             items_are = ap (λ (v : SessionsView). v.items) done.ok.view_is;
+            left_is = ap (λ (v : SessionsView). v.left) done.ok.view_is;
             sessions = done.ok.sessions;
             stand = done.stands.stand [] (sessions_settled (seen c.flush_orphans.new.device).state between settled);
             room = done.counts.room (gap_settled (seen c.flush_orphans.new.device).state between settled);
@@ -83,7 +84,8 @@ returns-then-octet_of-ne-HT_TRANSIENT-clause-serves g c = λ client may.
             rest = done.stands.rest;
             answered = done.asks.answered;
           })
-          (own_at between.sessions.items client handle (owner_named client handle between.sessions.items still) still) settled)
+          (named_inside between.sessions.items handle (owner_named client handle between.sessions.items still))
+          (owned_stays client handle between.sessions.items still) settled)
           (prepares_table client c.args.table.now.items before.prepared may.own_table);
       right = rightly seen _ _ (inr done.asks.answered);
       stays = tt;
@@ -94,8 +96,16 @@ returns-then-octet_of-ne-HT_TRANSIENT-clause-serves g c = λ client may.
 
 pub returns-then-octet_of-ne-HT_TRANSIENT-clause-flushes : goal.returns-then-octet_of-ne-HT_TRANSIENT-clause-flushes
 returns-then-octet_of-ne-HT_TRANSIENT-clause-flushes g c =
-    let plain = not_transient c.octet_of.result c.args.handle c.octet_of.ensures c.if-octet_of-ne-HT_TRANSIENT.true in
+    let handle = c.args.handle in
+    let items = c.args.self.now.held.sessions.items in
+    let between = c.flush_orphans.new.held.sessions in
+    let before = c.flush_orphans.ensures.clears in
+    let plain = not_transient c.octet_of.result handle c.octet_of.ensures c.if-octet_of-ne-HT_TRANSIENT.true in
     let items_are = ap (λ (v : SessionsView). v.items) c.in_ok-drop_session.ensures.ok.view_is in
+    let left_is = ap (λ (v : SessionsView). v.left) c.in_ok-drop_session.ensures.ok.view_is in
+    let client = c.requires.there.0 in
+    let own = may_flush_session client handle c.args.table.now.items items c.requires.there.1.there plain in
+    let still = owner_again client handle items between.items own (before.sessions (number_of_session handle) (owned_stays client handle items own)) in
     record {
       sent_is = search rules;
       nobodys = λ sent. none_without_session c.flush_orphans.new.held c.drop_session.new.self (number_of_session c.args.handle) items_are
@@ -103,6 +113,7 @@ returns-then-octet_of-ne-HT_TRANSIENT-clause-flushes g c =
       table_is = search rules;
       owners = session_owners c.args.self.now.held.sessions.items c.flush_orphans.new.held.sessions.items c.drop_session.new.self.items c.args.handle
           c.flush_orphans.ensures.clears.prepared.session_owners items_are plain;
+      left = left_is ∙ owner_unleft client handle between.items between.left c.in_ok-drop_session.ensures.listed still ∙ before.prepared.left;
       loses = loses_then _ c.flush_orphans.new.held _ c.flush_orphans.ensures.clears.loses
           (loses_session c.flush_orphans.new.held c.drop_session.new.self (number_of_session c.args.handle) items_are);
     }
@@ -114,12 +125,18 @@ returns-then-octet_of-ne-HT_TRANSIENT-clause-left g c = λ client may.
     let held = c.args.self.now.held in
     let between = c.flush_orphans.new.held in
     let table = c.args.table.now.items in
-    let plain = not_transient c.octet_of.result c.args.handle c.octet_of.ensures c.if-octet_of-ne-HT_TRANSIENT.true in
+    let handle = c.args.handle in
+    let plain = not_transient c.octet_of.result handle c.octet_of.ensures c.if-octet_of-ne-HT_TRANSIENT.true in
+    let own = may_flush_session client handle table held.sessions.items may.there plain in
+    let still = owner_again client handle held.sessions.items between.sessions.items own
+    (c.flush_orphans.ensures.clears.sessions (number_of_session handle) (owned_stays client handle held.sessions.items own)) in
     leaves_after g.D.Device.seen (λ (s : ClientState). without_named s c.args.handle) c.args.self.now.device c.flush_orphans.new.device
     c.drop_session.new.device held between (record { objects = between.objects; sessions = c.drop_session.new.self }) table table
     before.keeps.tells (prepares_stays client table before may.own_table)
     (session_leaves g.D.Device.seen _ _ between c.drop_session.new.self
     table c.args.handle done.ok.sessions (ap (λ (v : SessionsView). v.numbers) done.ok.view_is) (ap (λ (v : SessionsView). v.items) done.ok.view_is)
+    (ap (λ (v : SessionsView). v.left) done.ok.view_is
+    ∙ owner_unleft client handle between.sessions.items between.sessions.left done.listed still)
     done.stands.rest plain)
 
 -- an object of the client's that is in no slot
@@ -132,6 +149,7 @@ returns-then-is_none-clause-serves g c = λ client may.
     record {
       moves = moves_after g.D.Device.seen client _ c.args.self.now.device _ _ held _ _
           (prepares_same g.D.Device.seen c.args.self.now.device held settled)
+          (drops_object _ client _ _ held c.drop_object.new.self
           (dropped _ client _ _ held c.drop_object.new.self c.unwrap-item.result
           (record {
             items_are = done.ok.0.items;
@@ -144,7 +162,7 @@ returns-then-is_none-clause-serves g c = λ client may.
             owners = done.dropped.owners;
             left = done.dropped.left;
           })
-          (held_named held.objects.items client c.args.table.now.items c.args.handle c.unwrap-item.result may.own_table here) settled)
+          (held_named held.objects.items client c.args.table.now.items c.args.handle c.unwrap-item.result may.own_table here) settled))
           (table_after held.objects.items c.drop_object.new.self.items client c.args.table.now.items c.remove.new.self.items c.args.handle
           c.unwrap-item.result may.own_table here done.ok.0.items c.remove.ensures.items);
       right = rightly g.D.Device.seen _ _ done.asks.answered;
@@ -184,6 +202,7 @@ returns-then-is_none-clause-flushes g c =
       nobodys = λ sent. absurd (false≢true (sym unsent.1 ∙ sent));
       table_is = search rules;
       owners = search rules;
+      left = refl;
       loses = loses_object held c.drop_object.new.self item done.ok.0.items;
     }
 
@@ -229,6 +248,7 @@ returns-clause-serves g c = λ client may.
     let is = prepares_table client c.args.table.now.items before may.own_table in
     record {
       moves = moves_after seen client _ c.flush_orphans-2.new.device _ _ between _ _ before
+          (drops_object _ client _ _ between c.drop_object-2.new.self
           (dropped _ client _ _ between c.drop_object-2.new.self c.unwrap-item.result
           (record {
             items_are = done.ok.0.items;
@@ -241,7 +261,7 @@ returns-clause-serves g c = λ client may.
             owners = done.dropped.owners;
             left = done.dropped.left;
           })
-          (held_named between.objects.items client c.args.table.now.items c.args.handle c.unwrap-item.result is here) before.settled)
+          (held_named between.objects.items client c.args.table.now.items c.args.handle c.unwrap-item.result is here) before.settled))
           (table_after between.objects.items c.drop_object-2.new.self.items client c.args.table.now.items c.remove-2.new.self.items c.args.handle
           c.unwrap-item.result is here done.ok.0.items c.remove-2.ensures.items);
       right = rightly seen _ _ (asks_then seen _ c.flush_orphans-2.new.device _ tt (Ok tt) c.in_ok-flush_orphans-2.ensures.asks done.asks).answered;
@@ -274,6 +294,7 @@ returns-clause-flushes g c =
       nobodys = λ sent. none_without_object c.flush_orphans-2.new.held c.drop_object-2.new.self done.dropped.left c.in_ok-flush_orphans-2.ensures.none;
       table_is = search rules;
       owners = search rules;
+      left = c.flush_orphans-2.ensures.clears.prepared.left;
       loses = loses_then _ c.flush_orphans-2.new.held _ c.flush_orphans-2.ensures.clears.loses
           (loses_object c.flush_orphans-2.new.held c.drop_object-2.new.self item done.ok.0.items);
     }

@@ -90,7 +90,7 @@ returns-in_err-flush-in-Ok-clause-at_hand g c = λ hand. omega (arith, c.in_err-
 pub returns-in_ok-flush-in-Ok-clause-at_hand : goal.returns-in_ok-flush-in-Ok-clause-at_hand
 returns-in_ok-flush-in-Ok-clause-at_hand g c = λ hand. omega (arith, c.in_ok-flush-in-Ok.ensures.costs, hand.nobodys)
 
--- ---- where nothing is nobody's
+-- ---- where there are no orphans
 
 pub returns-in_err-flush-in-Ok-clause-few : goal.returns-in_err-flush-in-Ok-clause-few
 returns-in_err-flush-in-Ok-clause-few g c = λ calm.

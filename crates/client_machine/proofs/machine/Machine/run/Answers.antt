@@ -1,16 +1,16 @@
-use Rattle.std.proofs.Common.{subst, ◌≡◌, ◌∙◌, ap, sym, refl, true, false, [], arith, is_some}
+use Rattle.std.proofs.Common.{rules, subst, ◌≡◌, ◌∙◌, ap, sym, refl, true, false, [], arith, is_some}
 use Rattle.std.specs.Prelude.{Err, ℕ, List, Option}
 use Rattle.std.proofs.lemmas.Result.{err_from_is_err_and}
 use Rattle.client_laws.specs.Ready.{tells_object, tells_session}
 use Rattle.object_swap.specs.Items.{owner_at}
 use Rattle.client_machine.specs.Moves.{MayStart, first_handle, moves_for}
 use Rattle.client_machine.proofs.Before.{fails_asking, fails_sending}
-use Rattle.client_machine.proofs.Ran.{may_adopt, may_end, may_start, outcome_else, outcome_then, prepared, prepared_frame, prepared_taken, serves_failed}
+use Rattle.client_machine.proofs.Ran.{ends_own, may_adopt, may_start, outcome_else, outcome_then, prepared, prepared_frame, prepared_taken, serves_failed}
 use Rattle.client_machine.proofs.Handing.{slice_bytes}
 use Rattle.client_machine.proofs.Orphans.{prepares_failed, prepares_then}
 use Rattle.client_machine.proofs.Costs.{sent_alone, sent_none}
 use Rattle.client_machine.proofs.Moving.{sent_more, sent_then}
-use Rattle.client_machine.proofs.Saving.{SavedOne, outcome_saved, saved_now}
+use Rattle.client_machine.proofs.Saving.{SavedOne, outcome_saved, saved_now, saved_owned}
 use Rattle.client_machine.proofs.Settling.{keeps_over_sessions, sessions_settled}
 use Rattle.device_port.proofs.Sending.{asks_some, asks_then, cause_then}
 use Rattle.session_swap.specs.Items.{SessionsView}
@@ -60,11 +60,11 @@ keep_sessions-requires-clause-started g c =
     subst (λ (reply : List ℕ). MayStart reply c.prepare.new.held.sessions) (sym c.as_slice-2.ensures.value)
     (may_start p c.in_ok-send.ensures.ok (ap (λ (reply : List ℕ). tells_session c.args.admitted.now reply) (sym c.as_slice-2.ensures.value) ∙ tells))
 
-pub keep_sessions-requires-clause-named : goal.keep_sessions-requires-clause-named
-keep_sessions-requires-clause-named g c =
+pub keep_sessions-requires-clause-own : goal.keep_sessions-requires-clause-own
+keep_sessions-requires-clause-own g c =
     let p = prepared c.args.client c.args.table.now.items c.args.admitted.now c.args.bytes.now c.prepare.ensures.prepared c.requires.table c.requires.admitted
     c.requires.sort c.requires.may c.type_inv.bytes c.in_ok-prepare.ensures.ready c.prepare.ensures.costs c.in_ok-prepare.ensures.stays c.in_ok-prepare.ensures.used c.as_slice.ensures.value in
-    λ ends. may_end c.as_slice-2.result.now p ends
+    λ ends. ends_own c.as_slice-2.result.now p ends
 
 pub adopt-requires-clause-may : goal.adopt-requires-clause-may
 adopt-requires-clause-may g c =
@@ -136,6 +136,17 @@ pub client_save-requires-clause-stand : goal.client_save-requires-clause-stand
 client_save-requires-clause-stand g c =
     ([], sessions_settled (g.D.Device.seen c.prepare.new.device).state c.prepare.new.held c.prepare.ensures.prepared.settled)
 
+pub client_save-requires-clause-may : goal.client_save-requires-clause-may
+client_save-requires-clause-may g c =
+    let p = prepared c.args.client c.args.table.now.items c.args.admitted.now c.args.bytes.now c.prepare.ensures.prepared c.requires.table c.requires.admitted
+    c.requires.sort c.requires.may c.type_inv.bytes c.in_ok-prepare.ensures.ready c.prepare.ensures.costs c.in_ok-prepare.ensures.stays c.in_ok-prepare.ensures.used refl in
+    record {
+      owned = saved_owned p (sym c.saves_one.ensures ∙ c.if-saves_one.true);
+      loaded = search rules;
+      gap = search rules;
+      counter = search rules;
+    }
+
 pub returns-then-saves_one-clause-serves : goal.returns-then-saves_one-clause-serves
 returns-then-saves_one-clause-serves g c =
     let D = g.D.Device in
@@ -187,7 +198,7 @@ pub returns-then-saves_one-clause-at_hand : goal.returns-then-saves_one-clause-a
 returns-then-saves_one-clause-at_hand g c = λ hand.
     sent_alone g.D.Device.seen _ c.prepare.new.device _ (c.prepare.ensures.still hand) c.in_ok-client_save.ensures.asks.once
 
--- ---- where nothing is nobody's, and no renewal is due
+-- ---- where there are no orphans, and no renewal is due
 
 pub returns-in_err-prepare-clause-few : goal.returns-in_err-prepare-clause-few
 returns-in_err-prepare-clause-few g c = λ calm.

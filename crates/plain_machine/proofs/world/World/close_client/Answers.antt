@@ -1,8 +1,9 @@
-use Rattle.std.proofs.Common.{◌≡◌, ◌∙◌, true, List, Option, length, ap, sym, subst, arith}
+use Rattle.std.proofs.Common.{◌≡◌, ◌-◌, ◌∙◌, ◌++◌, ℕ, true, List, Option, drop, length, map, take, ap, sym, subst, arith}
 use Rattle.std.specs.List.{remove}
 use Rattle.std.specs.Vec.{with_items}
 use Rattle.std.proofs.lemmas.List.{with_items_is}
-use Rattle.world_spec.specs.World.{Client, Owned, World, closed_world, without_client, without_owner}
+use Rattle.tab_spec.specs.Numbers.{left_most}
+use Rattle.world_spec.specs.World.{Client, Owned, World, closed_world, left_place, saved_numbers, without_client, without_places}
 use Rattle.plain_machine.specs.Clients.{is_open_in, place_in}
 use Rattle.plain_machine.specs.Owners.{owners_of}
 use Rattle.plain_machine.proofs.OpenClients.{open_within, without_at}
@@ -20,24 +21,32 @@ remove-requires c =
 pub returns : goal.returns
 returns c =
     let inside = c.self.inside in
+    let client = c.args.client in
     let clients = inside.clients.items in
-    let sessions = inside.shared.sessions in
-    let place : c.place_of-place.result ≡ place_in clients c.args.client =
-    c.place_of-place.ensures ∙ ap (λ cs. place_in cs c.args.client) c.deref.ensures.value in
-    let left : c.remove.new.self.items ≡ without_client c.args.client clients =
-    c.remove.ensures.items ∙ ap (remove clients) place ∙ sym (without_at clients c.args.client) in
-    let whole : length c.drop_sessions.new.places ≡ sessions.len = omega arith in
-    let kept : owners_of (with_items sessions c.drop_sessions.new.places).items ≡ without_owner c.args.client (owners_of sessions.items) =
-    ap owners_of (with_items_is sessions c.drop_sessions.new.places whole) ∙ c.drop_sessions.ensures
-    ∙ ap (λ places. without_owner c.args.client (owners_of places)) c.deref_mut.ensures.value in
-    let after : List Client → List (Option Owned) → World =
-    λ clients sessions. record {
-      persist = inside.shared.persist;
-      most = inside.shared.most;
+    let shared = inside.shared in
+    let before = owners_of shared.sessions.items in
+    let all : List (Option Owned) → List ℕ = λ sessions. shared.left ++ saved_numbers client 0 sessions in
+    let gone : List (Option Owned) → ℕ = λ sessions. length (all sessions) - left_most shared.most in
+    let place : c.place_of-place.result ≡ place_in clients client =
+    c.place_of-place.ensures ∙ ap (λ cs. place_in cs client) c.deref.ensures.value in
+    let others : c.remove.new.self.items ≡ without_client client clients =
+    c.remove.ensures.items ∙ ap (remove clients) place ∙ sym (without_at clients client) in
+    let whole : length c.close.new.places ≡ shared.sessions.len = omega arith in
+    let kept : owners_of (with_items shared.sessions c.close.new.places).items ≡ without_places (take (gone before) (all before)) (map (left_place client) before) =
+    ap owners_of (with_items_is shared.sessions c.close.new.places whole) ∙ c.close.ensures.places
+    ∙ ap (λ places. without_places (take (gone (owners_of places)) (all (owners_of places))) (map (left_place client) (owners_of places)))
+    c.deref_mut.ensures.value in
+    let left : c.close.new.self ≡ drop (gone before) (all before) =
+    c.close.ensures.left ∙ ap (λ places. drop (gone (owners_of places)) (all (owners_of places))) c.deref_mut.ensures.value in
+    let after : List Client → List (Option Owned) → List ℕ → World =
+    λ clients sessions left. record {
+      persist = shared.persist;
+      most = shared.most;
       opened = inside.opened;
       clients = clients;
       sessions = sessions;
-      object_sequence = inside.shared.object_sequence;
-      session_sequence = inside.shared.session_sequence;
+      left = left;
+      object_sequence = shared.object_sequence;
+      session_sequence = shared.session_sequence;
     } in
-    (λ i. after (left i) (kept i)) ∙ ap (λ (w : World). closed_world w c.args.client) c.self.view_is
+    (λ i. after (others i) (kept i) (left i)) ∙ ap (λ (w : World). closed_world w client) c.self.view_is

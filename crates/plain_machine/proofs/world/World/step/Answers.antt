@@ -36,6 +36,7 @@ returns-clause-ok c =
       opened = inside.opened;
       clients = clients;
       sessions = owners_of inside.shared.sessions.items;
+      left = inside.shared.left;
       object_sequence = inside.shared.object_sequence;
       session_sequence = inside.shared.session_sequence;
     } in
@@ -64,6 +65,7 @@ returns-clause-refused c =
       opened = inside.opened;
       clients = clients;
       sessions = owners_of inside.shared.sessions.items;
+      left = inside.shared.left;
       object_sequence = inside.shared.object_sequence;
       session_sequence = inside.shared.session_sequence;
     } in

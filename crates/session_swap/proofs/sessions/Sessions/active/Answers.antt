@@ -9,7 +9,7 @@ returns-clause-most c =
     let items = items_of c.self.inside.records.items in
     omega (
       arith,
-      c.self.invariant.owned_is,
+      c.self.invariant.held_is,
       c.self.invariant.few,
       owners_split items,
       some_split items,

@@ -4,10 +4,10 @@ use Rattle.std.specs.List.{count_by}
 use Rattle.std.proofs.lemmas.List.{length-map, map-set}
 use Rattle.session_swap.specs.declared.record.Place.TheVariants as places
 use Rattle.session_swap.specs.declared.record.Record.{Record}
-use Rattle.session_swap.specs.Items.{Item, SessionsView, flag, has_owner, is_loaded_item, is_saved_item, item_at, loaded_items, new_item}
+use Rattle.session_swap.specs.Items.{Item, ListsThose, SessionsView, flag, is_held, is_left, is_loaded_item, is_saved_item, item_at, loaded_items, new_item}
 use Rattle.session_swap.specs.Records.{IsHandleOf, IsRecord, OrderView, item_of_record, items_of}
 use Rattle.session_swap.proofs.Counts.{count_set}
-use Rattle.session_swap.proofs.Listing.{listed_in, not_listed}
+use Rattle.session_swap.proofs.Listing.{listed_in, lists_same, not_listed}
 use Rattle.session_swap.proofs.Making.{records_set}
 use Rattle.session_swap.proofs.Uses.{without_absent}
 use Rattle.session_swap.proofs.sessions.Sessions.adopt_session.Goals as goal
@@ -43,12 +43,14 @@ invariant_of-self c =
           (record { room = was.room; handed_room = was.handed_room; context = tt }) handle;
       listed = listed_in records (set records number n) c.self.inside.order c.start.new.self number (item_of_record n) listed few inside same refl
           c.start.ensures;
-      owned_is = omega (
+      left_are = subst (λ (l : List (Option Item)). ListsThose is_left c.self.inside.left l) (sym same)
+          (lists_same is_left refl items c.self.inside.left number (item_of_record n) c.self.invariant.left_are (ap is_left (sym none)));
+      held_is = omega (
         arith,
-        c.self.invariant.owned_is,
-        ap (λ l. count_by has_owner l) same,
-        count_set has_owner items number (item_of_record n) None (omega (arith, inside, length-map records item_of_record)),
-        ap (λ o. flag (has_owner o)) none,
+        c.self.invariant.held_is,
+        ap (λ l. count_by is_held l) same,
+        count_set is_held items number (item_of_record n) None (omega (arith, inside, length-map records item_of_record)),
+        ap (λ o. flag (is_held o)) none,
       );
       few = omega (
         arith,
@@ -98,4 +100,5 @@ returns c =
     let saved_is = ap (λ (o : OrderView). o.saved) c.start.ensures ∙ without_absent number order.saved saved
     ∙ ap (λ (v : SessionsView). v.saved) c.self.view_is in
     let numbers = ap (λ (v : SessionsView). v.numbers) c.self.view_is in
-    λ i. record { numbers = numbers i; items = same i; next = next i; order = order_is i; saved = saved_is i }
+    let left = ap (λ (v : SessionsView). v.left) c.self.view_is in
+    λ i. record { numbers = numbers i; items = same i; next = next i; order = order_is i; saved = saved_is i; left = left i }

@@ -3,7 +3,7 @@ use Rattle.std.specs.Prelude.{IfSome, None, is_some}
 use Rattle.tab_spec.specs.Shape.{number_of_session}
 use Rattle.device_spec.specs.Slots.{SlotState}
 use Rattle.device_port.specs.Use.{without_one}
-use Rattle.session_swap.specs.Items.{HasGapRoom, Item, SessionsView, Stand, counter_of, gap_in, item_at, rest_of, sessions_of}
+use Rattle.session_swap.specs.Items.{HasGapRoom, Item, ListsThose, SessionsView, Stand, counter_of, gap_in, is_left, item_at, rest_of, sessions_of}
 use Rattle.tab_spec.specs.Admission.{is_session_handle}
 use Rattle.session_swap.specs.Records.{IsHandleOf}
 use Rattle.session_swap.proofs.Among.{named_some}
@@ -32,9 +32,10 @@ forgotten view n = record {
   next = view.next;
   order = without_one n view.order;
   saved = without_one n view.saved;
+  left = without_one n view.left;
 }
 
--- the order aside
+-- the lists aside
 abbrev view_ended : SessionsView → ℕ → SessionsView
 view_ended view handle = record {
   numbers = view.numbers;
@@ -42,6 +43,7 @@ view_ended view handle = record {
   next = view.next;
   order = [];
   saved = [];
+  left = [];
 }
 
 pub returns-clause-ok : goal.returns-clause-ok
@@ -89,3 +91,9 @@ returns-clause-counts g c =
       room = λ room. subst (λ (s : Option SlotState). HasGapRoom s) (sym c.in_ok-flush.ensures.state)
           (ended_room _ c.args.self.now c.requires.stand.0 c.args.handle has.item c.requires.stand.1 has.was room);
     }
+
+pub returns-in_err-flush-clause-listed : goal.returns-in_err-flush-clause-listed
+returns-in_err-flush-clause-listed g c = subst (λ (v : SessionsView). ListsThose is_left v.left v.items) c.self.view_is c.self.invariant.left_are
+
+pub returns-clause-listed : goal.returns-clause-listed
+returns-clause-listed g c = subst (λ (v : SessionsView). ListsThose is_left v.left v.items) c.self.view_is c.self.invariant.left_are

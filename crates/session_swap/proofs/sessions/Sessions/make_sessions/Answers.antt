@@ -4,7 +4,8 @@ use Rattle.std.proofs.lemmas.List.{take_at}
 use Rattle.std.proofs.lemmas.Result.{on_ok_weaker}
 use Rattle.session_swap.specs.declared.record.Record.{Record}
 use Rattle.session_swap.specs.Items.{AreNeeded, HavePlaces, Item, MakesRoom, SessionsView, is_loaded_item, item_of}
-use Rattle.session_swap.specs.Records.{items_of, view_with}
+use Rattle.session_swap.specs.Records.{items_of, whole_view}
+use Rattle.session_swap.proofs.Bringing.{room_whole}
 use Rattle.session_swap.proofs.Making.{gap_below, kept_lent, lent_in, moved_lent}
 use Rattle.session_swap.proofs.sessions.Sessions.make_sessions.Goals as goal
 
@@ -17,7 +18,7 @@ invariant_of-self g c =
     let whole : take c.self.inside.records.len (new ++ drop (length new) records) ≡ new =
     take_at new (drop (length new) records) c.self.inside.records.len (omega arith) in
     kept_lent c.self.inside.numbers records c.deref_mut.result.now new (take c.self.inside.records.len (new ++ drop (length new) records)) c.self.inside.order
-    c.swap_sessions.new.order c.self.inside.owned c.self.invariant c.deref_mut.ensures.value whole left.ready.ready.sound left.ready.listed
+    c.swap_sessions.new.order c.self.inside.left c.self.inside.held c.self.invariant c.deref_mut.ensures.value whole left.ready.ready.sound left.ready.listed
     left.swaps.swaps.sessions.holders
 
 pub swap_sessions-requires-clause-needed : goal.swap_sessions-requires-clause-needed
@@ -27,8 +28,8 @@ swap_sessions-requires-clause-needed g c =
 
 pub swap_sessions-requires-clause-ready : goal.swap_sessions-requires-clause-ready
 swap_sessions-requires-clause-ready g c =
-    lent_in c.self.inside.numbers (g.D.Device.seen c.args.device.now).state c.self.inside.records.items c.deref_mut.result.now c.self.inside.next c.self.inside.owned
-    c.self.inside.order c.args.self.now c.deref_mut.ensures.value c.self.invariant c.self.view_is c.requires.stand
+    lent_in c.self.inside.numbers (g.D.Device.seen c.args.device.now).state c.self.inside.records.items c.deref_mut.result.now c.self.inside.next c.self.inside.held
+    c.self.inside.order c.self.inside.left c.args.self.now c.deref_mut.ensures.value c.self.invariant c.self.view_is c.requires.stand
 
 pub returns-clause-ok : goal.returns-clause-ok
 returns-clause-ok g c =
@@ -41,8 +42,8 @@ returns-clause-ok g c =
     on_ok_weaker c.swap_sessions.result
     (λ ok.
     subst (λ (l : List Record). HavePlaces c.args.needed.now c.args.new_places (g.D.Device.seen c.swap_sessions.new.device).state
-    (view_with c.self.inside.numbers l c.swap_sessions.new.next c.swap_sessions.new.order))
-    (sym whole) ok) left.ok
+    (whole_view c.self.inside.numbers l c.swap_sessions.new.next c.swap_sessions.new.order c.self.inside.left))
+    (sym whole) (record { loaded = ok.loaded; few = ok.few; free = ok.free })) left.ok
 
 pub returns-clause-stay : goal.returns-clause-stay
 returns-clause-stay g c handle any is =
@@ -73,9 +74,14 @@ returns-clause-room g c =
     let count : length new ≡ length records = left.ready.ready.sound.count ∙ sym c.self.invariant.sound.count in
     let whole : take c.self.inside.records.len (new ++ drop (length new) records) ≡ new =
     take_at new (drop (length new) records) c.self.inside.records.len (omega arith) in
-    let same = ap (λ (l : List Record). view_with c.self.inside.numbers l c.self.inside.next c.self.inside.order) c.deref_mut.ensures.value ∙ c.self.view_is in
-    subst (λ (l : List Record). MakesRoom seen old device c.args.needed.now c.args.new_places c.args.self.now (view_with c.self.inside.numbers l next new_order) result) (sym whole)
-    (subst (λ (v : SessionsView). MakesRoom seen old device c.args.needed.now c.args.new_places v (view_with c.self.inside.numbers new next new_order) result) same left.room)
+    let gone = c.self.inside.left in
+    let numbers = c.self.inside.numbers in
+    let lent = whole_view numbers c.deref_mut.result.now c.self.inside.next c.self.inside.order gone in
+    let same = ap (λ (l : List Record). whole_view numbers l c.self.inside.next c.self.inside.order gone) c.deref_mut.ensures.value ∙ c.self.view_is in
+    subst (λ (l : List Record). MakesRoom seen old device c.args.needed.now c.args.new_places c.args.self.now (whole_view numbers l next new_order gone) result)
+    (sym whole)
+    (subst (λ (v : SessionsView). MakesRoom seen old device c.args.needed.now c.args.new_places v (whole_view numbers new next new_order gone) result) same
+    (room_whole seen old device c.args.needed.now c.args.new_places lent (whole_view numbers new next new_order gone) result left.room))
 
 pub returns-clause-moved : goal.returns-clause-moved
 returns-clause-moved g c =
@@ -89,7 +95,7 @@ returns-clause-moved g c =
     let whole : take c.self.inside.records.len (new ++ drop (length new) records) ≡ new =
     take_at new (drop (length new) records) c.self.inside.records.len (omega arith) in (
       moved_lent c.self.inside.numbers seen old device records c.deref_mut.result.now new _ c.self.inside.next c.swap_sessions.new.next c.self.inside.order
-          c.swap_sessions.new.order c.args.self.now c.deref_mut.ensures.value c.self.view_is whole left.swaps.swaps left.ready,
+          c.swap_sessions.new.order c.self.inside.left c.args.self.now c.deref_mut.ensures.value c.self.view_is whole left.swaps.swaps left.ready,
       gap_below (seen old).state (seen device).state c.args.self.now c.requires.stand c.requires.may.0 left.swaps.swaps.rest left.swaps.swaps.gap left.swaps.counter,
       left.swaps.counter,
     )

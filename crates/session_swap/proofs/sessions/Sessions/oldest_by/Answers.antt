@@ -19,9 +19,9 @@ returns-clause-least g c rise =
     let inside = c.self.inside in
     let view = c.args.self.now in
     let sound = subst (λ (v : SessionsView). IsSoundView v) c.self.view_is
-    (sound_view inside.numbers inside.records.items inside.next inside.owned inside.order c.self.invariant) in
+    (sound_view inside.numbers inside.records.items inside.next inside.held inside.order inside.left c.self.invariant) in
     let first = subst (λ (v : SessionsView). IsFirst v c.index.result.now.handle) c.self.view_is
-    (first_named inside.numbers inside.records.items inside.next inside.owned inside.order c.in_ok-number.number c.index.result.now c.self.invariant
+    (first_named inside.numbers inside.records.items inside.next inside.held inside.order inside.left c.in_ok-number.number c.index.result.now c.self.invariant
     (sym c.first_saved.ensures.first ∙ c.in_ok-number.was) c.index.ensures) in
     first_oldest view c.index.result.now.handle sound.saved rise first
 
@@ -29,5 +29,5 @@ pub returns-clause-oldest : goal.returns-clause-oldest
 returns-clause-oldest g c =
     let inside = c.self.inside in
     subst (λ (v : SessionsView). IsFirst v c.index.result.now.handle) c.self.view_is
-    (first_named inside.numbers inside.records.items inside.next inside.owned inside.order c.in_ok-number.number c.index.result.now c.self.invariant
+    (first_named inside.numbers inside.records.items inside.next inside.held inside.order inside.left c.in_ok-number.number c.index.result.now c.self.invariant
     (sym c.first_saved.ensures.first ∙ c.in_ok-number.was) c.index.ensures)

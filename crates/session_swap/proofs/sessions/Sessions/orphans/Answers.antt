@@ -14,7 +14,7 @@ overflow_sub-result c =
       c.saved.ensures,
       listed.lists.count,
       listed.saved.count,
-      c.self.invariant.owned_is,
+      c.self.invariant.held_is,
       owners_split (items_of c.self.inside.records.items),
     )
 
@@ -27,7 +27,7 @@ returns c =
       c.saved.ensures,
       listed.lists.count,
       listed.saved.count,
-      c.self.invariant.owned_is,
+      c.self.invariant.held_is,
       owners_split (items_of c.self.inside.records.items),
       ap (λ (v : SessionsView). count_by is_orphan v.items) c.self.view_is,
     )

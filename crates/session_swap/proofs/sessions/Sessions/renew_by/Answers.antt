@@ -23,13 +23,13 @@ invariant_of-self g c =
     let whole : take c.self.inside.records.len (new ++ drop (length new) records) ≡ new =
     take_at new (drop (length new) records) c.self.inside.records.len (omega arith) in
     kept_lent c.self.inside.numbers records c.deref_mut.result.now new (take c.self.inside.records.len (new ++ drop (length new) records)) c.self.inside.order
-    c.renew_session.new.order c.self.inside.owned c.self.invariant c.deref_mut.ensures.value whole left.ready.ready.sound left.ready.listed
+    c.renew_session.new.order c.self.inside.left c.self.inside.held c.self.invariant c.deref_mut.ensures.value whole left.ready.ready.sound left.ready.listed
     left.swaps.sessions.holders
 
 pub renew_session-requires-clause-ready : goal.renew_session-requires-clause-ready
 renew_session-requires-clause-ready g c =
-    lent_in c.self.inside.numbers (g.D.Device.seen c.args.device.now).state c.self.inside.records.items c.deref_mut.result.now c.self.inside.next c.self.inside.owned
-    c.self.inside.order c.args.self.now c.deref_mut.ensures.value c.self.invariant c.self.view_is c.requires.stand
+    lent_in c.self.inside.numbers (g.D.Device.seen c.args.device.now).state c.self.inside.records.items c.deref_mut.result.now c.self.inside.next c.self.inside.held
+    c.self.inside.order c.self.inside.left c.args.self.now c.deref_mut.ensures.value c.self.invariant c.self.view_is c.requires.stand
 
 pub renew_session-requires-clause-oldest : goal.renew_session-requires-clause-oldest
 renew_session-requires-clause-oldest g c =
@@ -38,7 +38,7 @@ renew_session-requires-clause-oldest g c =
     let n = number_of_session c.args.handle in
     let before = ap (λ (l : List Record). items_of l) c.deref_mut.ensures.value ∙ ap (λ (v : SessionsView). v.items) c.self.view_is in
     let sound = subst (λ (v : SessionsView). IsSoundView v) c.self.view_is
-    (sound_view c.self.inside.numbers c.self.inside.records.items c.self.inside.next c.self.inside.owned c.self.inside.order c.self.invariant) in
+    (sound_view c.self.inside.numbers c.self.inside.records.items c.self.inside.next c.self.inside.held c.self.inside.order c.self.inside.left c.self.invariant) in
     let is : IsOldestAt state view.items n = oldest_at state view c.args.handle sound c.requires.stand c.requires.oldest in
     subst (λ (l : List (Option Item)). IsOldestAt state l c.number_of.result) (sym before)
     (subst (λ (n : ℕ). IsOldestAt state view.items n) (sym c.number_of.ensures) is)
@@ -75,7 +75,7 @@ returns-clause-ok g c =
             saved = its.saved;
             exact = its.exact;
           })),
-      saved_again c.self.inside.numbers c.self.inside.order c.renew_session.new.order (items_of records)
+      saved_again c.self.inside.numbers c.self.inside.order c.renew_session.new.order c.self.inside.left (items_of records)
           (items_of (take c.self.inside.records.len (new ++ drop (length new) records)))
           c.args.self.now _ c.renew_session.new.next c.self.inside.next c.number_of.result c.args.handle count_is c.self.view_is
           c.number_of.ensures at.1,
@@ -105,7 +105,7 @@ returns-clause-moved g c =
     let whole : take c.self.inside.records.len (new ++ drop (length new) records) ≡ new =
     take_at new (drop (length new) records) c.self.inside.records.len (omega arith) in
     moved_lent c.self.inside.numbers g.D.Device.seen c.args.device.now c.renew_session.new.device records c.deref_mut.result.now new _ c.self.inside.next
-    c.renew_session.new.next c.self.inside.order c.renew_session.new.order c.args.self.now c.deref_mut.ensures.value c.self.view_is whole
+    c.renew_session.new.next c.self.inside.order c.renew_session.new.order c.self.inside.left c.args.self.now c.deref_mut.ensures.value c.self.view_is whole
     left.swaps left.ready
 
 pub returns-clause-counts : goal.returns-clause-counts
