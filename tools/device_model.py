@@ -62,7 +62,7 @@ FIRST_TRANSIENT = 0x80000000
 LAST_PLACE = 1 << 62
 
 
-def left_most(active):
+def leave_limit(active):
     """How many sessions may be left by their clients at once, over a device that may have so many active."""
     return min(MOST_LEFT, active // 4)
 
@@ -1059,7 +1059,7 @@ class World(Machine):
             held = self.sessions.pop(number)
             if held.handed is not None:
                 self.left.append(Left(number, held.session, held.handed))
-        del self.left[:max(0, len(self.left) - left_most(self.most))]
+        del self.left[:max(0, len(self.left) - leave_limit(self.most))]
 
     def _active(self):
         """The numbers of all sessions, those of clients and those that are left."""

@@ -9,6 +9,7 @@ use Rattle.tab_spec.specs.declared.numbers.Numbers.{Numbers}
 use Rattle.tab_spec.specs.Numbers.{AreInRange}
 use Rattle.tab_spec.specs.Object.{Object}
 use Rattle.tab_spec.specs.Persist.{Persist}
+use Rattle.tab_spec.specs.declared.contexts.ContextLimits.{ContextLimits}
 use Rattle.device_spec.specs.Answers.{IsRight}
 use Rattle.device_spec.specs.Slots.{SessionPlace, SlotState, IsSlots, HoldsNothing, active_count, gap_from, inactive, is_active, loaded, loaded_count, oldest_saved, saved}
 use Rattle.object_swap.specs.Items.{IsOwned}
@@ -80,14 +81,14 @@ none_left : (count : ℕ) → count_by sessions.is_orphan (replicate count None)
 none_left zero = refl
 none_left (suc count) = omega (arith, count_cons sessions.is_orphan None (replicate count None), none_left count)
 
--- nothing is held, for a device of these numbers
-abbrev pub held_nothing : Numbers → ℕ → Held
-held_nothing numbers next = record {
-  objects = record { items = []; slots = numbers.slots; order = []; owners = []; left = [] };
-  sessions = record { numbers = numbers; items = no_items; next = next; order = []; saved = []; left = [] };
+-- nothing is held, for a device with these contexts and of these numbers
+abbrev pub held_nothing : ContextLimits → Numbers → ℕ → Held
+held_nothing contexts numbers next = record {
+  objects = record { items = []; slots = numbers.slots; order = []; owners = []; left = []; contexts = contexts };
+  sessions = record { numbers = numbers; items = no_items; next = next; order = []; saved = []; left = []; contexts = contexts };
 }
 
-pub settled_empty : (slots : SlotState) (numbers : Numbers) (next : ℕ) → slots.started ≡ true → IsSlots slots → slots.numbers ≡ numbers → HoldsNothing slots → IsSettled slots (held_nothing numbers next)
+pub settled_empty : {contexts : ContextLimits} (slots : SlotState) (numbers : Numbers) (next : ℕ) → slots.started ≡ true → IsSlots slots → slots.numbers ≡ numbers → HoldsNothing slots → IsSettled slots (held_nothing contexts numbers next)
 settled_empty slots numbers next started sound are empty =
     let none : active_count slots.sessions ≡ 0 = omega (arith, empty) in
     record {
@@ -111,8 +112,8 @@ settled_empty slots numbers next started sound are empty =
 
 -- ---- the start
 
-stands_begun : (base : Option Persist) (old new : Option SlotState) (numbers : Numbers) (next : ℕ) → is_some old ≡ is_some new → IsAtBase base old → ClearedIf old new
-    → IfSome old (λ slots. slots.numbers ≡ numbers) → StandsFor base new [] [] (held_nothing numbers next)
+stands_begun : {contexts : ContextLimits} (base : Option Persist) (old new : Option SlotState) (numbers : Numbers) (next : ℕ) → is_some old ≡ is_some new → IsAtBase base old → ClearedIf old new
+    → IfSome old (λ slots. slots.numbers ≡ numbers) → StandsFor base new [] [] (held_nothing contexts numbers next)
 stands_begun base None new numbers next same at_base clears own b slots is_base is_state = absurd (let some : is_some new ≡ true = ap is_some is_state in cc)
 stands_begun base (Some s) new numbers next same at_base clears own b slots is_base is_state =
     let (after, after_is, begun) = clears s refl in
@@ -134,18 +135,18 @@ stands_begun base (Some s) new numbers next same at_base clears own b slots is_b
       };
     }
 
-nothing_held : (held : Held) (numbers : Numbers) (next : ℕ) → held.objects ≡ record { items = []; slots = numbers.slots; order = []; owners = []; left = [] }
-    → held.sessions ≡ record { numbers = numbers; items = no_items; next = next; order = []; saved = []; left = [] } → held_nothing numbers next ≡ held
+nothing_held : {contexts : ContextLimits} (held : Held) (numbers : Numbers) (next : ℕ) → held.objects ≡ record { items = []; slots = numbers.slots; order = []; owners = []; left = []; contexts = contexts }
+    → held.sessions ≡ record { numbers = numbers; items = no_items; next = next; order = []; saved = []; left = []; contexts = contexts } → held_nothing contexts numbers next ≡ held
 nothing_held held numbers next objects sessions = λ i. record { objects = sym objects i; sessions = sym sessions i }
 
 not_own : {client : ℕ} → ◌≡◌ {A = Option ℕ} None (Some client) → ⊥
 not_own own = absurd cc
 
-holds_nothing : (began : ℕ) (base : Option Persist) (old : Option SlotState) (new : Seen) (limit : ℕ) (numbers : Numbers) (next : ℕ)
-    → is_some old ≡ is_some new.state → IsAtBase base old → ClearedIf old new.state → new.base ≡ base → began ≤ new.faults → IsRight (asked_of new) (last_of new)
-    → limit ≤ SILENT_LIMIT → AreInRange numbers → IfSome old (λ slots. slots.numbers ≡ numbers) → Holds began new [] limit [] [] (held_nothing numbers next) 0 None
-holds_nothing began base old new limit numbers next same at_base clears base_same risen right most range own = record {
-  stands = subst (λ (b : Option Persist). StandsFor b new.state [] [] (held_nothing numbers next)) (sym base_same) (stands_begun base old new.state numbers next same at_base clears own);
+holds_nothing : {contexts : ContextLimits} (began : ℕ) (base : Option Persist) (old : Option SlotState) (new : Seen) (limit : ℕ) (numbers : Numbers) (next : ℕ)
+    → is_some old ≡ is_some new.state → IsAtBase base old → ClearedIf old new.state → new.base ≡ base → began ≤ new.faults → IsRight contexts (asked_of new) (last_of new)
+    → limit ≤ SILENT_LIMIT → AreInRange numbers → IfSome old (λ slots. slots.numbers ≡ numbers) → Holds contexts began new [] limit [] [] (held_nothing contexts numbers next) 0 None
+holds_nothing {contexts = contexts} began base old new limit numbers next same at_base clears base_same risen right most range own = record {
+  stands = subst (λ (b : Option Persist). StandsFor b new.state [] [] (held_nothing contexts numbers next)) (sym base_same) (stands_begun base old new.state numbers next same at_base clears own);
   journal = record {
     counts = tt;
     whole = tt;
@@ -169,22 +170,23 @@ holds_nothing began base old new limit numbers next same at_base clears base_sam
   };
   answers = record { answer = tt; right = λ none. right; taken = λ told. refl };
   faulted = inl (omega (arith, risen));
+  made_for = record { objects = refl; sessions = refl };
   slots_are = refl;
   range = range;
   few = omega arith;
   placed = omega arith;
 }
 
-pub holds_begun : (began : ℕ) (base : Option Persist) (old : Option SlotState) (new : Seen) (limit : ℕ) (held : Held) (numbers : Numbers)
-    → is_some old ≡ is_some new.state → IsAtBase base old → ClearedIf old new.state → new.base ≡ base → began ≤ new.faults → IsRight (asked_of new) (last_of new)
-    → limit ≤ SILENT_LIMIT → AreInRange numbers → IfSome old (λ slots. slots.numbers ≡ numbers) → held.objects ≡ record { items = []; slots = numbers.slots; order = []; owners = []; left = [] }
-    → held.sessions ≡ record { numbers = numbers; items = no_items; next = 0; order = []; saved = []; left = [] } → Holds began new [] limit [] [] held 0 None
-holds_begun began base old new limit held numbers same at_base clears base_same risen right most range own objects sessions =
-    subst (λ (h : Held). Holds began new [] limit [] [] h 0 None) (nothing_held held numbers 0 objects sessions)
+pub holds_begun : {contexts : ContextLimits} (began : ℕ) (base : Option Persist) (old : Option SlotState) (new : Seen) (limit : ℕ) (held : Held) (numbers : Numbers)
+    → is_some old ≡ is_some new.state → IsAtBase base old → ClearedIf old new.state → new.base ≡ base → began ≤ new.faults → IsRight contexts (asked_of new) (last_of new)
+    → limit ≤ SILENT_LIMIT → AreInRange numbers → IfSome old (λ slots. slots.numbers ≡ numbers) → held.objects ≡ record { items = []; slots = numbers.slots; order = []; owners = []; left = []; contexts = contexts }
+    → held.sessions ≡ record { numbers = numbers; items = no_items; next = 0; order = []; saved = []; left = []; contexts = contexts } → Holds contexts began new [] limit [] [] held 0 None
+holds_begun {contexts = contexts} began base old new limit held numbers same at_base clears base_same risen right most range own objects sessions =
+    subst (λ (h : Held). Holds contexts began new [] limit [] [] h 0 None) (nothing_held held numbers 0 objects sessions)
     (holds_nothing began base old new limit numbers 0 same at_base clears base_same risen right most range own)
 
 -- what a start leaves, whatever came of it
-pub attempted : {D : Type 0} (seen : D → Seen) (old new : D) → is_some (seen old).state ≡ is_some (seen old).base → is_some (seen new).state ≡ is_some (seen new).base → Attempts seen old new
+pub attempted : {contexts : ContextLimits} {D : Type 0} (seen : D → Seen) (old new : D) → is_some (seen old).state ≡ is_some (seen old).base → is_some (seen new).state ≡ is_some (seen new).base → Attempts contexts seen old new
     → Keeps seen old new × HoldsNoMoreIf (seen old).state (seen new).state
 attempted seen old new told told_new attempts =
     (record { base_is = attempts.base; tells = told_new ∙ ap is_some attempts.base ∙ sym told; count = attempts.count }, attempts.few)

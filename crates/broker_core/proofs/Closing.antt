@@ -3,7 +3,8 @@ use Rattle.std.proofs.Common.{◌≡◌, ◌<◌, ◌≤◌, ◌+◌, ◌-◌, �
 use Rattle.std.specs.Prelude.{is_some, set}
 use Rattle.std.specs.List.{list_any}
 use Rattle.std.proofs.lemmas.List.{length-set}
-use Rattle.tab_spec.specs.Numbers.{AreInRange, left_most}
+use Rattle.tab_spec.specs.Numbers.{AreInRange, leave_limit}
+use Rattle.tab_spec.specs.declared.contexts.ContextLimits.{ContextLimits}
 use Rattle.device_spec.specs.Answers.{IsWrongAnswer}
 use Rattle.device_spec.specs.Slots.{SlotState}
 use Rattle.device_port.specs.Device.{Seen, asked_of, last_of}
@@ -15,13 +16,13 @@ use Rattle.world_laws.proofs.Histories.{clients_of-push, world_of-push}
 use Rattle.client_machine.specs.declared.held.Held.{Held}
 use Rattle.broker_core.specs.Broker.{BrokerView, HeldHolds, Holds, JournalHolds, StandsFor, times_open}
 use Rattle.client_machine.specs.Dropping.{Drops}
-use Rattle.client_machine.specs.Moves.{CountsOn, CountsOnBy, MayMove}
+use Rattle.client_machine.specs.Moves.{CountsOn, CountsOnBy, MayMove, StaysFor}
 use Rattle.client_machine.specs.Settled.{orphan_count}
 use Rattle.client_machine.specs.Tables.{AreOpenOwners}
 use Rattle.broker_core.specs.Tables.{TablesStand, list_of}
 use Rattle.object_swap.specs.Items.{HasNone}
 use Rattle.broker_core.proofs.Journaling.{counted-left, counted-push, journal-close, journal-later}
-use Rattle.broker_core.proofs.Holding.{Entries, after-push, counters_in, few_left, fewer-counted, longer, moves_now, no_answer, no_state, none_is, not_told, others_in, slots_still, still_right, told_before}
+use Rattle.broker_core.proofs.Holding.{Entries, after-push, counters_in, few_left, fewer-counted, longer, moves_now, no_answer, no_state, none_is, not_told, others_in, slots_still, still_right, told_before, made_since}
 use Rattle.client_machine.proofs.Settling.{settled_at}
 use Rattle.broker_core.proofs.Tabling.{open_inside, owners-close, tables-close}
 use Rattle.broker_core.proofs.Listing.{lists-close, lists_same}
@@ -36,10 +37,10 @@ counts_on old new counts = record {
   sessions_on = omega (arith, counts.sessions_on);
 }
 
-stands_closed : {D : Type 0} (seen : D → Seen) {device new : D} (history : Entries) (tables : List (List (Option ℕ))) {held new_held : Held}
+stands_closed : {contexts : ContextLimits} {D : Type 0} (seen : D → Seen) {device new : D} (history : Entries) (tables : List (List (Option ℕ))) {held new_held : Held}
     {owners : List (Option ℕ)} (client failed : ℕ) → StandsFor (seen device).base (seen device).state history tables held → TablesStand (clients_of history).present tables held.objects.items
-    → length held.sessions.left ≤ left_most held.sessions.numbers.active → IsOpen history client → client < length tables → times_open client (clients_of history).present ≤ 1
-    → Drops seen client device new held new_held owners failed → list_any (is_owned client) new_held.sessions.items ≡ false
+    → length held.sessions.left ≤ leave_limit held.sessions.numbers.active → IsOpen history client → client < length tables → times_open client (clients_of history).present ≤ 1
+    → Drops contexts seen client device new held new_held owners failed → list_any (is_owned client) new_held.sessions.items ≡ false
     → StandsFor (seen new).base (seen new).state (history ++ close_entry client ∷ []) (set tables client []) new_held
 stands_closed seen {device = device} {new = new} history tables {held} {new_held} {owners} client failed stands tables_stand few opened inside one drops none = λ b after is_base is_after.
     let before = told_before (seen device).state (seen new).state after drops.keeps.tells is_after in
@@ -53,9 +54,9 @@ stands_closed seen {device = device} {new = new} history tables {held} {new_held
     (others_in client (seen device).state (seen new).state slots after held.objects.items new_held.objects.items drops.other_objects before.1 is_after) (drops.persist slots after before.1 is_after)
     (drops.closes slots after before.1 is_after) (drops.few_left few) none)
 
-held_closed : {D : Type 0} (seen : D → Seen) {device new : D} {began : ℕ} (history : Entries) (tables : List (List (Option ℕ))) {lists : List ℕ} {held new_held : Held}
+held_closed : {contexts : ContextLimits} {D : Type 0} (seen : D → Seen) {device new : D} {began : ℕ} (history : Entries) (tables : List (List (Option ℕ))) {lists : List ℕ} {held new_held : Held}
     (client failed : ℕ) → HeldHolds began (seen device).faults history tables lists held → times_open client (clients_of history).present ≤ 1 → IsOpen history client → client < length tables
-    → Drops seen client device new held new_held (set held.objects.owners (list_of lists client) None) failed → HasNone new_held.objects.items client
+    → Drops contexts seen client device new held new_held (set held.objects.owners (list_of lists client) None) failed → HasNone new_held.objects.items client
     → list_any (is_owned client) new_held.sessions.items ≡ false
     → HeldHolds began (seen new).faults (history ++ close_entry client ∷ []) (set tables client []) (set lists client 0) new_held
 held_closed seen {new = new} {began = began} history tables {lists} {held} {new_held} client failed h one opened inside drops empty none =
@@ -82,14 +83,14 @@ journal_closed {history = history} {limit = limit} {faults = faults} {faults_new
     (journal-later (journal-close client h opened) count)
 
 -- whose flushes were answered or failed
-holds_closed : {D : Type 0} (seen : D → Seen) {device new : D} {began : ℕ} {history : Entries} {limit : ℕ}
+holds_closed : {contexts : ContextLimits} {D : Type 0} (seen : D → Seen) {device new : D} {began : ℕ} {history : Entries} {limit : ℕ}
     {tables : List (List (Option ℕ))} {lists : List ℕ} {held new_held : Held} {present : ℕ} {wrong_code : Option ℕ} (client failed : ℕ)
-    → Holds began (seen device) history limit tables lists held present wrong_code
+    → Holds contexts began (seen device) history limit tables lists held present wrong_code
     → is_some wrong_code ≡ false → IsOpen history client
-    → Drops seen client device new held new_held (set held.objects.owners (list_of lists client) None) failed → HasNone new_held.objects.items client
+    → Drops contexts seen client device new held new_held (set held.objects.owners (list_of lists client) None) failed → HasNone new_held.objects.items client
     → list_any (is_owned client) new_held.sessions.items ≡ false
-    → Holds began (seen new) (history ++ close_entry client ∷ []) limit (set tables client []) (set lists client 0) new_held (present - 1) wrong_code
-holds_closed seen {device = device} {new = new} {began = began} {history = history} {tables = tables} {wrong_code = wrong_code} client failed h none opened drops empty unowned =
+    → Holds contexts began (seen new) (history ++ close_entry client ∷ []) limit (set tables client []) (set lists client 0) new_held (present - 1) wrong_code
+holds_closed {contexts = contexts} seen {device = device} {new = new} {began = began} {history = history} {tables = tables} {wrong_code = wrong_code} client failed h none opened drops empty unowned =
     let none = none_is wrong_code none in
     let holds = h.objects none in
     let inside = open_inside (clients_of history).present client (length tables) h.journal.below opened in
@@ -99,11 +100,12 @@ holds_closed seen {device = device} {new = new} {began = began} {history = histo
       journal = journal_closed _ client h.journal opened drops.keeps.count;
       objects = λ _. held_closed seen history tables client failed holds one opened inside drops empty unowned;
       answers = record {
-        answer = no_answer (asked_of (seen new)) (last_of (seen new)) wrong_code none;
-        right = λ _. still_right seen device new (h.answers.right none) drops.right;
+        answer = no_answer _ (asked_of (seen new)) (last_of (seen new)) wrong_code none;
+        right = λ _. still_right contexts seen device new (h.answers.right none) drops.right;
         taken = λ _. none;
       };
       faulted = counted-push began history (close_entry client) 0 h.faulted drops.keeps.count refl;
+      made_for = made_since h.made_for drops.made_for;
       slots_are = slots_still drops.slots drops.numbers h.slots_are;
       range = subst AreInRange (sym drops.numbers) h.range;
       few = omega (arith, h.few, drops.length_is, longer history (close_entry client));
@@ -111,30 +113,31 @@ holds_closed seen {device = device} {new = new} {began = began} {history = histo
     }
 
 -- the same of a list that is known by itself
-pub list_closed : {D : Type 0} (seen : D → Seen) {device new : D} {began : ℕ} {history : Entries} {limit : ℕ}
+pub list_closed : {contexts : ContextLimits} {D : Type 0} (seen : D → Seen) {device new : D} {began : ℕ} {history : Entries} {limit : ℕ}
     {tables : List (List (Option ℕ))} {lists : List ℕ} {list : ℕ} {held new_held : Held} {present : ℕ} {wrong_code : Option ℕ} (client failed : ℕ)
-    → Holds began (seen device) history limit tables lists held present wrong_code
+    → Holds contexts began (seen device) history limit tables lists held present wrong_code
     → is_some wrong_code ≡ false → IsOpen history client → list ≡ list_of lists client
-    → Drops seen client device new held new_held (set held.objects.owners list None) failed → HasNone new_held.objects.items client
+    → Drops contexts seen client device new held new_held (set held.objects.owners list None) failed → HasNone new_held.objects.items client
     → list_any (is_owned client) new_held.sessions.items ≡ false
-    → Holds began (seen new) (history ++ close_entry client ∷ []) limit (set tables client []) (set lists client 0) new_held (present - 1) wrong_code
-list_closed seen {device = device} {new = new} {held = held} {new_held = new_held} client failed h none opened is drops empty unowned =
+    → Holds contexts began (seen new) (history ++ close_entry client ∷ []) limit (set tables client []) (set lists client 0) new_held (present - 1) wrong_code
+list_closed {contexts = contexts} seen {device = device} {new = new} {held = held} {new_held = new_held} client failed h none opened is drops empty unowned =
     holds_closed seen client failed h none opened
-    (subst (λ (l : ℕ). Drops seen client device new held new_held (set held.objects.owners l None) failed) is drops) empty unowned
+    (subst (λ (l : ℕ). Drops contexts seen client device new held new_held (set held.objects.owners l None) failed) is drops) empty unowned
 
 -- to whose flush a wrong answer came
-pub holds_closed_wrong : {began : ℕ} {seen new_seen : Seen} {history : Entries} {limit : ℕ}
+pub holds_closed_wrong : {contexts : ContextLimits} {began : ℕ} {seen new_seen : Seen} {history : Entries} {limit : ℕ}
     {tables : List (List (Option ℕ))} {lists : List ℕ} {held new_held : Held} {present : ℕ} {wrong_code : Option ℕ} (client code : ℕ)
-    → Holds began seen history limit tables lists held present wrong_code → IsOpen history client → seen.faults ≤ new_seen.faults
-    → new_held.objects.slots ≡ held.objects.slots → new_held.sessions.numbers ≡ held.sessions.numbers → length new_held.objects.items ≡ length held.objects.items
-    → IsWrongAnswer (asked_of new_seen) (last_of new_seen) code × (new_seen.state ≡ None)
-    → Holds began new_seen (history ++ close_entry client ∷ []) limit (set tables client []) (set lists client 0) new_held (present - 1) (Some code)
-holds_closed_wrong {began = began} {new_seen = new_seen} {history = history} client code h opened count same_slots same_numbers same_length answer = record {
+    → Holds contexts began seen history limit tables lists held present wrong_code → IsOpen history client → seen.faults ≤ new_seen.faults
+    → StaysFor held new_held → new_held.objects.slots ≡ held.objects.slots → new_held.sessions.numbers ≡ held.sessions.numbers → length new_held.objects.items ≡ length held.objects.items
+    → IsWrongAnswer contexts (asked_of new_seen) (last_of new_seen) code × (new_seen.state ≡ None)
+    → Holds contexts began new_seen (history ++ close_entry client ∷ []) limit (set tables client []) (set lists client 0) new_held (present - 1) (Some code)
+holds_closed_wrong {began = began} {new_seen = new_seen} {history = history} client code h opened count same_contexts same_slots same_numbers same_length answer = record {
   stands = λ b slots is_base is_state. absurd (no_state new_seen.state slots answer.1 is_state);
   journal = journal_closed _ client h.journal opened count;
   objects = λ none. absurd cc;
   answers = record { answer = answer.0; right = λ none. absurd cc; taken = λ told. absurd (not_told new_seen.state answer.1 told) };
   faulted = counted-push began history (close_entry client) 0 h.faulted count refl;
+  made_for = made_since h.made_for same_contexts;
   slots_are = slots_still same_slots same_numbers h.slots_are;
   range = subst AreInRange (sym same_numbers) h.range;
   few = omega (arith, h.few, same_length, longer history (close_entry client));
@@ -145,16 +148,17 @@ not_none : (wrong_code : Option ℕ) → is_some wrong_code ≡ true → wrong_c
 not_none wrong_code some none = let no : is_some wrong_code ≡ false = ap is_some none in absurd cc
 
 -- after a wrong answer
-pub holds_closed_after : {began : ℕ} {seen : Seen} {history : Entries} {limit : ℕ} {tables : List (List (Option ℕ))} {lists : List ℕ} {held : Held}
-    {present : ℕ} {wrong_code : Option ℕ} (client : ℕ) → Holds began seen history limit tables lists held present wrong_code
+pub holds_closed_after : {contexts : ContextLimits} {began : ℕ} {seen : Seen} {history : Entries} {limit : ℕ} {tables : List (List (Option ℕ))} {lists : List ℕ} {held : Held}
+    {present : ℕ} {wrong_code : Option ℕ} (client : ℕ) → Holds contexts began seen history limit tables lists held present wrong_code
     → is_some wrong_code ≡ true → IsOpen history client
-    → Holds began seen (history ++ close_entry client ∷ []) limit (set tables client []) (set lists client 0) held (present - 1) wrong_code
+    → Holds contexts began seen (history ++ close_entry client ∷ []) limit (set tables client []) (set lists client 0) held (present - 1) wrong_code
 holds_closed_after {began = began} {seen = seen} {history = history} {wrong_code = wrong_code} client h some opened = record {
   stands = λ b slots is_base is_state. absurd (not_none wrong_code some (h.answers.taken (let yes : is_some seen.state ≡ true = ap is_some is_state in yes)));
   journal = journal_closed _ client h.journal opened (omega arith);
   objects = λ none. absurd (not_none wrong_code some none);
   answers = h.answers;
   faulted = counted-push began history (close_entry client) 0 h.faulted (omega arith) refl;
+  made_for = h.made_for;
   slots_are = h.slots_are;
   range = h.range;
   few = omega (arith, h.few, longer history (close_entry client));
@@ -162,9 +166,9 @@ holds_closed_after {began = began} {seen = seen} {history = history} {wrong_code
 }
 
 -- what a close may begin with
-pub moves_same : {D : Type 0} (seen : D → Seen) (device : D) {began : ℕ} {history : Entries} {limit : ℕ} {tables : List (List (Option ℕ))} {lists : List ℕ} {held : Held}
-    {present : ℕ} {wrong_code : Option ℕ} → is_some (seen device).state ≡ is_some (seen device).base → Holds began (seen device) history limit tables lists held present wrong_code
-    → MayMove 2000 seen device held
+pub moves_same : {contexts : ContextLimits} {D : Type 0} (seen : D → Seen) (device : D) {began : ℕ} {history : Entries} {limit : ℕ} {tables : List (List (Option ℕ))} {lists : List ℕ} {held : Held}
+    {present : ℕ} {wrong_code : Option ℕ} → is_some (seen device).state ≡ is_some (seen device).base → Holds contexts began (seen device) history limit tables lists held present wrong_code
+    → MayMove 2000 contexts seen device held
 moves_same seen device {held = held} same h = moves_now seen device held.objects.items same h (inl refl) refl
 
 -- what is seen of a broker to which a wrong answer came, after a close

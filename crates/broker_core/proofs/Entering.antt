@@ -11,6 +11,7 @@ use Rattle.tab_spec.specs.Frame.{code_of}
 use Rattle.tab_spec.specs.Reply.{error_reply, with_response_handle}
 use Rattle.tab_spec.specs.declared.Shape.{Shape}
 use Rattle.tab_spec.specs.Shape.{makes_object, makes_object_by, octet_of}
+use Rattle.tab_spec.specs.declared.contexts.ContextLimits.{ContextLimits}
 use Rattle.device_spec.specs.Answers.{IsRight, takes}
 use Rattle.device_port.specs.Device.{Seen, asked_of, last_of, sent_of}
 use Rattle.device_laws.proofs.ContextSteps.{save_row}
@@ -30,7 +31,7 @@ use Rattle.client_machine.specs.declared.held.Held.{Held}
 use Rattle.broker_core.specs.Broker.{BrokerView, IsEntered, Tells, TellsNoRoom, checked, Costs}
 use Rattle.client_machine.specs.Moves.{Executes, FailsAtLast, IsAtHand, IsCalm, IsFlushSent, KeepsOwners, UsedLast, moves_for, named_objects, places_needed, slots_of, any_client, client_reply, first_handle, flush_of, pick_of, tells_context, saved_number}
 use Rattle.client_machine.specs.Settled.{orphan_count}
-use Rattle.client_machine.specs.Tables.{device_handle, flush_fault_of, flush_sent, flush_sent_unless, flushed_handle, owned_handles, slot_handle, tables_had}
+use Rattle.client_machine.specs.Tables.{device_handle, flush_fault_of, flush_sent, flush_sent_unless, flushed_handle, owned_handles, slot_handle, tables_had, tables_seen}
 use Rattle.broker_core.specs.Tables.{table_of}
 use Rattle.broker_core.proofs.Holding.{AreMore, still_right}
 use Rattle.client_machine.proofs.Bringing.{command_shape}
@@ -41,27 +42,34 @@ use Rattle.session_swap.specs.Items.{gap_kept, renewal_gap}
 use Rattle.client_machine.specs.Costs.{SendsUpTo, StaysIn, new_bound}
 use Rattle.broker_core.proofs.WorldStands.{with_items}
 
+-- what the broker admits over what it showed of a client is admitted over what the client has
+pub admitted_read : (contexts read : ContextLimits) (client : ℕ) (table shown : List (Option ℕ)) (items : List (Option sessions.Item)) (bytes : List ℕ)
+    (result : Result Admitted ℕ) → read ≡ contexts → shown ≡ table → result ≡ client_admitted (tables_seen read client shown items) bytes
+    → client_admitted (tables_seen contexts client table items) bytes ≡ result
+admitted_read contexts read client table shown items bytes result contexts_are table_is is =
+    sym (is ∙ (λ i. client_admitted (tables_seen (contexts_are i) client (table_is i) items) bytes))
+
 -- a command makes an object if it does by the shape with which it was admitted
-pub made_by : (tables : Tables) (bytes : List ℕ) (a : Admitted) → client_admitted tables bytes ≡ Ok a → makes_object_by (Ok a.shape) bytes ≡ true → makes_object bytes ≡ true
-made_by tables bytes a admitted makes = ap (λ (shape : Result Shape ℕ). makes_object_by shape bytes) (command_shape tables bytes a admitted) ∙ makes
+pub made_by : (contexts : ContextLimits) (tables : Tables) (bytes : List ℕ) (a : Admitted) → client_admitted tables bytes ≡ Ok a → makes_object_by contexts (Ok a.shape) bytes ≡ true → makes_object contexts bytes ≡ true
+made_by contexts tables bytes a admitted makes = ap (λ (shape : Result Shape ℕ). makes_object_by contexts shape bytes) (command_shape tables bytes a admitted) ∙ makes
 
 -- a command that has no room for its entry changes nothing
-pub told_unentered : {D : Type 0} (seen : D → Seen) (told : Told) (old new : BrokerView D) (client number : ℕ) (bytes reply : List ℕ)
-    → TellsNoRoom told old.limit old.journal bytes reply → new ≡ old → Tells seen told old new client number bytes reply
-told_unentered seen tolds.Entered old new client number bytes reply none same = absurd none
-told_unentered seen tolds.Memory old new client number bytes reply none same = absurd none
-told_unentered seen (tolds.JournalFull count most) old new client number bytes reply none same =
+pub told_unentered : (contexts : ContextLimits) {D : Type 0} (seen : D → Seen) (told : Told) (old new : BrokerView D) (client number : ℕ) (bytes reply : List ℕ)
+    → TellsNoRoom told old.limit old.journal bytes reply → new ≡ old → Tells contexts seen told old new client number bytes reply
+told_unentered contexts seen tolds.Entered old new client number bytes reply none same = absurd none
+told_unentered contexts seen tolds.Memory old new client number bytes reply none same = absurd none
+told_unentered contexts seen (tolds.JournalFull count most) old new client number bytes reply none same =
     record { lacks = none.0; same = same; reply_is = none.1; kept_is = none.2; limit_is = none.3 }
-told_unentered seen tolds.Answer old new client number bytes reply none same = absurd none
+told_unentered contexts seen tolds.Answer old new client number bytes reply none same = absurd none
 
 pub view_entered : {D : Type 0} (old : BrokerView D) (journal : List Entry) (limit : ℕ) (e : Entry) → journal ≡ old.journal ++ e ∷ [] → limit ≡ old.limit
     → record old { journal = journal; limit = limit } ≡ record old { journal = old.journal ++ e ∷ [] }
 view_entered old journal limit e is_journal is_limit =
     ap (λ (l : ℕ). record old { journal = journal; limit = l }) is_limit ∙ ap (λ (j : List Entry). record old { journal = j }) is_journal
 
-pub entered_refused : {D : Type 0} (seen : D → Seen) (old new : BrokerView D) (client number : ℕ) (bytes reply : List ℕ) (code : ℕ)
-    → checked old client bytes ≡ Err code → reply ≡ error_reply code → HasRoom old.limit old.journal bytes
-    → new ≡ record old { journal = old.journal ++ command_entry client number Nothing bytes reply ∷ [] } → IsEntered seen old new client number bytes reply
+pub entered_refused : {contexts : ContextLimits} {D : Type 0} (seen : D → Seen) (old new : BrokerView D) (client number : ℕ) (bytes reply : List ℕ) (code : ℕ)
+    → checked contexts old client bytes ≡ Err code → reply ≡ error_reply code → HasRoom old.limit old.journal bytes
+    → new ≡ record old { journal = old.journal ++ command_entry client number Nothing bytes reply ∷ [] } → IsEntered contexts seen old new client number bytes reply
 entered_refused seen old new client number bytes reply code refused is_reply room same = record {
   e = command_entry client number Nothing bytes reply;
   entered = ap (λ (v : _). v.journal) same;
@@ -70,13 +78,13 @@ entered_refused seen old new client number bytes reply code refused is_reply roo
   cause = inl (record { code = code; refused = refused; entry = ap (command_entry client number Nothing bytes) is_reply; same = same });
 }
 
-pub entered_faulted : {D : Type 0} (seen : D → Seen) (old new : BrokerView D) (client number count : ℕ) (bytes reply : List ℕ) (a : Admitted)
-    → checked old client bytes ≡ Ok a → reply ≡ error_reply RC_DEVICE_FAULT → count ≡ (seen new.device).faults → HasRoom old.limit old.journal bytes
+pub entered_faulted : {contexts : ContextLimits} {D : Type 0} (seen : D → Seen) (old new : BrokerView D) (client number count : ℕ) (bytes reply : List ℕ) (a : Admitted)
+    → checked contexts old client bytes ≡ Ok a → reply ≡ error_reply RC_DEVICE_FAULT → count ≡ (seen new.device).faults → HasRoom old.limit old.journal bytes
     → new.journal ≡ old.journal ++ fault_entry client number count bytes reply ∷ [] → Rose (seen old.device).faults (seen new.device).faults × (last_of (seen new.device) ≡ None)
-    → FailsAtLast seen old.device new.device → new.tables ≡ old.tables
+    → FailsAtLast contexts seen old.device new.device → new.tables ≡ old.tables
     → owned_handles new.held.sessions.items ≡ owned_handles old.held.sessions.items → new.held.sessions.left ≡ old.held.sessions.left
     → KeepsOwners any_client old.held.objects.items new.held.objects.items
-    → IsEntered seen old new client number bytes reply
+    → IsEntered contexts seen old new client number bytes reply
 entered_faulted seen old new client number count bytes reply a admitted is_reply is_count room entered failed sent tables sessions left objects = record {
   e = fault_entry client number count bytes reply;
   entered = entered;
@@ -96,10 +104,10 @@ entered_faulted seen old new client number count bytes reply a admitted is_reply
   }));
 }
 
-pub entered_seen : {D : Type 0} (seen : D → Seen) {old between new : BrokerView D} {client number : ℕ} {bytes reply : List ℕ} → old ≡ between
-    → IsEntered seen old new client number bytes reply → IsEntered seen between new client number bytes reply
-entered_seen seen {new = new} {client = client} {number = number} {bytes = bytes} {reply = reply} same entered =
-    subst (λ (v : _). IsEntered seen v new client number bytes reply) same entered
+pub entered_seen : {contexts : ContextLimits} {D : Type 0} (seen : D → Seen) {old between new : BrokerView D} {client number : ℕ} {bytes reply : List ℕ} → old ≡ between
+    → IsEntered contexts seen old new client number bytes reply → IsEntered contexts seen between new client number bytes reply
+entered_seen {contexts = contexts} seen {new = new} {client = client} {number = number} {bytes = bytes} {reply = reply} same entered =
+    subst (λ (v : _). IsEntered contexts seen v new client number bytes reply) same entered
 
 -- ---- a vacant item more changes no handle
 
@@ -124,8 +132,8 @@ flush_more : (tables : Tables) (table : List (Option ℕ)) (items more : List It
 flush_more tables table items more (Err code) are = refl
 flush_more tables table items more (Ok handle) are = unless_more table items more handle (flush_fault_of tables handle) are
 
-at_hand_more : (held : Held) (more : List Item) (table : List (Option ℕ)) (a : Admitted) (bytes : List ℕ) → AreMore held.objects.items more
-    → IsAtHand held table a bytes → IsAtHand (with_items held more) table a bytes
+at_hand_more : {contexts : ContextLimits} (held : Held) (more : List Item) (table : List (Option ℕ)) (a : Admitted) (bytes : List ℕ) → AreMore held.objects.items more
+    → IsAtHand contexts held table a bytes → IsAtHand contexts (with_items held more) table a bytes
 at_hand_more held more table a bytes are at_hand = record {
   nobodys = at_hand.nobodys;
   narrow = at_hand.narrow;
@@ -176,27 +184,27 @@ object_moves_more needed slots view more are =
     + count_by (λ (index : ℕ). is_unsaved (item_more view.items more index are i)) (first_unneeded (evictions_more needed slots view more are i) needed view.order)
     + missing_more needed view.items more are i
 
-moves_more : (held : Held) (more : List Item) (table : List (Option ℕ)) (a : Admitted) (bytes : List ℕ) → AreMore held.objects.items more
-    → moves_for (with_items held more) table a bytes ≡ moves_for held table a bytes
-moves_more held more table a bytes are =
+moves_more : (contexts : ContextLimits) (held : Held) (more : List Item) (table : List (Option ℕ)) (a : Admitted) (bytes : List ℕ) → AreMore held.objects.items more
+    → moves_for contexts (with_items held more) table a bytes ≡ moves_for contexts held table a bytes
+moves_more contexts held more table a bytes are =
     ap (λ (n : ℕ). sessions.moves_of (named_sessions a) (places_needed held.sessions a) held.sessions + n)
-    (object_moves_more (named_objects table a) (slots_of a bytes) held.objects more are)
+    (object_moves_more (named_objects table a) (slots_of contexts a bytes) held.objects more are)
 
 calm_more : (held : Held) (more : List Item) → AreMore held.objects.items more → IsCalm held → IsCalm (with_items held more)
 calm_more held more are calm = record { nobodys = count_more held more are ∙ calm.nobodys; narrow = calm.narrow }
 
 -- nor what was used
-used_more : (held new_held : Held) (more : List Item) (table : List (Option ℕ)) (a : Admitted) (bytes answer : List ℕ) (item : ℕ)
-    → AreMore held.objects.items more → UsedLast (with_items held more) new_held table a bytes answer item
-    → UsedLast held new_held table a bytes answer item
-used_more held new_held more table a bytes answer item are used =
+used_more : {contexts : ContextLimits} (held new_held : Held) (more : List Item) (table : List (Option ℕ)) (a : Admitted) (bytes answer : List ℕ) (item : ℕ)
+    → AreMore held.objects.items more → UsedLast contexts (with_items held more) new_held table a bytes answer item
+    → UsedLast contexts held new_held table a bytes answer item
+used_more {contexts = contexts} held new_held more table a bytes answer item are used =
     let needed = named_objects table a in
     record {
       ready = used.ready;
       named = record {
         objects = used.named.objects
             ∙ ap (λ (n : ℕ). all_used (without_first n needed held.objects.order) needed)
-            (evictions_more needed (slots_of a bytes) held.objects more are);
+            (evictions_more needed (slots_of contexts a bytes) held.objects more are);
         sessions = used.named.sessions;
       };
       objects = used.objects;
@@ -217,23 +225,23 @@ pub left_more : (held roomier new_held : Held) → AreMore held.objects.items ro
     → orphan_count new_held ≤ orphan_count roomier → orphan_count new_held ≤ orphan_count held
 left_more held roomier new_held are is_held fewer = omega (arith, fewer, ap orphan_count is_held, count_more held roomier.objects.items are)
 
-flush_sent_more : {D : Type 0} (seen : D → Seen) (old new : D) (count fewer : ℕ) (slot other : Option ℕ) → count ≡ fewer → slot ≡ other
-    → IsFlushSent seen count slot old new → IsFlushSent seen fewer other old new
-flush_sent_more seen old new count fewer slot other same_count same_slot is =
-    subst (λ (s : Option ℕ). IsFlushSent seen fewer s old new) same_slot
-    (subst (λ (n : ℕ). IsFlushSent seen n slot old new) same_count is)
+flush_sent_more : (contexts : ContextLimits) {D : Type 0} (seen : D → Seen) (old new : D) (count fewer : ℕ) (slot other : Option ℕ) → count ≡ fewer → slot ≡ other
+    → IsFlushSent contexts seen count slot old new → IsFlushSent contexts seen fewer other old new
+flush_sent_more contexts seen old new count fewer slot other same_count same_slot is =
+    subst (λ (s : Option ℕ). IsFlushSent contexts seen fewer s old new) same_slot
+    (subst (λ (n : ℕ). IsFlushSent contexts seen n slot old new) same_count is)
 
-carries_more : {D : Type 0} (seen : D → Seen) (client : ℕ) (old new : D) (held new_held : Held) (more : List Item) (table new_table : List (Option ℕ)) (a : Admitted) (bytes reply : List ℕ)
-    → AreMore held.objects.items more → (is_sent a bytes ≡ false → more ≡ held.objects.items)
-    → Executes seen client old new (with_items held more) new_held table new_table a bytes reply
-    → Executes seen client old new held new_held table new_table a bytes reply
+carries_more : {contexts : ContextLimits} {D : Type 0} (seen : D → Seen) (client : ℕ) (old new : D) (held new_held : Held) (more : List Item) (table new_table : List (Option ℕ)) (a : Admitted) (bytes reply : List ℕ)
+    → AreMore held.objects.items more → (is_sent contexts a bytes ≡ false → more ≡ held.objects.items)
+    → Executes contexts seen client old new (with_items held more) new_held table new_table a bytes reply
+    → Executes contexts seen client old new held new_held table new_table a bytes reply
 carries_more seen client old new held new_held more table new_table a bytes reply are same (inl (code, flushed)) =
     let tables = tables_had client table held.sessions.items in
     inl (
       code,
       record {
         reply_is = flushed.reply_is;
-        sent_is = flush_sent_more seen old new _ _ _ _ (count_more held more are) (flush_more tables table held.objects.items more (flush_of a bytes) are) flushed.sent_is;
+        sent_is = flush_sent_more _ seen old new _ _ _ _ (count_more held more are) (flush_more tables table held.objects.items more (flush_of a bytes) are) flushed.sent_is;
         nobodys = λ some. flushed.nobodys (ap (λ (slot : Option ℕ). is_some slot) (flush_more tables table held.objects.items more (flush_of a bytes) are) ∙ some);
         table_is = flushed.table_is;
         owners = flushed.owners;
@@ -274,24 +282,24 @@ carries_more seen client old new held new_held more table new_table a bytes repl
 }))
 
 -- what was carried out over the table and what is held as they are known at the call
-carries_seen : {D : Type 0} (seen : D → Seen) (client : ℕ) {device start new : D} {held roomier new_held : Held} (more : List Item) {table start_table new_table : List (Option ℕ)} (a : Admitted) (bytes reply : List ℕ)
-    → device ≡ start → AreMore held.objects.items more → (is_sent a bytes ≡ false → more ≡ held.objects.items) → with_items held more ≡ roomier → start_table ≡ table
-    → Executes seen client device new roomier new_held table new_table a bytes reply
-    → Executes seen client start new held new_held start_table new_table a bytes reply
-carries_seen seen client {device} {start} {new} {held} {roomier} {new_held} more {table} {start_table} {new_table} a bytes reply same are unsent is_held is carries =
+carries_seen : {contexts : ContextLimits} {D : Type 0} (seen : D → Seen) (client : ℕ) {device start new : D} {held roomier new_held : Held} (more : List Item) {table start_table new_table : List (Option ℕ)} (a : Admitted) (bytes reply : List ℕ)
+    → device ≡ start → AreMore held.objects.items more → (is_sent contexts a bytes ≡ false → more ≡ held.objects.items) → with_items held more ≡ roomier → start_table ≡ table
+    → Executes contexts seen client device new roomier new_held table new_table a bytes reply
+    → Executes contexts seen client start new held new_held start_table new_table a bytes reply
+carries_seen {contexts = contexts} seen client {device} {start} {new} {held} {roomier} {new_held} more {table} {start_table} {new_table} a bytes reply same are unsent is_held is carries =
     carries_more seen client start new held new_held more start_table new_table a bytes reply are unsent
-    (subst (λ (t : List (Option ℕ)). Executes seen client start new (with_items held more) new_held t new_table a bytes reply) (sym is)
-    (subst (λ (r : Held). Executes seen client start new r new_held table new_table a bytes reply) (sym is_held)
-    (subst (λ d. Executes seen client d new roomier new_held table new_table a bytes reply) same carries)))
+    (subst (λ (t : List (Option ℕ)). Executes contexts seen client start new (with_items held more) new_held t new_table a bytes reply) (sym is)
+    (subst (λ (r : Held). Executes contexts seen client start new r new_held table new_table a bytes reply) (sym is_held)
+    (subst (λ d. Executes contexts seen client d new roomier new_held table new_table a bytes reply) same carries)))
 
-pub entered_carried : {D : Type 0} (seen : D → Seen) (old new : BrokerView D) (client number : ℕ) (bytes reply : List ℕ) (a : Admitted) (device : D) {roomier : Held} (more : List Item)
-    (table new_table : List (Option ℕ)) → checked old client bytes ≡ Ok a → HasRoom old.limit old.journal bytes → new.journal ≡ old.journal ++ command_entry client number (pick_of a reply) bytes reply ∷ []
-    → client < length old.tables → device ≡ old.device → AreMore old.held.objects.items more → (makes_object_by (Ok a.shape) bytes ≡ false → more ≡ old.held.objects.items)
+pub entered_carried : {contexts : ContextLimits} {D : Type 0} (seen : D → Seen) (old new : BrokerView D) (client number : ℕ) (bytes reply : List ℕ) (a : Admitted) (device : D) {roomier : Held} (more : List Item)
+    (table new_table : List (Option ℕ)) → checked contexts old client bytes ≡ Ok a → HasRoom old.limit old.journal bytes → new.journal ≡ old.journal ++ command_entry client number (pick_of a reply) bytes reply ∷ []
+    → client < length old.tables → device ≡ old.device → AreMore old.held.objects.items more → (makes_object_by contexts (Ok a.shape) bytes ≡ false → more ≡ old.held.objects.items)
     → with_items old.held more ≡ roomier → table_of old.tables client ≡ table → new.tables ≡ set old.tables client new_table
-    → Executes seen client device new.device roomier new.held table new_table a bytes reply
+    → Executes contexts seen client device new.device roomier new.held table new_table a bytes reply
     → (gap_kept roomier.sessions < renewal_gap roomier.sessions.numbers → StaysIn 1 1 (saved_number a) roomier new.held)
-    → IsEntered seen old new client number bytes reply
-entered_carried seen old new client number bytes reply a device more table new_table admitted room entered inside same are none is_held is tables carries stays =
+    → IsEntered contexts seen old new client number bytes reply
+entered_carried {contexts = contexts} seen old new client number bytes reply a device more table new_table admitted room entered inside same are none is_held is tables carries stays =
     let own : table_of new.tables client ≡ new_table = ap (λ (t : List (List (Option ℕ))). table_of t client) tables ∙ table_own old.tables client new_table inside in
     record {
       e = command_entry client number (pick_of a reply) bytes reply;
@@ -302,8 +310,8 @@ entered_carried seen old new client number bytes reply a device more table new_t
         a = a;
         admitted = admitted;
         entry = refl;
-        executes = subst (λ (t : List (Option ℕ)). Executes seen client old.device new.device old.held new.held (table_of old.tables client) t a bytes reply) (sym own)
-            (carries_seen seen client more a bytes reply same are (λ unsent. none (unsent_makes a bytes unsent)) is_held is carries);
+        executes = subst (λ (t : List (Option ℕ)). Executes contexts seen client old.device new.device old.held new.held (table_of old.tables client) t a bytes reply) (sym own)
+            (carries_seen seen client more a bytes reply same are (λ unsent. none (unsent_makes contexts a bytes unsent)) is_held is carries);
         stays = stays_more old.held more (saved_number a) are is_held stays;
         tables = tables ∙ ap (set old.tables client) (sym own);
       }));
@@ -319,33 +327,33 @@ sent_from : {D : Type 0} (seen : D → Seen) (device old new : D) (n m : ℕ) �
 sent_from seen device old new n m is same sent = omega (arith, sent, is, ap (λ d. sent_of (seen d)) same)
 
 -- what a command costs that was admitted
-pub costs_admitted : {D : Type 0} (seen : D → Seen) {old start new : BrokerView D} (client : ℕ) (bytes : List ℕ) (a : Admitted) {device : D} {roomier : Held}
-    (more : List Item) {table : List (Option ℕ)} → old ≡ start → checked old client bytes ≡ Ok a → device ≡ old.device → AreMore old.held.objects.items more
+pub costs_admitted : {contexts : ContextLimits} {D : Type 0} (seen : D → Seen) {old start new : BrokerView D} (client : ℕ) (bytes : List ℕ) (a : Admitted) {device : D} {roomier : Held}
+    (more : List Item) {table : List (Option ℕ)} → old ≡ start → checked contexts old client bytes ≡ Ok a → device ≡ old.device → AreMore old.held.objects.items more
     → with_items old.held more ≡ roomier → table_of old.tables client ≡ table
     → SendsUpTo seen (new_bound (orphan_count roomier) (gap_kept roomier.sessions) roomier.sessions.numbers) device new.device
-    → (IsAtHand roomier table a bytes → SendsUpTo seen 1 device new.device)
-    → (IsCalm roomier → SendsUpTo seen (moves_for roomier table a bytes + 1) device new.device) → Costs seen start new client bytes
-costs_admitted seen {old = old} {new = new} client bytes a {device = device} {roomier = roomier} more {table = table} is_start admitted same are is_held is most at_hand few =
+    → (IsAtHand contexts roomier table a bytes → SendsUpTo seen 1 device new.device)
+    → (IsCalm roomier → SendsUpTo seen (moves_for contexts roomier table a bytes + 1) device new.device) → Costs contexts seen start new client bytes
+costs_admitted {contexts = contexts} seen {old = old} {new = new} client bytes a {device = device} {roomier = roomier} more {table = table} is_start admitted same are is_held is most at_hand few =
     let orphans : orphan_count roomier ≡ orphan_count old.held = ap orphan_count (sym is_held) ∙ count_more old.held more are in
     let gap : gap_kept roomier.sessions ≡ gap_kept old.held.sessions = ap (λ (h : Held). gap_kept h.sessions) (sym is_held) in
     let numbers : roomier.sessions.numbers ≡ old.held.sessions.numbers = ap (λ (h : Held). h.sessions.numbers) (sym is_held) in
     let bound : new_bound (orphan_count roomier) (gap_kept roomier.sessions) roomier.sessions.numbers
     ≡ new_bound (orphan_count old.held) (gap_kept old.held.sessions) old.held.sessions.numbers =
     λ i. new_bound (orphans i) (gap i) (numbers i) in
-    subst (λ (v : BrokerView _). Costs seen v new client bytes) is_start (record {
+    subst (λ (v : BrokerView _). Costs contexts seen v new client bytes) is_start (record {
       most = omega (arith, most, bound, ap (λ d. sent_of (seen d)) same);
       at_hand = λ other is_other here.
-          let one : IsAtHand old.held (table_of old.tables client) a bytes =
-          subst (λ (a : Admitted). IsAtHand old.held (table_of old.tables client) a bytes) (ok_same other a (checked old client bytes) is_other admitted) here in
+          let one : IsAtHand contexts old.held (table_of old.tables client) a bytes =
+          subst (λ (a : Admitted). IsAtHand contexts old.held (table_of old.tables client) a bytes) (ok_same other a (checked contexts old client bytes) is_other admitted) here in
           let roomy = at_hand_more old.held more (table_of old.tables client) a bytes are one in
-          let sent = at_hand (subst (λ (t : List (Option ℕ)). IsAtHand roomier t a bytes) is
-          (subst (λ (h : Held). IsAtHand h (table_of old.tables client) a bytes) is_held roomy)) in
+          let sent = at_hand (subst (λ (t : List (Option ℕ)). IsAtHand contexts roomier t a bytes) is
+          (subst (λ (h : Held). IsAtHand contexts h (table_of old.tables client) a bytes) is_held roomy)) in
           omega (arith, sent, ap (λ d. sent_of (seen d)) same);
       few = λ other is_other calm.
-          let alike : a ≡ other = ok_same a other (checked old client bytes) admitted is_other in
-          let moves : moves_for roomier table a bytes ≡ moves_for old.held (table_of old.tables client) other bytes =
-          (λ i. moves_for (sym is_held i) (sym is i) a bytes) ∙ moves_more old.held more (table_of old.tables client) a bytes are
-          ∙ ap (λ (a : Admitted). moves_for old.held (table_of old.tables client) a bytes) alike in
+          let alike : a ≡ other = ok_same a other (checked contexts old client bytes) admitted is_other in
+          let moves : moves_for contexts roomier table a bytes ≡ moves_for contexts old.held (table_of old.tables client) other bytes =
+          (λ i. moves_for contexts (sym is_held i) (sym is i) a bytes) ∙ moves_more contexts old.held more (table_of old.tables client) a bytes are
+          ∙ ap (λ (a : Admitted). moves_for contexts old.held (table_of old.tables client) a bytes) alike in
           sent_from seen device old.device new.device _ _ moves same (few (subst (λ (h : Held). IsCalm h) is_held (calm_more old.held more are calm)));
     })
 
@@ -361,28 +369,28 @@ not_both : (code : ℕ) → (code == CC_FLUSH_CONTEXT) ≡ true → (code == CC_
 not_both code flush start = omega (arith, eqb-true code CC_FLUSH_CONTEXT flush, eqb-true code CC_START_AUTH_SESSION start)
 
 -- a reply that tells a session tells its handle
-long_reply : {D : Type 0} (seen : D → Seen) (tables : Tables) {client : ℕ} {old new : D} {held new_held : Held} {table new_table : List (Option ℕ)} (a : Admitted) (bytes reply : List ℕ)
-    → client_admitted tables bytes ≡ Ok a → IsRight (asked_of (seen new)) (last_of (seen new)) → Executes seen client old new held new_held table new_table a bytes reply
+long_reply : {contexts : ContextLimits} {D : Type 0} (seen : D → Seen) (tables : Tables) {client : ℕ} {old new : D} {held new_held : Held} {table new_table : List (Option ℕ)} (a : Admitted) (bytes reply : List ℕ)
+    → client_admitted tables bytes ≡ Ok a → IsRight contexts (asked_of (seen new)) (last_of (seen new)) → Executes contexts seen client old new held new_held table new_table a bytes reply
     → tells_session a reply ≡ true → 14 ≤ length reply
 long_reply seen tables a bytes reply admitted right (inl (code, flushed)) tells =
     absurd (not_both a.shape.row.code code (and_parts (starts_session a) (code_of reply == RC_SUCCESS) tells).0)
-long_reply seen tables a bytes reply admitted right (inr (inl replied)) tells =
-    absurd (true≢false (sym (and_parts (starts_session a) (code_of reply == RC_SUCCESS) tells).0 ∙ unsent_starts a bytes replied.sort))
-long_reply seen tables {new = new} {new_held = new_held} {table = table} a bytes reply admitted right (inr (inr ran)) tells =
+long_reply {contexts = contexts} seen tables a bytes reply admitted right (inr (inl replied)) tells =
+    absurd (true≢false (sym (and_parts (starts_session a) (code_of reply == RC_SUCCESS) tells).0 ∙ unsent_starts contexts a bytes replied.sort))
+long_reply {contexts = contexts} seen tables {new = new} {new_held = new_held} {table = table} a bytes reply admitted right (inr (inr ran)) tells =
     let answer = ran.answer in
     let first = device_handle table new_held.objects.items (first_handle a) in
     let same : reply ≡ answer = ran.reply_is ∙ reply_same table a answer (and_parts (starts_session a) (code_of reply == RC_SUCCESS) tells).0 in
     let told : tells_session a answer ≡ true = ap (tells_session a) (sym same) ∙ tells in
-    let is_right = subst (IsRight (asked_of (seen new))) ran.last_is right in
-    let taken : takes false false (sent_for bytes a first) answer ≡ true = ap (λ (x : List ℕ). takes false false x answer) (sym ran.sent_is.asked_is) ∙ is_right in
-    omega (arith, ap length same, (command_session false tables bytes a first answer admitted taken told).1)
+    let is_right = subst (IsRight contexts (asked_of (seen new))) ran.last_is right in
+    let taken : takes contexts false false (sent_for bytes a first) answer ≡ true = ap (λ (x : List ℕ). takes contexts false false x answer) (sym ran.sent_is.asked_is) ∙ is_right in
+    omega (arith, ap length same, (command_session contexts false tables bytes a first answer admitted taken told).1)
 
 -- after a command that was carried out the last answer is right, and its reply tells the handle of a session that it started
-pub long_now : {D : Type 0} (seen : D → Seen) (tables : Tables) {client : ℕ} {old new : D} {held new_held : Held} {table new_table : List (Option ℕ)} (a : Admitted) (bytes reply : List ℕ)
-    → client_admitted tables bytes ≡ Ok a → IsRight (asked_of (seen old)) (last_of (seen old)) → (new ≡ old) ⊎ IsRight (asked_of (seen new)) (last_of (seen new))
-    → Executes seen client old new held new_held table new_table a bytes reply → tells_session a reply ≡ true → 14 ≤ length reply
-long_now seen tables {old = old} {new = new} a bytes reply admitted before right carries =
-    long_reply seen tables a bytes reply admitted (still_right seen old new before right) carries
+pub long_now : {contexts : ContextLimits} {D : Type 0} (seen : D → Seen) (tables : Tables) {client : ℕ} {old new : D} {held new_held : Held} {table new_table : List (Option ℕ)} (a : Admitted) (bytes reply : List ℕ)
+    → client_admitted tables bytes ≡ Ok a → IsRight contexts (asked_of (seen old)) (last_of (seen old)) → (new ≡ old) ⊎ IsRight contexts (asked_of (seen new)) (last_of (seen new))
+    → Executes contexts seen client old new held new_held table new_table a bytes reply → tells_session a reply ≡ true → 14 ≤ length reply
+long_now {contexts = contexts} seen tables {old = old} {new = new} a bytes reply admitted before right carries =
+    long_reply seen tables a bytes reply admitted (still_right contexts seen old new before right) carries
 
 -- ---- the context that a response has
 
@@ -398,30 +406,30 @@ save_same tables table a bytes answer admitted is =
     ap (λ (b : Bool). if b then with_response_handle answer (next_handle table) else answer) none
 
 -- a reply that has a context has its number
-context_reply : {D : Type 0} (seen : D → Seen) (tables : Tables) {client : ℕ} {old new : D} {held new_held : Held} {table new_table : List (Option ℕ)} (a : Admitted) (bytes reply : List ℕ)
-    → client_admitted tables bytes ≡ Ok a → IsRight (asked_of (seen new)) (last_of (seen new)) → Executes seen client old new held new_held table new_table a bytes reply
+context_reply : {contexts : ContextLimits} {D : Type 0} (seen : D → Seen) (tables : Tables) {client : ℕ} {old new : D} {held new_held : Held} {table new_table : List (Option ℕ)} (a : Admitted) (bytes reply : List ℕ)
+    → client_admitted tables bytes ≡ Ok a → IsRight contexts (asked_of (seen new)) (last_of (seen new)) → Executes contexts seen client old new held new_held table new_table a bytes reply
     → tells_context a reply ≡ true → 18 ≤ length reply
 context_reply seen tables a bytes reply admitted right (inl (code, flushed)) tells =
     absurd (not_save a.shape.row.code code (and_parts (a.shape.row.code == CC_CONTEXT_SAVE) (code_of reply == RC_SUCCESS) tells).0)
-context_reply seen tables {client = client} {held = held} {table = table} a bytes reply admitted right (inr (inl replied)) tells =
+context_reply {contexts = contexts} seen tables {client = client} {held = held} {table = table} a bytes reply admitted right (inr (inl replied)) tells =
     let parts = and_parts (a.shape.row.code == CC_CONTEXT_SAVE) (code_of reply == RC_SUCCESS) tells in
-    absurd (true≢false (sym parts.1 ∙ save_refused client table held.sessions a bytes reply replied.sort parts.0 replied.reply_is))
-context_reply seen tables {new = new} {new_held = new_held} {table = table} a bytes reply admitted right (inr (inr ran)) tells =
+    absurd (true≢false (sym parts.1 ∙ save_refused contexts client table held.sessions a bytes reply replied.sort parts.0 replied.reply_is))
+context_reply {contexts = contexts} seen tables {new = new} {new_held = new_held} {table = table} a bytes reply admitted right (inr (inr ran)) tells =
     let answer = ran.answer in
     let first = device_handle table new_held.objects.items (first_handle a) in
     let parts = and_parts (a.shape.row.code == CC_CONTEXT_SAVE) (code_of reply == RC_SUCCESS) tells in
     let same : reply ≡ answer = ran.reply_is ∙ save_same tables table a bytes answer admitted parts.0 in
-    let is_right = subst (IsRight (asked_of (seen new))) ran.last_is right in
-    let taken : takes false false (sent_for bytes a first) answer ≡ true = ap (λ (x : List ℕ). takes false false x answer) (sym ran.sent_is.asked_is) ∙ is_right in
+    let is_right = subst (IsRight contexts (asked_of (seen new))) ran.last_is right in
+    let taken : takes contexts false false (sent_for bytes a first) answer ≡ true = ap (λ (x : List ℕ). takes contexts false false x answer) (sym ran.sent_is.asked_is) ∙ is_right in
     let code : code_of (sent_for bytes a first) ≡ a.shape.row.code = command_sent_code tables bytes a first admitted ∙ (clients_command tables bytes a admitted).code in
     omega (
       arith,
       ap length same,
-      context_there (sent_for bytes a first) answer taken (ap (λ (x : List ℕ). code_of x == RC_SUCCESS) (sym same) ∙ parts.1) (ap (λ (c : ℕ). c == CC_CONTEXT_SAVE) code ∙ parts.0),
+      context_there contexts (sent_for bytes a first) answer taken (ap (λ (x : List ℕ). code_of x == RC_SUCCESS) (sym same) ∙ parts.1) (ap (λ (c : ℕ). c == CC_CONTEXT_SAVE) code ∙ parts.0),
     )
 
-pub context_now : {D : Type 0} (seen : D → Seen) (tables : Tables) {client : ℕ} {old new : D} {held new_held : Held} {table new_table : List (Option ℕ)} (a : Admitted) (bytes reply : List ℕ)
-    → client_admitted tables bytes ≡ Ok a → IsRight (asked_of (seen old)) (last_of (seen old)) → (new ≡ old) ⊎ IsRight (asked_of (seen new)) (last_of (seen new))
-    → Executes seen client old new held new_held table new_table a bytes reply → tells_context a reply ≡ true → 18 ≤ length reply
-context_now seen tables {old = old} {new = new} a bytes reply admitted before right carries =
-    context_reply seen tables a bytes reply admitted (still_right seen old new before right) carries
+pub context_now : {contexts : ContextLimits} {D : Type 0} (seen : D → Seen) (tables : Tables) {client : ℕ} {old new : D} {held new_held : Held} {table new_table : List (Option ℕ)} (a : Admitted) (bytes reply : List ℕ)
+    → client_admitted tables bytes ≡ Ok a → IsRight contexts (asked_of (seen old)) (last_of (seen old)) → (new ≡ old) ⊎ IsRight contexts (asked_of (seen new)) (last_of (seen new))
+    → Executes contexts seen client old new held new_held table new_table a bytes reply → tells_context a reply ≡ true → 18 ≤ length reply
+context_now {contexts = contexts} seen tables {old = old} {new = new} a bytes reply admitted before right carries =
+    context_reply seen tables a bytes reply admitted (still_right contexts seen old new before right) carries

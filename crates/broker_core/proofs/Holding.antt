@@ -9,9 +9,10 @@ use Rattle.tab_spec.specs.declared.numbers.Numbers.{Numbers}
 use Rattle.tab_spec.specs.Admission.{client_admitted}
 use Rattle.tab_spec.specs.Count.{Rose}
 use Rattle.tab_spec.specs.Frame.{is_frame, is_size}
-use Rattle.tab_spec.specs.Numbers.{AreInRange, left_most}
+use Rattle.tab_spec.specs.Numbers.{AreInRange, leave_limit}
 use Rattle.tab_spec.specs.Persist.{Persist}
 use Rattle.tab_spec.specs.Reply.{error_reply}
+use Rattle.tab_spec.specs.declared.contexts.ContextLimits.{ContextLimits}
 use Rattle.device_spec.specs.Answers.{IsRight, IsWrongAnswer}
 use Rattle.device_spec.specs.Slots.{SlotState}
 use Rattle.device_port.specs.Device.{Seen, asked_of, last_of}
@@ -29,7 +30,7 @@ use Rattle.world_laws.proofs.Clients.{is_open}
 use Rattle.world_laws.proofs.Histories.{clients_of-push, legal-push, next_count, world_of-push}
 use Rattle.client_machine.specs.declared.held.Held.{Held}
 use Rattle.broker_core.specs.Broker.{FaultsCounted, HeldHolds, Holds, HoldsLeft, JournalHolds, StandsAfter, StandsFor}
-use Rattle.client_machine.specs.Moves.{CountsOn, KeepsObjectsOf, MayMove, Moves, Stays, StaysAs, StepsAs, client_state, other_than}
+use Rattle.client_machine.specs.Moves.{CountsOn, KeepsObjectsOf, MayMove, Moves, Stays, StaysAs, StepsAs, client_state, other_than, IsFor, StaysFor}
 use Rattle.client_machine.specs.Settled.{IsSettled, Settled, orphan_count}
 use Rattle.broker_core.specs.Stands.{Stands, sequences_of}
 use Rattle.client_machine.specs.Tables.{AreOpenOwners, IsTable, tables_seen}
@@ -37,11 +38,11 @@ use Rattle.broker_core.specs.Tables.{TablesStand, list_of, table_of, with_owners
 use Rattle.broker_core.proofs.Listing.{Gives, lists-opened, lists_same, no_list}
 use Rattle.object_swap.specs.declared.TheConstants.{PLACES_MOST}
 use Rattle.broker_core.proofs.Journaling.{counted-fault, counted-later, counted-push, few-entries, journal-entry, journal-later, journal-open}
-use Rattle.client_machine.proofs.Keeping.{right_none}
+use Rattle.client_machine.proofs.Keeping.{right_none, IsProfile, profile_at}
 use Rattle.broker_core.proofs.Placing.{present_same, tables_same}
 use Rattle.client_machine.proofs.Settling.{settled_at}
 use Rattle.broker_core.proofs.Tabling.{AreNowhere, none_rests, open_inside, open_none, owners-open, tables-more, tables-open, tables-step}
-use Rattle.broker_core.proofs.WorldStands.{RoseBoth, Stepped, held_only, held_slots, numbers_stay, stands-longer, stands-more, stands-open, stands-stay, stands-step, steps-refused, with_items}
+use Rattle.broker_core.proofs.WorldStands.{RoseBoth, Stepped, held_only, held_slots, held_there, numbers_stay, stands-longer, stands-more, stands-open, stands-stay, stands-step, steps-refused, with_items}
 
 -- ---- what a device tells
 
@@ -115,14 +116,20 @@ stands_sessions base None history tables held same stands few = omega arith
 stands_sessions (Some b) (Some slots) history tables held same stands few = omega (arith, (stands b slots refl refl).stands.counter, few)
 stands_sessions None (Some slots) history tables held same stands few = absurd cc
 
+-- it is for the same contexts as before
+pub made_since : {contexts : ContextLimits} {held new_held : Held} → IsFor contexts held → StaysFor held new_held → IsFor contexts new_held
+made_since made stays = record { objects = stays.objects ∙ made.objects; sessions = stays.sessions ∙ made.sessions }
+
 -- how much the device has room for doesn't change
 pub slots_still : {slots new_slots : ℕ} {numbers new_numbers : Numbers} → new_slots ≡ slots → new_numbers ≡ numbers → slots ≡ numbers.slots → new_slots ≡ new_numbers.slots
 slots_still same_slots same_numbers are = same_slots ∙ are ∙ ap (λ (n : Numbers). n.slots) (sym same_numbers)
 
-may_move : {D : Type 0} (seen : D → Seen) (device : D) (history : Entries) (tables : List (List (Option ℕ))) (held : Held) (more : List Item)
+may_move : {contexts : ContextLimits} {D : Type 0} (seen : D → Seen) (device : D) (history : Entries) (tables : List (List (Option ℕ))) (held : Held) (more : List Item)
     → is_some (seen device).state ≡ is_some (seen device).base → StandsFor (seen device).base (seen device).state history tables held → AreMore held.objects.items more
-    → length history ≤ 2 ^ 52 → held.objects.slots ≡ held.sessions.numbers.slots → AreInRange held.sessions.numbers → MayMove 2000 seen device (with_items held more)
-may_move seen device history tables held more same stands are few slots_are range = record {
+    → length history ≤ 2 ^ 52 → held.objects.slots ≡ held.sessions.numbers.slots → AreInRange held.sessions.numbers → IsFor contexts held
+    → MayMove 2000 contexts seen device (with_items held more)
+may_move seen device history tables held more same stands are few slots_are range made_for = record {
+  made_for = record { objects = made_for.objects; sessions = made_for.sessions };
   slots = slots_are;
   range = range;
   settled = stands_settled (seen device).base (seen device).state history tables (with_items held more) same (stands_with (seen device).base (seen device).state history tables held more are stands);
@@ -166,14 +173,16 @@ stands_carried {seen = seen} {device = device} {new = new} history tables {held}
     (settled_at (seen new).state after new_held moves.settled is_after) moves.numbers (counters_in (seen device).state (seen new).state slots after moves.counts before.1 is_after)
     (others_in client (seen device).state (seen new).state slots after held.objects.items new_held.objects.items moves.other_objects before.1 is_after) ran.1 ran.2) moves.numbers
 
-stands_refused : (base : Option Persist) (state : Option SlotState) (history : Entries) (tables : List (List (Option ℕ))) (held : Held) (client number : ℕ) (bytes : List ℕ) (code : ℕ)
+stands_refused : (contexts : ContextLimits) (base : Option Persist) (state : Option SlotState) (history : Entries) (tables : List (List (Option ℕ))) (held : Held) (client number : ℕ) (bytes : List ℕ) (code : ℕ)
     → StandsFor base state history tables held → TablesStand (clients_of history).present tables held.objects.items → IsOpen history client → IsNextNumber history client number
-    → client_admitted (tables_seen client (table_of tables client) held.sessions.items) bytes ≡ Err code
-    → StandsFor base state (history ++ command_entry client number Nothing bytes (error_reply code) ∷ []) tables held
-stands_refused base state history tables held client number bytes code stands tables_stand opened next refused = λ b slots is_base is_state.
+    → client_admitted (tables_seen contexts client (table_of tables client) held.sessions.items) bytes ≡ Err code
+    → IsProfile contexts state → StandsFor base state (history ++ command_entry client number Nothing bytes (error_reply code) ∷ []) tables held
+stands_refused contexts base state history tables held client number bytes code stands tables_stand opened next refused profile = λ b slots is_base is_state.
+    let here = profile_at contexts state slots profile is_state in
     let so_far = stands b slots is_base is_state in
     stepped_by b history client number Nothing bytes (error_reply code) (world_with_state (world_of b slots.numbers.active history) client (state_in (world_of b slots.numbers.active history) client)) slots slots tables tables held held so_far opened next
-    (steps-refused (world_of b slots.numbers.active history) slots tables held client bytes code (length history) so_far.stands (clients_of history).present tables_stand refused) refl
+    (steps-refused (world_of b slots.numbers.active history) slots tables held client bytes code (length history) so_far.stands (clients_of history).present tables_stand
+    (subst (λ (c : ContextLimits). client_admitted (tables_seen c client (table_of tables client) held.sessions.items) bytes ≡ Err code) here refused)) refl
 
 stands_canceled : (base : Option Persist) (state : Option SlotState) (history : Entries) (tables : List (List (Option ℕ))) (held : Held) (client number upto : ℕ) (bytes : List ℕ)
     → StandsFor base state history tables held → IsOpen history client → IsNextNumber history client number → number ≤ upto
@@ -217,8 +226,8 @@ pub longer : (history : Entries) (e : Entry) → length (history ++ e ∷ []) �
 longer history e = length-append history (e ∷ [])
 
 -- no more are left than may be, by how much the device has room for
-pub few_left : {numbers new_numbers : Numbers} {few : ℕ} → new_numbers ≡ numbers → few ≤ left_most numbers.active → few ≤ left_most new_numbers.active
-few_left {few = few} same most = subst (λ (n : Numbers). few ≤ left_most n.active) (sym same) most
+pub few_left : {numbers new_numbers : Numbers} {few : ℕ} → new_numbers ≡ numbers → few ≤ leave_limit numbers.active → few ≤ leave_limit new_numbers.active
+few_left {few = few} same most = subst (λ (n : Numbers). few ≤ leave_limit n.active) (sym same) most
 
 held_carried : {D : Type 0} {seen : D → Seen} {device new : D} {began before after : ℕ} (history : Entries) (e : Entry) (tables : List (List (Option ℕ))) {lists : List ℕ} {held new_held : Held} {more : List Item} {client : ℕ} {new_table : List (Option ℕ)}
     → HeldHolds began before history tables lists held → AreMore held.objects.items more → present_by e.kind e.client (clients_of history).present ≡ (clients_of history).present
@@ -281,6 +290,7 @@ held_closed {began = began} {faults = faults} history tables held slots h none s
       orphans = orphan_count held;
       held_is = held_slots slots held settled owners nobody listed;
       counted = h.counted;
+      there = held_there slots held settled listed;
       only = held_only slots held settled owners nobody listed;
     }
 
@@ -300,10 +310,10 @@ none_is (Some x) none = absurd cc
 none_is None none = refl
 
 -- a client was opened
-holds_opened : {began : ℕ} {seen : Seen} {history : Entries} {limit : ℕ} {tables : List (List (Option ℕ))} {lists : List ℕ} {held : Held}
-    {present : ℕ} {wrong_code : Option ℕ} (number list : ℕ) (owners : List (Option ℕ)) → Holds began seen history limit tables lists held present wrong_code
+holds_opened : {contexts : ContextLimits} {began : ℕ} {seen : Seen} {history : Entries} {limit : ℕ} {tables : List (List (Option ℕ))} {lists : List ℕ} {held : Held}
+    {present : ℕ} {wrong_code : Option ℕ} (number list : ℕ) (owners : List (Option ℕ)) → Holds contexts began seen history limit tables lists held present wrong_code
     → number ≡ length tables → HasRoomForClient limit history → Gives held.objects.owners owners list number
-    → Holds began seen (history ++ open_entry number ∷ []) limit (tables ++ [] ∷ []) (lists ++ list ∷ []) (with_owners held owners) (present + 1) wrong_code
+    → Holds contexts began seen (history ++ open_entry number ∷ []) limit (tables ++ [] ∷ []) (lists ++ list ∷ []) (with_owners held owners) (present + 1) wrong_code
 holds_opened {began = began} {seen = seen} {history = history} {limit = limit} {tables = tables} {lists = lists} {held = held} {present = present} number list owners h is_next room gives =
     let e : Entry = open_entry number in
     let gives_next = subst (Gives held.objects.owners owners list) is_next gives in
@@ -315,6 +325,7 @@ holds_opened {began = began} {seen = seen} {history = history} {limit = limit} {
           (held_opened history list owners h.journal.below (h.objects none) gives_next);
       answers = h.answers;
       faulted = counted-push began history e 0 h.faulted (omega arith) refl;
+      made_for = record { objects = h.made_for.objects; sessions = h.made_for.sessions };
       slots_are = h.slots_are;
       range = h.range;
       few = omega (arith, h.few, longer history e);
@@ -322,37 +333,37 @@ holds_opened {began = began} {seen = seen} {history = history} {limit = limit} {
     }
 
 -- the same of what is held with a list more that is given
-pub view_opened : {began : ℕ} {seen : Seen} {history : Entries} {limit : ℕ} {tables : List (List (Option ℕ))} {lists : List ℕ} {held : Held}
-    {present : ℕ} {wrong_code : Option ℕ} (number list : ℕ) (view : ObjectsView) → Holds began seen history limit tables lists held present wrong_code
+pub view_opened : {contexts : ContextLimits} {began : ℕ} {seen : Seen} {history : Entries} {limit : ℕ} {tables : List (List (Option ℕ))} {lists : List ℕ} {held : Held}
+    {present : ℕ} {wrong_code : Option ℕ} (number list : ℕ) (view : ObjectsView) → Holds contexts began seen history limit tables lists held present wrong_code
     → number ≡ length tables → HasRoomForClient limit history → Gives held.objects.owners view.owners list number → view ≡ record held.objects { owners = view.owners }
-    → Holds began seen (history ++ open_entry number ∷ []) limit (tables ++ [] ∷ []) (lists ++ list ∷ []) (record { objects = view; sessions = held.sessions }) (present + 1) wrong_code
-view_opened {began = began} {seen = seen} {history = history} {limit = limit} {tables = tables} {lists = lists} {held = held} {present = present} {wrong_code = wrong_code} number list view h is_next room gives is =
-    subst (λ (v : ObjectsView). Holds began seen (history ++ open_entry number ∷ []) limit (tables ++ [] ∷ []) (lists ++ list ∷ []) (record { objects = v; sessions = held.sessions }) (present + 1) wrong_code)
+    → Holds contexts began seen (history ++ open_entry number ∷ []) limit (tables ++ [] ∷ []) (lists ++ list ∷ []) (record { objects = view; sessions = held.sessions }) (present + 1) wrong_code
+view_opened {contexts = contexts} {began = began} {seen = seen} {history = history} {limit = limit} {tables = tables} {lists = lists} {held = held} {present = present} {wrong_code = wrong_code} number list view h is_next room gives is =
+    subst (λ (v : ObjectsView). Holds contexts began seen (history ++ open_entry number ∷ []) limit (tables ++ [] ∷ []) (lists ++ list ∷ []) (record { objects = v; sessions = held.sessions }) (present + 1) wrong_code)
     (sym is) (holds_opened number list view.owners h is_next room gives)
 
 -- a client that is opened has no list yet
-pub none_listed : {began : ℕ} {seen : Seen} {history : Entries} {limit : ℕ} {tables : List (List (Option ℕ))} {lists : List ℕ} {held : Held}
-    {present : ℕ} {wrong_code : Option ℕ} (number : ℕ) → Holds began seen history limit tables lists held present wrong_code
+pub none_listed : {contexts : ContextLimits} {began : ℕ} {seen : Seen} {history : Entries} {limit : ℕ} {tables : List (List (Option ℕ))} {lists : List ℕ} {held : Held}
+    {present : ℕ} {wrong_code : Option ℕ} (number : ℕ) → Holds contexts began seen history limit tables lists held present wrong_code
     → is_some wrong_code ≡ false → number ≡ length tables → has_list held.objects.owners number ≡ false
 none_listed {history = history} {tables = tables} {lists = lists} {held = held} {wrong_code = wrong_code} number h none is_next =
     no_list (clients_of history).present lists held.objects.owners number (h.objects (none_is wrong_code none)).lists_stand
     (open_none (clients_of history).present number (length tables) h.journal.below (omega (arith, is_next)))
 
 -- the list of an open client is its own
-pub own_list : {began : ℕ} {seen : Seen} {history : Entries} {limit : ℕ} {tables : List (List (Option ℕ))} {lists : List ℕ} {held : Held}
-    {present : ℕ} {wrong_code : Option ℕ} (client list : ℕ) → Holds began seen history limit tables lists held present wrong_code
+pub own_list : {contexts : ContextLimits} {began : ℕ} {seen : Seen} {history : Entries} {limit : ℕ} {tables : List (List (Option ℕ))} {lists : List ℕ} {held : Held}
+    {present : ℕ} {wrong_code : Option ℕ} (client list : ℕ) → Holds contexts began seen history limit tables lists held present wrong_code
     → is_some wrong_code ≡ false → IsOpen history client → list ≡ list_of lists client → owner_at held.objects.owners list ≡ Some client
 own_list {held = held} {wrong_code = wrong_code} client list h none opened is =
     ap (owner_at held.objects.owners) is ∙ (h.objects (none_is wrong_code none)).lists_stand.own client opened
 
 -- ---- a command
 
-pub inside_tables : {began : ℕ} {seen : Seen} {history : Entries} {limit : ℕ} {tables : List (List (Option ℕ))} {lists : List ℕ} {held : Held}
-    {present : ℕ} {wrong_code : Option ℕ} (client : ℕ) → Holds began seen history limit tables lists held present wrong_code → IsOpen history client → client < length tables
+pub inside_tables : {contexts : ContextLimits} {began : ℕ} {seen : Seen} {history : Entries} {limit : ℕ} {tables : List (List (Option ℕ))} {lists : List ℕ} {held : Held}
+    {present : ℕ} {wrong_code : Option ℕ} (client : ℕ) → Holds contexts began seen history limit tables lists held present wrong_code → IsOpen history client → client < length tables
 inside_tables {history = history} {tables = tables} client h opened = open_inside (clients_of history).present client (length tables) h.journal.below opened
 
-pub few_items : {began : ℕ} {seen : Seen} {history : Entries} {limit : ℕ} {tables : List (List (Option ℕ))} {lists : List ℕ} {held : Held}
-    {present : ℕ} {wrong_code : Option ℕ} → Holds began seen history limit tables lists held present wrong_code → length held.objects.items ≤ 2 ^ 31
+pub few_items : {contexts : ContextLimits} {began : ℕ} {seen : Seen} {history : Entries} {limit : ℕ} {tables : List (List (Option ℕ))} {lists : List ℕ} {held : Held}
+    {present : ℕ} {wrong_code : Option ℕ} → Holds contexts began seen history limit tables lists held present wrong_code → length held.objects.items ≤ 2 ^ 31
 few_items h = h.placed
 
 size_most : (size : ℕ) → is_size size ≡ true → size ≤ 4096
@@ -361,13 +372,13 @@ size_most size e = leb-true size 4096 (and_parts _ _ e).1
 frame_short : (reply : List ℕ) → is_frame reply ≡ true → length reply ≤ 4096
 frame_short reply whole = size_most (length reply) (and_parts (is_size (length reply)) _ whole).0
 
-pub no_answer : (asked : List ℕ) (last : Option (List ℕ)) (wrong_code : Option ℕ) → wrong_code ≡ None → IfSome wrong_code (IsWrongAnswer asked last)
-no_answer asked last wrong_code none = subst (λ (o : Option ℕ). IfSome o (IsWrongAnswer asked last)) (sym none) tt
+pub no_answer : (contexts : ContextLimits) (asked : List ℕ) (last : Option (List ℕ)) (wrong_code : Option ℕ) → wrong_code ≡ None → IfSome wrong_code (IsWrongAnswer contexts asked last)
+no_answer contexts asked last wrong_code none = subst (λ (o : Option ℕ). IfSome o (IsWrongAnswer contexts asked last)) (sym none) tt
 
 -- the last answer is right, if it was before and nothing was sent since
-pub still_right : {D : Type 0} (seen : D → Seen) (device new : D) → IsRight (asked_of (seen device)) (last_of (seen device)) → (new ≡ device) ⊎ IsRight (asked_of (seen new)) (last_of (seen new)) → IsRight (asked_of (seen new)) (last_of (seen new))
-still_right seen device new before (inl same) = subst (λ d. IsRight (asked_of (seen d)) (last_of (seen d))) (sym same) before
-still_right seen device new before (inr right) = right
+pub still_right : (contexts : ContextLimits) {D : Type 0} (seen : D → Seen) (device new : D) → IsRight contexts (asked_of (seen device)) (last_of (seen device)) → (new ≡ device) ⊎ IsRight contexts (asked_of (seen new)) (last_of (seen new)) → IsRight contexts (asked_of (seen new)) (last_of (seen new))
+still_right contexts seen device new before (inl same) = subst (λ d. IsRight contexts (asked_of (seen d)) (last_of (seen d))) (sym same) before
+still_right contexts seen device new before (inr right) = right
 
 pub not_told : (state : Option SlotState) → state ≡ None → IsSome state → ⊥
 not_told state none some = let yes : is_some state ≡ true = some in let no : is_some state ≡ false = ap is_some none in cc
@@ -376,20 +387,21 @@ pub no_state : (state : Option SlotState) (slots : SlotState) → state ≡ None
 no_state state slots none some = let yes : is_some state ≡ true = ap is_some some in let no : is_some state ≡ false = ap is_some none in cc
 
 -- one that the broker refused by itself
-pub holds_refused : {began : ℕ} {seen : Seen} {history : Entries} {limit : ℕ} {tables : List (List (Option ℕ))} {lists : List ℕ} {held : Held}
-    {present : ℕ} {wrong_code : Option ℕ} (client number : ℕ) (bytes : List ℕ) (code : ℕ) → Holds began seen history limit tables lists held present wrong_code
-    → is_some wrong_code ≡ false → IsOpen history client → IsNextNumber history client number → client_admitted (tables_seen client (table_of tables client) held.sessions.items) bytes ≡ Err code
-    → HasRoom limit history bytes
-    → Holds began seen (history ++ command_entry client number Nothing bytes (error_reply code) ∷ []) limit tables lists held present wrong_code
-holds_refused {began = began} {seen = seen} {history = history} {tables = tables} {held = held} {wrong_code = wrong_code} client number bytes code h none opened next refused has_room =
+pub holds_refused : {contexts : ContextLimits} {began : ℕ} {seen : Seen} {history : Entries} {limit : ℕ} {tables : List (List (Option ℕ))} {lists : List ℕ} {held : Held}
+    {present : ℕ} {wrong_code : Option ℕ} (client number : ℕ) (bytes : List ℕ) (code : ℕ) → Holds contexts began seen history limit tables lists held present wrong_code
+    → is_some wrong_code ≡ false → IsOpen history client → IsNextNumber history client number → client_admitted (tables_seen contexts client (table_of tables client) held.sessions.items) bytes ≡ Err code
+    → HasRoom limit history bytes → IsProfile contexts seen.state
+    → Holds contexts began seen (history ++ command_entry client number Nothing bytes (error_reply code) ∷ []) limit tables lists held present wrong_code
+holds_refused {began = began} {seen = seen} {history = history} {tables = tables} {held = held} {wrong_code = wrong_code} client number bytes code h none opened next refused has_room profile =
     let e : Entry = command_entry client number Nothing bytes (error_reply code) in
     let holds = h.objects (none_is wrong_code none) in
     record {
-      stands = stands_refused seen.base seen.state history tables held client number bytes code h.stands holds.each opened next refused;
+      stands = stands_refused _ seen.base seen.state history tables held client number bytes code h.stands holds.each opened next refused profile;
       journal = journal-entry e h.journal (omega arith) refl refl (omega arith) (error_is_frame code) has_room (frame_short (error_reply code) (error_is_frame code));
       objects = λ _. held_refused history e holds refl refl;
       answers = h.answers;
       faulted = counted-push began history e 0 h.faulted (omega arith) refl;
+      made_for = h.made_for;
       slots_are = h.slots_are;
       range = h.range;
       few = omega (arith, h.few, longer history e);
@@ -397,10 +409,10 @@ holds_refused {began = began} {seen = seen} {history = history} {tables = tables
     }
 
 -- one that was canceled before it ran
-pub holds_canceled : {began : ℕ} {seen : Seen} {history : Entries} {limit : ℕ} {tables : List (List (Option ℕ))} {lists : List ℕ} {held : Held}
-    {present : ℕ} {wrong_code : Option ℕ} (client number upto : ℕ) (bytes : List ℕ) → Holds began seen history limit tables lists held present wrong_code
+pub holds_canceled : {contexts : ContextLimits} {began : ℕ} {seen : Seen} {history : Entries} {limit : ℕ} {tables : List (List (Option ℕ))} {lists : List ℕ} {held : Held}
+    {present : ℕ} {wrong_code : Option ℕ} (client number upto : ℕ) (bytes : List ℕ) → Holds contexts began seen history limit tables lists held present wrong_code
     → is_some wrong_code ≡ false → IsOpen history client → IsNextNumber history client number → number ≤ upto → HasRoom limit history bytes
-    → Holds began seen (history ++ canceled_entry client number upto bytes (error_reply RC_CANCELED) ∷ []) limit tables lists held present wrong_code
+    → Holds contexts began seen (history ++ canceled_entry client number upto bytes (error_reply RC_CANCELED) ∷ []) limit tables lists held present wrong_code
 holds_canceled {began = began} {seen = seen} {history = history} {tables = tables} {held = held} {wrong_code = wrong_code} client number upto bytes h none opened next covers has_room =
     let e : Entry = canceled_entry client number upto bytes (error_reply RC_CANCELED) in
     let whole = error_is_frame RC_CANCELED in
@@ -410,6 +422,7 @@ holds_canceled {began = began} {seen = seen} {history = history} {tables = table
       objects = λ _. held_refused history e (h.objects (none_is wrong_code none)) refl refl;
       answers = h.answers;
       faulted = counted-push began history e 0 h.faulted (omega arith) refl;
+      made_for = h.made_for;
       slots_are = h.slots_are;
       range = h.range;
       few = omega (arith, h.few, longer history e);
@@ -417,15 +430,15 @@ holds_canceled {began = began} {seen = seen} {history = history} {tables = table
     }
 
 -- one that was carried out
-holds_carried : {D : Type 0} (seen : D → Seen) {device new : D} {began : ℕ} {history : Entries} {limit : ℕ}
+holds_carried : {contexts : ContextLimits} {D : Type 0} (seen : D → Seen) {device new : D} {began : ℕ} {history : Entries} {limit : ℕ}
     {tables : List (List (Option ℕ))} {lists : List ℕ} {held new_held : Held} {more : List Item} {new_table : List (Option ℕ)} {present : ℕ} {wrong_code : Option ℕ} (client number : ℕ) (pick : Pick) (bytes reply : List ℕ)
-    → Holds began (seen device) history limit tables lists held present wrong_code
+    → Holds contexts began (seen device) history limit tables lists held present wrong_code
     → is_some wrong_code ≡ false → IsOpen history client → IsNextNumber history client number → HasRoom limit history bytes → AreMore held.objects.items more → length more ≤ PLACES_MOST
     → Moves seen client device new (with_items held more) new_held new_table
     → StepsAs (λ s. client_step client s bytes pick) (seen device).state (seen new).state (with_items held more) new_held (table_of tables client) new_table reply
-    → is_frame reply ≡ true → (new ≡ device) ⊎ IsRight (asked_of (seen new)) (last_of (seen new))
-    → Holds began (seen new) (history ++ command_entry client number pick bytes reply ∷ []) limit (set tables client new_table) lists new_held present wrong_code
-holds_carried seen {device = device} {new = new} {began = began} {history = history} {limit = limit} {tables = tables} {held = held} {new_held = new_held} {more = more}
+    → is_frame reply ≡ true → (new ≡ device) ⊎ IsRight contexts (asked_of (seen new)) (last_of (seen new))
+    → Holds contexts began (seen new) (history ++ command_entry client number pick bytes reply ∷ []) limit (set tables client new_table) lists new_held present wrong_code
+holds_carried {contexts = contexts} seen {device = device} {new = new} {began = began} {history = history} {limit = limit} {tables = tables} {held = held} {new_held = new_held} {more = more}
     {new_table = new_table} {present = present} {wrong_code = wrong_code} client number pick bytes reply h none opened next has_room are most moves steps whole right =
     let e : Entry = command_entry client number pick bytes reply in
     let none = none_is wrong_code none in
@@ -438,11 +451,12 @@ holds_carried seen {device = device} {new = new} {began = began} {history = hist
           (journal-entry e h.journal moves.keeps.count refl refl (omega arith) whole has_room (frame_short reply whole));
       objects = λ _. held_carried history e tables holds are refl opened inside moves (counted-push began history e _ holds.counted moves.keeps.count refl);
       answers = record {
-        answer = no_answer (asked_of (seen new)) (last_of (seen new)) wrong_code none;
-        right = λ _. still_right seen device new (h.answers.right none) right;
+        answer = no_answer _ (asked_of (seen new)) (last_of (seen new)) wrong_code none;
+        right = λ _. still_right contexts seen device new (h.answers.right none) right;
         taken = λ _. none;
       };
       faulted = counted-push began history e 0 h.faulted moves.keeps.count refl;
+      made_for = made_since {held = with_items held more} (record { objects = h.made_for.objects; sessions = h.made_for.sessions }) moves.made_for;
       slots_are = slots_still moves.slots moves.numbers h.slots_are;
       range = subst AreInRange (sym moves.numbers) h.range;
       few = omega (arith, holds.short, more_length held.objects.items more are, moves.length_is, longer history e);
@@ -450,15 +464,15 @@ holds_carried seen {device = device} {new = new} {began = began} {history = hist
     }
 
 -- one whose transmission failed, or one of the broker's own before it
-holds_faulted : {D : Type 0} (seen : D → Seen) {device new : D} {began : ℕ} {history : Entries} {limit : ℕ}
+holds_faulted : {contexts : ContextLimits} {D : Type 0} (seen : D → Seen) {device new : D} {began : ℕ} {history : Entries} {limit : ℕ}
     {tables : List (List (Option ℕ))} {lists : List ℕ} {held new_held : Held} {more : List Item} {new_table : List (Option ℕ)} {present : ℕ} {wrong_code : Option ℕ} (client number : ℕ) (bytes : List ℕ)
-    → Holds began (seen device) history limit tables lists held present wrong_code
+    → Holds contexts began (seen device) history limit tables lists held present wrong_code
     → is_some wrong_code ≡ false → IsOpen history client → IsNextNumber history client number → HasRoom limit history bytes → AreMore held.objects.items more → length more ≤ PLACES_MOST
     → Moves seen client device new (with_items held more) new_held new_table
     → Stays (seen device).state (seen new).state (with_items held more) new_held (table_of tables client) new_table
     → Rose (seen device).faults (seen new).faults × (last_of (seen new) ≡ None)
-    → Holds began (seen new) (history ++ fault_entry client number (seen new).faults bytes (error_reply RC_DEVICE_FAULT) ∷ []) limit tables lists new_held present wrong_code
-holds_faulted seen {device = device} {new = new} {began = began} {history = history} {limit = limit} {tables = tables} {lists = lists} {held = held} {new_held = new_held} {more = more}
+    → Holds contexts began (seen new) (history ++ fault_entry client number (seen new).faults bytes (error_reply RC_DEVICE_FAULT) ∷ []) limit tables lists new_held present wrong_code
+holds_faulted {contexts = contexts} seen {device = device} {new = new} {began = began} {history = history} {limit = limit} {tables = tables} {lists = lists} {held = held} {new_held = new_held} {more = more}
     {new_table = new_table} {present = present} {wrong_code = wrong_code} client number bytes h none opened next has_room are most moves stays failed =
     let e : Entry = fault_entry client number (seen new).faults bytes (error_reply RC_DEVICE_FAULT) in
     let none = none_is wrong_code none in
@@ -472,8 +486,9 @@ holds_faulted seen {device = device} {new = new} {began = began} {history = hist
       journal = journal-entry e h.journal moves.keeps.count refl refl (omega arith) whole has_room (frame_short (error_reply RC_DEVICE_FAULT) whole);
       objects = λ _. subst (λ (t : List (List (Option ℕ))). HeldHolds began (seen new).faults (history ++ e ∷ []) t lists new_held) same_tables
           (held_carried history e tables holds are refl opened inside moves (counted-fault began history e _ holds.counted moves.keeps.count failed.0 refl));
-      answers = record { answer = no_answer (asked_of (seen new)) (last_of (seen new)) wrong_code none; right = λ _. right_none (asked_of (seen new)) (last_of (seen new)) failed.1; taken = λ _. none };
+      answers = record { answer = no_answer _ (asked_of (seen new)) (last_of (seen new)) wrong_code none; right = λ _. right_none contexts (asked_of (seen new)) (last_of (seen new)) failed.1; taken = λ _. none };
       faulted = counted-fault began history e 0 h.faulted moves.keeps.count failed.0 refl;
+      made_for = made_since {held = with_items held more} (record { objects = h.made_for.objects; sessions = h.made_for.sessions }) moves.made_for;
       slots_are = slots_still moves.slots moves.numbers h.slots_are;
       range = subst AreInRange (sym moves.numbers) h.range;
       few = omega (arith, holds.short, more_length held.objects.items more are, moves.length_is, longer history e);
@@ -481,13 +496,13 @@ holds_faulted seen {device = device} {new = new} {began = began} {history = hist
     }
 
 -- one after which a wrong answer came
-pub holds_wrong : {began : ℕ} {seen new_seen : Seen} {history : Entries} {limit : ℕ}
+pub holds_wrong : {contexts : ContextLimits} {began : ℕ} {seen new_seen : Seen} {history : Entries} {limit : ℕ}
     {tables tables_new : List (List (Option ℕ))} {lists : List ℕ} {held new_held : Held} {present : ℕ} {wrong_code : Option ℕ} (code : ℕ)
-    → Holds began seen history limit tables lists held present wrong_code → length tables_new ≡ length tables → seen.faults ≤ new_seen.faults
-    → new_held.objects.slots ≡ held.objects.slots → new_held.sessions.numbers ≡ held.sessions.numbers → length new_held.objects.items ≤ length history + 1 → length new_held.objects.items ≤ PLACES_MOST
-    → IsWrongAnswer (asked_of new_seen) (last_of new_seen) code × (new_seen.state ≡ None)
-    → Holds began new_seen history limit tables_new lists new_held present (Some code)
-holds_wrong {began = began} {new_seen = new_seen} {history = history} {limit = limit} {present = present} code h same count same_slots same_numbers few placed answer = record {
+    → Holds contexts began seen history limit tables lists held present wrong_code → length tables_new ≡ length tables → seen.faults ≤ new_seen.faults
+    → StaysFor held new_held → new_held.objects.slots ≡ held.objects.slots → new_held.sessions.numbers ≡ held.sessions.numbers → length new_held.objects.items ≤ length history + 1 → length new_held.objects.items ≤ PLACES_MOST
+    → IsWrongAnswer contexts (asked_of new_seen) (last_of new_seen) code × (new_seen.state ≡ None)
+    → Holds contexts began new_seen history limit tables_new lists new_held present (Some code)
+holds_wrong {began = began} {new_seen = new_seen} {history = history} {limit = limit} {present = present} code h same count same_contexts same_slots same_numbers few placed answer = record {
   stands = λ b slots is_base is_state. absurd (no_state new_seen.state slots answer.1 is_state);
   journal = subst (λ (n : ℕ). JournalHolds history limit new_seen.faults n present) (sym same) (journal-later h.journal count);
   objects = λ none. absurd cc;
@@ -497,6 +512,7 @@ holds_wrong {began = began} {new_seen = new_seen} {history = history} {limit = l
     taken = λ told. absurd (not_told new_seen.state answer.1 told);
   };
   faulted = counted-later began history 0 h.faulted count;
+  made_for = made_since h.made_for same_contexts;
   slots_are = slots_still same_slots same_numbers h.slots_are;
   range = subst AreInRange (sym same_numbers) h.range;
   few = few;
@@ -517,67 +533,67 @@ pub with_items_is : (held roomier : Held) → roomier.objects ≡ record held.ob
 with_items_is held roomier objects sessions = λ i. record { objects = sym objects i; sessions = sym sessions i }
 
 -- the same of a table, and of what is held, that are known by themselves
-pub table_carried : {D : Type 0} (seen : D → Seen) {device new : D} {began : ℕ} {history : Entries} {limit : ℕ}
+pub table_carried : {contexts : ContextLimits} {D : Type 0} (seen : D → Seen) {device new : D} {began : ℕ} {history : Entries} {limit : ℕ}
     {tables : List (List (Option ℕ))} {lists : List ℕ} {held roomier new_held : Held} {table new_table : List (Option ℕ)} {present : ℕ} {wrong_code : Option ℕ} (more : List Item) (client number : ℕ) (pick : Pick) (bytes reply : List ℕ)
-    → Holds began (seen device) history limit tables lists held present wrong_code
+    → Holds contexts began (seen device) history limit tables lists held present wrong_code
     → is_some wrong_code ≡ false → IsOpen history client → IsNextNumber history client number → HasRoom limit history bytes → AreMore held.objects.items more → length more ≤ PLACES_MOST
     → with_items held more ≡ roomier → table_of tables client ≡ table
     → Moves seen client device new roomier new_held new_table
     → StepsAs (λ s. client_step client s bytes pick) (seen device).state (seen new).state roomier new_held table new_table reply
-    → is_frame reply ≡ true → (new ≡ device) ⊎ IsRight (asked_of (seen new)) (last_of (seen new))
-    → Holds began (seen new) (history ++ command_entry client number pick bytes reply ∷ []) limit (set tables client new_table) lists new_held present wrong_code
-table_carried seen {device = device} {new = new} {began = began} {history = history} {limit = limit} {tables = tables} {lists = lists} {held = held} {roomier = roomier} {new_held = new_held} {new_table = new_table}
+    → is_frame reply ≡ true → (new ≡ device) ⊎ IsRight contexts (asked_of (seen new)) (last_of (seen new))
+    → Holds contexts began (seen new) (history ++ command_entry client number pick bytes reply ∷ []) limit (set tables client new_table) lists new_held present wrong_code
+table_carried {contexts = contexts} seen {device = device} {new = new} {began = began} {history = history} {limit = limit} {tables = tables} {lists = lists} {held = held} {roomier = roomier} {new_held = new_held} {new_table = new_table}
     {present = present} {wrong_code = wrong_code} more client number pick bytes reply h none opened next has_room are most is_held is =
     subst (λ (t : List (Option ℕ)). Moves seen client device new roomier new_held new_table
     → StepsAs (λ s. client_step client s bytes pick) (seen device).state (seen new).state roomier new_held t new_table reply
-    → is_frame reply ≡ true → (new ≡ device) ⊎ IsRight (asked_of (seen new)) (last_of (seen new))
-    → Holds began (seen new) (history ++ command_entry client number pick bytes reply ∷ []) limit (set tables client new_table) lists new_held present wrong_code)
+    → is_frame reply ≡ true → (new ≡ device) ⊎ IsRight contexts (asked_of (seen new)) (last_of (seen new))
+    → Holds contexts began (seen new) (history ++ command_entry client number pick bytes reply ∷ []) limit (set tables client new_table) lists new_held present wrong_code)
     is (subst (λ (r : Held). Moves seen client device new r new_held new_table
     → StepsAs (λ s. client_step client s bytes pick) (seen device).state (seen new).state r new_held (table_of tables client) new_table reply
-    → is_frame reply ≡ true → (new ≡ device) ⊎ IsRight (asked_of (seen new)) (last_of (seen new))
-    → Holds began (seen new) (history ++ command_entry client number pick bytes reply ∷ []) limit (set tables client new_table) lists new_held present wrong_code)
+    → is_frame reply ≡ true → (new ≡ device) ⊎ IsRight contexts (asked_of (seen new)) (last_of (seen new))
+    → Holds contexts began (seen new) (history ++ command_entry client number pick bytes reply ∷ []) limit (set tables client new_table) lists new_held present wrong_code)
     is_held (holds_carried seen client number pick bytes reply h none opened next has_room are most))
 
-pub table_faulted : {D : Type 0} (seen : D → Seen) {device new : D} {began : ℕ} {history : Entries} {limit : ℕ}
+pub table_faulted : {contexts : ContextLimits} {D : Type 0} (seen : D → Seen) {device new : D} {began : ℕ} {history : Entries} {limit : ℕ}
     {tables : List (List (Option ℕ))} {lists : List ℕ} {held roomier new_held : Held} {table new_table : List (Option ℕ)} {present : ℕ} {wrong_code : Option ℕ} (more : List Item) (client number : ℕ) (bytes : List ℕ)
-    → Holds began (seen device) history limit tables lists held present wrong_code
+    → Holds contexts began (seen device) history limit tables lists held present wrong_code
     → is_some wrong_code ≡ false → IsOpen history client → IsNextNumber history client number → HasRoom limit history bytes → AreMore held.objects.items more → length more ≤ PLACES_MOST
     → with_items held more ≡ roomier → table_of tables client ≡ table
     → Moves seen client device new roomier new_held new_table
     → Stays (seen device).state (seen new).state roomier new_held table new_table
     → Rose (seen device).faults (seen new).faults × (last_of (seen new) ≡ None)
-    → Holds began (seen new) (history ++ fault_entry client number (seen new).faults bytes (error_reply RC_DEVICE_FAULT) ∷ []) limit tables lists new_held present wrong_code
-table_faulted seen {device = device} {new = new} {began = began} {history = history} {limit = limit} {tables = tables} {lists = lists} {held = held} {roomier = roomier} {new_held = new_held} {new_table = new_table}
+    → Holds contexts began (seen new) (history ++ fault_entry client number (seen new).faults bytes (error_reply RC_DEVICE_FAULT) ∷ []) limit tables lists new_held present wrong_code
+table_faulted {contexts = contexts} seen {device = device} {new = new} {began = began} {history = history} {limit = limit} {tables = tables} {lists = lists} {held = held} {roomier = roomier} {new_held = new_held} {new_table = new_table}
     {present = present} {wrong_code = wrong_code} more client number bytes h none opened next has_room are most is_held is =
     subst (λ (t : List (Option ℕ)). Moves seen client device new roomier new_held new_table
     → Stays (seen device).state (seen new).state roomier new_held t new_table
     → Rose (seen device).faults (seen new).faults × (last_of (seen new) ≡ None)
-    → Holds began (seen new) (history ++ fault_entry client number (seen new).faults bytes (error_reply RC_DEVICE_FAULT) ∷ []) limit tables lists new_held present wrong_code)
+    → Holds contexts began (seen new) (history ++ fault_entry client number (seen new).faults bytes (error_reply RC_DEVICE_FAULT) ∷ []) limit tables lists new_held present wrong_code)
     is (subst (λ (r : Held). Moves seen client device new r new_held new_table
     → Stays (seen device).state (seen new).state r new_held (table_of tables client) new_table
     → Rose (seen device).faults (seen new).faults × (last_of (seen new) ≡ None)
-    → Holds began (seen new) (history ++ fault_entry client number (seen new).faults bytes (error_reply RC_DEVICE_FAULT) ∷ []) limit tables lists new_held present wrong_code)
+    → Holds contexts began (seen new) (history ++ fault_entry client number (seen new).faults bytes (error_reply RC_DEVICE_FAULT) ∷ []) limit tables lists new_held present wrong_code)
     is_held (holds_faulted seen client number bytes h none opened next has_room are most))
 
 -- what a call on the machine may begin with
-pub table_now : {began : ℕ} {seen : Seen} {history : Entries} {limit : ℕ} {tables : List (List (Option ℕ))} {lists : List ℕ} {held : Held}
-    {present : ℕ} {wrong_code : Option ℕ} (more : List Item) (client : ℕ) (table : List (Option ℕ)) → Holds began seen history limit tables lists held present wrong_code
+pub table_now : {contexts : ContextLimits} {began : ℕ} {seen : Seen} {history : Entries} {limit : ℕ} {tables : List (List (Option ℕ))} {lists : List ℕ} {held : Held}
+    {present : ℕ} {wrong_code : Option ℕ} (more : List Item) (client : ℕ) (table : List (Option ℕ)) → Holds contexts began seen history limit tables lists held present wrong_code
     → is_some wrong_code ≡ false → AreMore held.objects.items more → table_of tables client ≡ table → IsTable more client table
 table_now {history = history} {tables = tables} {held = held} {wrong_code = wrong_code} more client table h none are is =
     subst (λ (t : List (Option ℕ)). IsTable more client t) is ((more_tables (clients_of history).present tables held.objects.items more are (h.objects (none_is wrong_code none)).each).each client)
 
-pub moves_now : {D : Type 0} (seen : D → Seen) (device : D) {began : ℕ} {history : Entries} {limit : ℕ} {tables : List (List (Option ℕ))} {lists : List ℕ} {held roomier : Held}
-    {present : ℕ} {wrong_code : Option ℕ} (more : List Item) → is_some (seen device).state ≡ is_some (seen device).base → Holds began (seen device) history limit tables lists held present wrong_code
-    → AreMore held.objects.items more → with_items held more ≡ roomier → MayMove 2000 seen device roomier
-moves_now seen device {history = history} {tables = tables} {held = held} more same h are is_held =
-    subst (λ (r : Held). MayMove 2000 seen device r) is_held (may_move seen device history tables held more same h.stands are (few-entries h.journal) h.slots_are h.range)
+pub moves_now : {contexts : ContextLimits} {D : Type 0} (seen : D → Seen) (device : D) {began : ℕ} {history : Entries} {limit : ℕ} {tables : List (List (Option ℕ))} {lists : List ℕ} {held roomier : Held}
+    {present : ℕ} {wrong_code : Option ℕ} (more : List Item) → is_some (seen device).state ≡ is_some (seen device).base → Holds contexts began (seen device) history limit tables lists held present wrong_code
+    → AreMore held.objects.items more → with_items held more ≡ roomier → MayMove 2000 contexts seen device roomier
+moves_now {contexts = contexts} seen device {history = history} {tables = tables} {held = held} more same h are is_held =
+    subst (λ (r : Held). MayMove 2000 contexts seen device r) is_held (may_move seen device history tables held more same h.stands are (few-entries h.journal) h.slots_are h.range h.made_for)
 
 -- an item more, or none
 pub are_more : (items more : List Item) → (more ≡ items) ⊎ ((list_any is_vacant items ≡ false) × (more ≡ items ++ no_item ∷ [])) → AreMore items more
 are_more items more (inl same) = inl same
 are_more items more (inr longer) = inr longer.1
 
-pub few_more : {began : ℕ} {seen : Seen} {history : Entries} {limit : ℕ} {tables : List (List (Option ℕ))} {lists : List ℕ} {held : Held}
-    {present : ℕ} {wrong_code : Option ℕ} (more : List Item) → Holds began seen history limit tables lists held present wrong_code
+pub few_more : {contexts : ContextLimits} {began : ℕ} {seen : Seen} {history : Entries} {limit : ℕ} {tables : List (List (Option ℕ))} {lists : List ℕ} {held : Held}
+    {present : ℕ} {wrong_code : Option ℕ} (more : List Item) → Holds contexts began seen history limit tables lists held present wrong_code
     → is_some wrong_code ≡ false → AreMore held.objects.items more → length more ≤ length history + 1
 few_more {held = held} {wrong_code = wrong_code} more h none are = omega (arith, (h.objects (none_is wrong_code none)).short, more_length held.objects.items more are)

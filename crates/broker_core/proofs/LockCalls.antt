@@ -6,6 +6,7 @@ use Rattle.tab_spec.specs.Count.{Rose, largest_count}
 use Rattle.tab_spec.specs.declared.numbers.Numbers.{Numbers}
 use Rattle.tab_spec.specs.Persist.{Persist}
 use Rattle.tab_spec.specs.Reply.{error_reply}
+use Rattle.tab_spec.specs.declared.contexts.ContextLimits.{ContextLimits}
 use Rattle.device_port.specs.Device.{Seen}
 use Rattle.tab_laws.proofs.Outcomes.{not_some}
 use Rattle.device_spec.specs.Slots.{SlotState}
@@ -63,51 +64,51 @@ answered client number pick bytes reply e is = subst (λ (x : Entry). lock.IsAns
 
 -- ---- the calls
 
-abbrev pub fixed_of : {D : Type 0} → Option Origin → BrokerView D → Fixed
-fixed_of base b = record { base = base; limit = b.limit; began = b.began }
+abbrev pub fixed_of : {D : Type 0} → ContextLimits → Option Origin → BrokerView D → Fixed
+fixed_of contexts base b = record { base = base; limit = b.limit; began = b.began; contexts = contexts }
 
-pub opens : {D : Type 0} (base : Option Origin) (old new : BrokerView D) (result : Result ℕ OpenClientError)
+pub opens : (contexts : ContextLimits) {D : Type 0} (base : Option Origin) (old new : BrokerView D) (result : Result ℕ OpenClientError)
     → IfOk result (λ client. (client ≡ (clients_of old.journal).opened) × HasRoomForClient old.limit old.journal
     × (new ≡ record old { journal = old.journal ++ open_entry client ∷ []; tables = old.tables ++ [] ∷ []; held = with_owners old.held new.held.objects.owners }))
     → OnErr result (new ≡ old)
     → ((count limit : ℕ) → result ≡ Err (open_errors.JournalFull count limit) → (HasRoomForClient old.limit old.journal → ⊥) × (count ≡ kept old.journal) × (limit ≡ old.limit))
     → (result ≡ Err open_errors.Memory → HasRoomForClient old.limit old.journal)
     → (result ≡ Err open_errors.Answer → base ≡ None)
-    → lock.Opens (fixed_of base old) old.journal new.journal result
-opens {D} base old new (Ok client) ok err full room none = record { client_is = ok.0; room = ok.1; entered = ap (λ (b : BrokerView D). b.journal) ok.2 }
-opens {D} base old new (Err open_errors.Memory) ok err full room none = (ap (λ (b : BrokerView D). b.journal) err, room refl)
-opens {D} base old new (Err (open_errors.JournalFull count limit)) ok err full room none =
+    → lock.Opens (fixed_of contexts base old) old.journal new.journal result
+opens contexts {D = D} base old new (Ok client) ok err full room none = record { client_is = ok.0; room = ok.1; entered = ap (λ (b : BrokerView D). b.journal) ok.2 }
+opens contexts {D = D} base old new (Err open_errors.Memory) ok err full room none = (ap (λ (b : BrokerView D). b.journal) err, room refl)
+opens contexts {D = D} base old new (Err (open_errors.JournalFull count limit)) ok err full room none =
     let is = full count limit refl in record { lacks = is.0; same = ap (λ (b : BrokerView D). b.journal) err; kept_is = is.1; limit_is = is.2 }
-opens {D} base old new (Err open_errors.Answer) ok err full room none = (ap (λ (b : BrokerView D). b.journal) err, none refl)
+opens contexts {D = D} base old new (Err open_errors.Answer) ok err full room none = (ap (λ (b : BrokerView D). b.journal) err, none refl)
 
-caused : {D : Type 0} (seen : D → Seen) (old new : BrokerView D) (client number : ℕ) (bytes : List ℕ) (e : Entry) → old.began ≤ largest_count
+caused : {contexts : ContextLimits} {D : Type 0} (seen : D → Seen) (old new : BrokerView D) (client number : ℕ) (bytes : List ℕ) (e : Entry) → old.began ≤ largest_count
     → FaultsCounted old.began (seen old.device).faults old.journal 0
-    → IsRefused old new client number bytes e ⊎ (IsFaulted seen old new client number bytes e ⊎ IsCarriedOut seen old new client number bytes e)
+    → IsRefused contexts old new client number bytes e ⊎ (IsFaulted contexts seen old new client number bytes e ⊎ IsCarriedOut contexts seen old new client number bytes e)
     → lock.IsAnswered client number bytes e ⊎ lock.IsFailed old.began client number bytes e
 caused seen old new client number bytes e low counted (inl refused) = inl (answered client number _ bytes _ e refused.entry)
 caused seen old new client number bytes e low counted (inr (inl faulted)) =
     inr (failed old.began (seen new.device).faults client number bytes e faulted.entry (rose_since old.began (seen old.device).faults (seen new.device).faults old.journal low counted faulted.rose))
 caused seen old new client number bytes e low counted (inr (inr carried)) = inl (answered client number _ bytes _ e carried.entry)
 
-pub tells : {D : Type 0} (seen : D → Seen) (base : Option Origin) (told : Told) (old new : BrokerView D) (client number : ℕ) (bytes reply : List ℕ)
+pub tells : (contexts : ContextLimits) {D : Type 0} (seen : D → Seen) (base : Option Origin) (told : Told) (old new : BrokerView D) (client number : ℕ) (bytes reply : List ℕ)
     → old.began ≤ largest_count → FaultsCounted old.began (seen old.device).faults old.journal 0 → (told ≡ tolds.Answer → base ≡ None)
-    → Tells seen told old new client number bytes reply → lock.Tells (fixed_of base old) old.journal new.journal client number bytes reply told
-tells {D} seen base tolds.Entered old new client number bytes reply low counted none is = record {
+    → Tells contexts seen told old new client number bytes reply → lock.Tells (fixed_of contexts base old) old.journal new.journal client number bytes reply told
+tells contexts {D = D} seen base tolds.Entered old new client number bytes reply low counted none is = record {
   e = is.e;
   entered = is.entered;
   cause = caused seen old new client number bytes is.e low counted is.cause;
   reply_is = is.reply_is;
   room = is.room;
 }
-tells {D} seen base tolds.Memory old new client number bytes reply low counted none is = (ap (λ (b : BrokerView D). b.journal) is.0, is.1, is.2)
-tells {D} seen base (tolds.JournalFull count limit) old new client number bytes reply low counted none is = record {
+tells contexts {D = D} seen base tolds.Memory old new client number bytes reply low counted none is = (ap (λ (b : BrokerView D). b.journal) is.0, is.1, is.2)
+tells contexts {D = D} seen base (tolds.JournalFull count limit) old new client number bytes reply low counted none is = record {
   lacks = is.lacks;
   same = ap (λ (b : BrokerView D). b.journal) is.same;
   reply_is = is.reply_is;
   kept_is = is.kept_is;
   limit_is = is.limit_is;
 }
-tells {D} seen base tolds.Answer old new client number bytes reply low counted none is = (is.0, is.1, none refl)
+tells contexts {D = D} seen base tolds.Answer old new client number bytes reply low counted none is = (is.0, is.1, none refl)
 
 pub may_leave : (fixed : Fixed) (old new : Held) (closed : Closed) → TellsLeft closed old new → (closed ≡ closes.Answer → fixed.base ≡ None)
     → lock.MayLeave fixed closed

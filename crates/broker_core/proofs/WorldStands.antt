@@ -8,7 +8,8 @@ use Rattle.tab_spec.specs.declared.numbers.Numbers.{Numbers}
 use Rattle.tab_spec.specs.Admission.{client_admitted}
 use Rattle.tab_spec.specs.Object.{Object}
 use Rattle.tab_spec.specs.Reply.{error_reply}
-use Rattle.tab_spec.specs.Numbers.{left_most}
+use Rattle.tab_spec.specs.Numbers.{leave_limit}
+use Rattle.tab_spec.specs.declared.contexts.TheConstants.{PROFILE_CONTEXTS}
 use Rattle.device_spec.specs.Slots.{SlotState, active_count, inactive, is_active}
 use Rattle.device_spec.specs.Slots as device
 use Rattle.object_swap.specs.Items.{Item, ItemStands, ObjectsStand, is_named, is_resident, item_at, item_object, naming, no_item}
@@ -244,7 +245,7 @@ pub stands-close : (world : World) (slots new : SlotState) (tables : List (List 
     → KeepsObjectsOf (other_than client) (Some slots) (Some new) held.objects.items new_held.objects.items → new.persist ≡ slots.persist
     → closed_sessions client held.sessions.numbers.active (sessions_in new new_held.sessions.items) new_held.sessions.left
     ≡ closed_sessions client held.sessions.numbers.active (sessions_in slots held.sessions.items) held.sessions.left
-    → length new_held.sessions.left ≤ left_most held.sessions.numbers.active → list_any (is_owned client) new_held.sessions.items ≡ false
+    → length new_held.sessions.left ≤ leave_limit held.sessions.numbers.active → list_any (is_owned client) new_held.sessions.items ≡ false
     → Stands (closed_world world client) new (set tables client []) new_held (n + 1)
 stands-close world slots new tables held new_held client n stands once inside present tabled settled numbers rose keeps persist closes few none =
     let active = held.sessions.numbers.active in
@@ -411,6 +412,18 @@ any_is p xs false is = none_counted p xs is
 no_orphan : (items : List (Option sessions.Item)) (number : ℕ) → count_by sessions.is_orphan items ≡ 0 → sessions.is_orphan (sessions.item_at items number) ≡ false
 no_orphan items number none = is_false (sessions.is_orphan (sessions.item_at items number)) (omega (arith, none, count_one sessions.is_orphan items number None refl))
 
+left_some : (item : Option sessions.Item) → is_left item ≡ true → is_some item ≡ true
+left_some None left = absurd cc
+left_some (Some item) left = refl
+
+-- each of those sessions is there
+pub held_there : (slots : SlotState) (held : Held) → IsSettled slots held → ListsThose is_left held.sessions.left held.sessions.items
+    → (number : ℕ) → list_any (λ one. one == number) held.sessions.left ≡ true → is_active (get_or slots.sessions number inactive) ≡ true
+held_there slots held settled listed number is =
+    let item = sessions.item_at held.sessions.items number in
+    let left = sym (any_is (λ (one : ℕ). one == number) held.sessions.left (is_left item) (listed.each number)) ∙ is in
+    sym (flags_same (is_some item) (is_active (place_at slots number)) (omega (arith, settled.sessions.owned number))) ∙ left_some item left
+
 -- and where there are no orphans, just those sessions
 pub held_only : (slots : SlotState) (held : Held) → IsSettled slots held → AreOpenOwners [] held.sessions.items
     → ((index : ℕ) → is_resident (item_at held.objects.items index) ≡ false) → ListsThose is_left held.sessions.left held.sessions.items
@@ -446,7 +459,7 @@ same_clients (c ∷ clients) client = table_before (c.number == client) c client
 
 refused-step : (world : World) (slots : SlotState) (tables : List (List (Option ℕ))) (held : Held) (client : ℕ) (bytes : List ℕ) (code n : ℕ)
     → Stands world slots tables held n → (present : List ℕ) → TablesStand present tables held.objects.items
-    → client_admitted (tables_seen client (table_of tables client) held.sessions.items) bytes ≡ Err code
+    → client_admitted (tables_seen PROFILE_CONTEXTS client (table_of tables client) held.sessions.items) bytes ≡ Err code
     → client_step client (state_in world client) bytes Nothing ≡ Some (state_in world client, error_reply code)
 refused-step world slots tables held client bytes code n stands present tabled refused =
     step_refused client (state_in world client) bytes Nothing code
@@ -455,7 +468,7 @@ refused-step world slots tables held client bytes code n stands present tabled r
 
 pub steps-refused : (world : World) (slots : SlotState) (tables : List (List (Option ℕ))) (held : Held) (client : ℕ) (bytes : List ℕ) (code n : ℕ)
     → Stands world slots tables held n → (present : List ℕ) → TablesStand present tables held.objects.items
-    → client_admitted (tables_seen client (table_of tables client) held.sessions.items) bytes ≡ Err code
+    → client_admitted (tables_seen PROFILE_CONTEXTS client (table_of tables client) held.sessions.items) bytes ≡ Err code
     → Stepped world client bytes (error_reply code) Nothing (world_with_state world client (state_in world client)) slots tables held (n + 1)
 steps-refused world slots tables held client bytes code n stands present tabled refused = record {
   stepped = plain_step_is world client bytes Nothing (Some (state_in world client, error_reply code))

@@ -7,9 +7,10 @@ use Rattle.tab_spec.specs.Count.{Rose, largest_count}
 use Rattle.tab_spec.specs.Admission.{Tables, client_admitted}
 use Rattle.tab_spec.specs.Frame.{is_frame}
 use Rattle.tab_spec.specs.declared.numbers.Numbers.{Numbers}
-use Rattle.tab_spec.specs.Numbers.{AreInRange, left_most}
+use Rattle.tab_spec.specs.Numbers.{AreInRange, leave_limit}
 use Rattle.tab_spec.specs.Persist.{Persist}
 use Rattle.tab_spec.specs.Reply.{error_reply}
+use Rattle.tab_spec.specs.declared.contexts.ContextLimits.{ContextLimits}
 use Rattle.device_spec.specs.Answers.{IsRight, IsWrongAnswer}
 use Rattle.device_spec.specs.Slots as device
 use Rattle.device_spec.specs.Slots.{SlotState, inactive, is_active}
@@ -29,7 +30,7 @@ use Rattle.world_spec.specs.Legal.{Legal}
 use Rattle.world_spec.specs.World.{world_of}
 use Rattle.client_machine.specs.declared.held.Held.{Held}
 use Rattle.client_machine.specs.Costs.{SendsUpTo, StaysIn, new_bound}
-use Rattle.client_machine.specs.Moves.{Executes, FailsAtLast, IsAtHand, IsCalm, KeepsOwners, any_client, moves_for, pick_of, saved_number}
+use Rattle.client_machine.specs.Moves.{Executes, FailsAtLast, IsAtHand, IsCalm, IsFor, KeepsOwners, any_client, moves_for, pick_of, saved_number}
 use Rattle.client_machine.specs.Settled.{orphan_count}
 use Rattle.broker_core.specs.Stands.{Stands}
 use Rattle.client_machine.specs.Tables.{AreOpenOwners, owned_handles, tables_seen}
@@ -124,25 +125,26 @@ pub record HeldHolds (began faults : ℕ) (history : List Entry) (tables : List 
   -- a session is that of an open client, or it was left, or it is an orphan
   pub owners : AreOpenOwners (clients_of history).present held.sessions.items
   -- no more are left than may be
-  pub left_few : length held.sessions.left ≤ left_most held.sessions.numbers.active
+  pub left_few : length held.sessions.left ≤ leave_limit held.sessions.numbers.active
   pub counted : FaultsCounted began faults history (orphan_count held)
 
 -- what holds of the last answer
-pub record AnswersHold (seen : Seen) (wrong_code : Option ℕ) : Type 0 where
-  pub answer : IfSome wrong_code (IsWrongAnswer (asked_of seen) (last_of seen))
+pub record AnswersHold (contexts : ContextLimits) (seen : Seen) (wrong_code : Option ℕ) : Type 0 where
+  pub answer : IfSome wrong_code (IsWrongAnswer contexts (asked_of seen) (last_of seen))
   -- no answer was taken that every broker would refuse
-  pub right : wrong_code ≡ None → IsRight (asked_of seen) (last_of seen)
+  pub right : wrong_code ≡ None → IsRight contexts (asked_of seen) (last_of seen)
   -- a device that tells its state gives no wrong answer
   pub taken : IsSome seen.state → wrong_code ≡ None
 
--- what holds of each broker, with what its device tells
-pub record Holds (began : ℕ) (seen : Seen) (history : List Entry) (limit : ℕ) (tables : List (List (Option ℕ))) (lists : List ℕ) (held : Held) (present : ℕ) (wrong_code : Option ℕ) : Type 0 where
+-- what holds of each broker over a device with these contexts, with what its device tells
+pub record Holds (contexts : ContextLimits) (began : ℕ) (seen : Seen) (history : List Entry) (limit : ℕ) (tables : List (List (Option ℕ))) (lists : List ℕ) (held : Held) (present : ℕ) (wrong_code : Option ℕ) : Type 0 where
   pub stands : StandsFor seen.base seen.state history tables held
   pub journal : JournalHolds history limit seen.faults (length tables) present
   pub objects : wrong_code ≡ None → HeldHolds began seen.faults history tables lists held
-  pub answers : AnswersHold seen wrong_code
+  pub answers : AnswersHold contexts seen wrong_code
   pub faulted : FaultsCounted began seen.faults history 0
-  -- it is held for a device of these numbers
+  -- it is held for a device with these contexts, and of these numbers
+  pub made_for : IsFor contexts held
   pub slots_are : held.objects.slots ≡ held.sessions.numbers.slots
   pub range : AreInRange held.sessions.numbers
   -- a command that met a wrong answer may have made an item, and has no entry
@@ -157,26 +159,27 @@ pub record HoldsOnly (slots : SlotState) (left : List ℕ) : Type 0 where
   pub just : (number : ℕ) → is_active (get_or slots.sessions number inactive) ≡ list_any (λ one. one == number) left
 
 -- what the device holds where no client is open: the sessions that were left, no more than may be, and orphans, no more than
--- transmissions failed; where there are none, just what was left
+-- transmissions failed; where there are no orphans, just the sessions that were left
 pub record HoldsLeft (began faults : ℕ) (history : List Entry) (slots : SlotState) (left : List ℕ) : Type 0 where
-  pub few : length left ≤ left_most slots.numbers.active
+  pub few : length left ≤ leave_limit slots.numbers.active
   pub orphans : ℕ
   pub held_is : device.held slots ≡ length left + orphans
   pub counted : FaultsCounted began faults history orphans
+  pub there : (number : ℕ) → list_any (λ one. one == number) left ≡ true → is_active (get_or slots.sessions number inactive) ≡ true
   pub only : orphans ≡ 0 → HoldsOnly slots left
 
 -- ---- what becomes of a command
 
 -- the command's shape and authorizations, or the code with which the broker refuses it over its client's table
-abbrev pub seen_by : {D : Type 0} → BrokerView D → ℕ → Tables
-seen_by b client = tables_seen client (table_of b.tables client) b.held.sessions.items
+abbrev pub seen_by : {D : Type 0} → ContextLimits → BrokerView D → ℕ → Tables
+seen_by contexts b client = tables_seen contexts client (table_of b.tables client) b.held.sessions.items
 
-abbrev pub checked : {D : Type 0} → BrokerView D → ℕ → List ℕ → Result Admitted ℕ
-checked b client bytes = client_admitted (seen_by b client) bytes
+abbrev pub checked : {D : Type 0} → ContextLimits → BrokerView D → ℕ → List ℕ → Result Admitted ℕ
+checked contexts b client bytes = client_admitted (seen_by contexts b client) bytes
 
 -- no step of the order of refusals refuses the command
-abbrev pub IsAdmitted : {D : Type 0} → BrokerView D → ℕ → List ℕ → Type 0
-IsAdmitted b client bytes = (a : Admitted) × (checked b client bytes ≡ Ok a)
+abbrev pub IsAdmitted : {D : Type 0} → ContextLimits → BrokerView D → ℕ → List ℕ → Type 0
+IsAdmitted contexts b client bytes = (a : Admitted) × (checked contexts b client bytes ≡ Ok a)
 
 -- the journal can take the entry of this command with the largest reply
 abbrev pub IsReadyFor : JournalView → List ℕ → Type 0
@@ -191,20 +194,20 @@ TellsNoRoom (tolds.JournalFull count most) limit history bytes reply =
 TellsNoRoom tolds.Answer limit history bytes reply = ⊥
 
 -- The broker refused the command by itself, and sent nothing.
-pub record IsRefused {D : Type 0} (old new : BrokerView D) (client number : ℕ) (bytes : List ℕ) (e : Entry) : Type 0 where
+pub record IsRefused {D : Type 0} (contexts : ContextLimits) (old new : BrokerView D) (client number : ℕ) (bytes : List ℕ) (e : Entry) : Type 0 where
   pub code : ℕ
-  pub refused : checked old client bytes ≡ Err code
+  pub refused : checked contexts old client bytes ≡ Err code
   pub entry : e ≡ command_entry client number Nothing bytes (error_reply code)
   pub same : new ≡ record old { journal = old.journal ++ e ∷ [] }
 
 -- A transmission failed, and the command wasn't run. Nothing was sent after it, and what was sent before it was answered.
-pub record IsFaulted {D : Type 0} (seen : D → Seen) (old new : BrokerView D) (client number : ℕ) (bytes : List ℕ) (e : Entry) : Type 0 where
+pub record IsFaulted {D : Type 0} (contexts : ContextLimits) (seen : D → Seen) (old new : BrokerView D) (client number : ℕ) (bytes : List ℕ) (e : Entry) : Type 0 where
   pub a : Admitted
-  pub admitted : checked old client bytes ≡ Ok a
+  pub admitted : checked contexts old client bytes ≡ Ok a
   pub entry : e ≡ fault_entry client number (seen new.device).faults bytes (error_reply RC_DEVICE_FAULT)
   pub rose : Rose (seen old.device).faults (seen new.device).faults
   pub failed : last_of (seen new.device) ≡ None
-  pub sent : FailsAtLast seen old.device new.device
+  pub sent : FailsAtLast contexts seen old.device new.device
   pub tables : new.tables ≡ old.tables
   -- each client has the sessions and the objects that it had, and the same sessions are left
   pub sessions : owned_handles new.held.sessions.items ≡ owned_handles old.held.sessions.items
@@ -212,24 +215,24 @@ pub record IsFaulted {D : Type 0} (seen : D → Seen) (old new : BrokerView D) (
   pub objects : KeepsOwners any_client old.held.objects.items new.held.objects.items
 
 -- The command was carried out, and the entry has the client's own reply.
-pub record IsCarriedOut {D : Type 0} (seen : D → Seen) (old new : BrokerView D) (client number : ℕ) (bytes : List ℕ) (e : Entry) : Type 0 where
+pub record IsCarriedOut {D : Type 0} (contexts : ContextLimits) (seen : D → Seen) (old new : BrokerView D) (client number : ℕ) (bytes : List ℕ) (e : Entry) : Type 0 where
   pub a : Admitted
-  pub admitted : checked old client bytes ≡ Ok a
+  pub admitted : checked contexts old client bytes ≡ Ok a
   pub entry : e ≡ command_entry client number (pick_of a e.reply) bytes e.reply
-  pub executes : Executes seen client old.device new.device old.held new.held
+  pub executes : Executes contexts seen client old.device new.device old.held new.held
       (table_of old.tables client) (table_of new.tables client) a bytes e.reply
   -- where no renewal was due
   pub stays : gap_kept old.held.sessions < renewal_gap old.held.sessions.numbers → StaysIn 1 1 (saved_number a) old.held new.held
   pub tables : new.tables ≡ set old.tables client (table_of new.tables client)
 
 -- the entry of a command
-pub record IsEntered {D : Type 0} (seen : D → Seen) (old new : BrokerView D) (client number : ℕ) (bytes reply : List ℕ) : Type 0 where
+pub record IsEntered {D : Type 0} (contexts : ContextLimits) (seen : D → Seen) (old new : BrokerView D) (client number : ℕ) (bytes reply : List ℕ) : Type 0 where
   pub e : Entry
   pub entered : new.journal ≡ old.journal ++ e ∷ []
   pub reply_is : reply ≡ e.reply
   pub room : HasRoom old.limit old.journal bytes
-  pub cause : IsRefused old new client number bytes e ⊎ (IsFaulted seen old new client number bytes e
-      ⊎ IsCarriedOut seen old new client number bytes e)
+  pub cause : IsRefused contexts old new client number bytes e ⊎ (IsFaulted contexts seen old new client number bytes e
+      ⊎ IsCarriedOut contexts seen old new client number bytes e)
 
 -- the journal has no room for the command, which changes nothing
 pub record IsFull {D : Type 0} (old new : BrokerView D) (bytes reply : List ℕ) (count limit : ℕ) : Type 0 where
@@ -240,20 +243,20 @@ pub record IsFull {D : Type 0} (old new : BrokerView D) (bytes reply : List ℕ)
   pub limit_is : limit ≡ old.limit
 
 -- what a client is told, and what becomes of the broker
-abbrev pub Tells : {D : Type 0} (seen : D → Seen) → Told → (old new : BrokerView D) (client number : ℕ) (bytes reply : List ℕ) → Type 0
-Tells seen tolds.Entered old new client number bytes reply = IsEntered seen old new client number bytes reply
-Tells seen tolds.Memory old new client number bytes reply =
-    (new ≡ old) × IsToldMemory bytes reply × HasRoom old.limit old.journal bytes × IsAdmitted old client bytes
-Tells seen (tolds.JournalFull count limit) old new client number bytes reply = IsFull old new bytes reply count limit
-Tells seen tolds.Answer old new client number bytes reply = (new.journal ≡ old.journal) × (reply ≡ error_reply RC_DEVICE_ANSWER) × (new.tables ≡ old.tables)
+abbrev pub Tells : {D : Type 0} (contexts : ContextLimits) (seen : D → Seen) → Told → (old new : BrokerView D) (client number : ℕ) (bytes reply : List ℕ) → Type 0
+Tells contexts seen tolds.Entered old new client number bytes reply = IsEntered contexts seen old new client number bytes reply
+Tells contexts seen tolds.Memory old new client number bytes reply =
+    (new ≡ old) × IsToldMemory contexts bytes reply × HasRoom old.limit old.journal bytes × IsAdmitted contexts old client bytes
+Tells contexts seen (tolds.JournalFull count limit) old new client number bytes reply = IsFull old new bytes reply count limit
+Tells contexts seen tolds.Answer old new client number bytes reply = (new.journal ≡ old.journal) × (reply ≡ error_reply RC_DEVICE_ANSWER) × (new.tables ≡ old.tables)
 
 -- what a command sends at the most, whatever is told, also over a device that shows nothing
-pub record Costs {D : Type 0} (seen : D → Seen) (old new : BrokerView D) (client : ℕ) (bytes : List ℕ) : Type 0 where
+pub record Costs {D : Type 0} (contexts : ContextLimits) (seen : D → Seen) (old new : BrokerView D) (client : ℕ) (bytes : List ℕ) : Type 0 where
   pub most : SendsUpTo seen (new_bound (orphan_count old.held) (gap_kept old.held.sessions) old.held.sessions.numbers) old.device new.device
-  pub at_hand : (a : Admitted) → checked old client bytes ≡ Ok a → IsAtHand old.held (table_of old.tables client) a bytes
+  pub at_hand : (a : Admitted) → checked contexts old client bytes ≡ Ok a → IsAtHand contexts old.held (table_of old.tables client) a bytes
       → SendsUpTo seen 1 old.device new.device
-  pub few : (a : Admitted) → checked old client bytes ≡ Ok a → IsCalm old.held
-      → SendsUpTo seen (moves_for old.held (table_of old.tables client) a bytes + 1) old.device new.device
+  pub few : (a : Admitted) → checked contexts old client bytes ≡ Ok a → IsCalm old.held
+      → SendsUpTo seen (moves_for contexts old.held (table_of old.tables client) a bytes + 1) old.device new.device
 
 -- The command was canceled, and wasn't run: it has an entry, and nothing else changed.
 pub record IsCanceled {D : Type 0} (old new : BrokerView D) (client number upto : ℕ) (bytes reply : List ℕ) : Type 0 where
@@ -287,12 +290,12 @@ LackedMemory old new = (numbers : Numbers) × IsStarted old.trace new.trace numb
 -- why a broker didn't begin: a transmission failed, or the response to it is a wrong answer, and that was the last one; or memory
 -- lacked; or a number of the device is out of range, and nothing was sent after the response that tells it. In the other cases each
 -- number that the device told is in range.
-abbrev pub HasCause : {D : Type 0} (seen : D → Seen) → BeginError → (old new : D) → Type 0
-HasCause seen (begin_errors.Device count) old new =
-    StopsUnanswered (seen old).trace (seen new).trace × (last_of (seen new) ≡ None) × Rose (seen old).faults (seen new).faults × (count ≡ (seen new).faults)
-HasCause seen (begin_errors.Answer code) old new =
-    StopsUnanswered (seen old).trace (seen new).trace × IsWrongAnswer (asked_of (seen new)) (last_of (seen new)) code × ((seen new).state ≡ None)
-HasCause seen begin_errors.Memory old new = (new ≡ old) ⊎ LackedMemory (seen old) (seen new)
-HasCause seen (begin_errors.Numbers property value) old new =
+abbrev pub HasCause : {D : Type 0} (contexts : ContextLimits) (seen : D → Seen) → BeginError → (old new : D) → Type 0
+HasCause contexts seen (begin_errors.Device count) old new =
+    StopsUnanswered contexts (seen old).trace (seen new).trace × (last_of (seen new) ≡ None) × Rose (seen old).faults (seen new).faults × (count ≡ (seen new).faults)
+HasCause contexts seen (begin_errors.Answer code) old new =
+    StopsUnanswered contexts (seen old).trace (seen new).trace × IsWrongAnswer contexts (asked_of (seen new)) (last_of (seen new)) code × ((seen new).state ≡ None)
+HasCause contexts seen begin_errors.Memory old new = (new ≡ old) ⊎ LackedMemory (seen old) (seen new)
+HasCause contexts seen (begin_errors.Numbers property value) old new =
     StopsAtNumber (seen old).trace (seen new).trace property value
     × IfSome (seen old).state (λ slots. AreInRange slots.numbers → ⊥)

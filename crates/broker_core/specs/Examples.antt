@@ -8,6 +8,7 @@ use Rattle.effect_spec.specs.Sessions.{initial_session}
 use Rattle.object_swap.specs.Items.{Item}
 use Rattle.session_swap.specs.Items as sessions
 use Rattle.tab_spec.specs.Examples.{u32}
+use Rattle.tab_spec.specs.declared.contexts.TheConstants.{PROFILE_CONTEXTS}
 use Rattle.world_spec.specs.Examples.{begun_policy, first_context, first_nonce, world_of_sessions}
 use Rattle.world_spec.specs.World.{World}
 use Rattle.client_machine.specs.declared.held.Held.{Held}
@@ -37,8 +38,16 @@ two_sessions = Some (record { client = Some 0; handle = 0x03000000; saved = None
 -- these objects, and these sessions under the first numbers; what lists the clients have doesn't count
 abbrev pub held_with : List Item → List (Option sessions.Item) → Held
 held_with items first = record {
-  objects = record { items = items; slots = 3; order = []; owners = []; left = [] };
-  sessions = record { numbers = profile_numbers; items = first ++ replicate (64 - length first) None; next = 0; order = []; saved = []; left = [] };
+  objects = record { items = items; slots = 3; order = []; owners = []; left = []; contexts = PROFILE_CONTEXTS };
+  sessions = record {
+    numbers = profile_numbers;
+    items = first ++ replicate (64 - length first) None;
+    next = 0;
+    order = [];
+    saved = [];
+    left = [];
+    contexts = PROFILE_CONTEXTS;
+  };
 }
 
 -- the same with an orphan in the slot 2

@@ -98,7 +98,7 @@ impl<D: Device> Model for Broker<D> {
 
     // The tables that are kept are those of the open clients.
     ghost invariant = { λ b.
-        Holds b.began (D.seen b.machine.device) b.journal.entries b.journal.limit
+        Holds D.CONTEXTS b.began (D.seen b.machine.device) b.journal.entries b.journal.limit
         b.tables.items b.tables.lists b.machine.held b.present b.wrong_code
         × (b.tables.present ≡ (clients_of b.journal.entries).present) };
 }
@@ -284,7 +284,7 @@ impl<D: Device> Broker<D> {
         ensures cleared { IfOk result
             (λ b. ClearedIf (D.seen device).state (D.seen b.device).state) }
         ensures keeps { IfOk result (λ b. Keeps D.seen device b.device) }
-        ensures cause { IfErr result (λ e. HasCause D.seen e.0 device e.1) }
+        ensures cause { IfErr result (λ e. HasCause D.CONTEXTS D.seen e.0 device e.1) }
         // It holds no more than it did, and keeps what it kept.
         ensures keeps_err { IfErr result (λ e. Keeps D.seen device e.1
             × HoldsNoMoreIf (D.seen device).state (D.seen e.1).state) }
@@ -316,10 +316,10 @@ impl<D: Device> Broker<D> {
                 return Err((BeginError::Numbers { property, value }, device));
             }
         };
-        let Ok(objects) = Objects::new(alloc, numbers.slots) else {
+        let Ok(objects) = Objects::new(alloc, numbers.slots, D::CONTEXTS) else {
             return Err((BeginError::Memory, device));
         };
-        let Ok(sessions) = Sessions::new(alloc, numbers) else {
+        let Ok(sessions) = Sessions::new(alloc, numbers, D::CONTEXTS) else {
             return Err((BeginError::Memory, device));
         };
         Ok(Broker {
@@ -397,14 +397,15 @@ impl<D: Device> Broker<D> {
         requires number { IsNextNumber self.old.journal client number }
         // The entry is a refusal of the broker's own, a failed transmission, or what came back from
         // the device, with the client's handle for a new object.
-        ensures told { Tells D.seen result self.old self.new client number bytes.now reply.new }
+        ensures told { Tells D.CONTEXTS D.seen result self.old self.new client number
+            bytes.now reply.new }
         // `Answer` comes exactly after a wrong answer. A device that tells its state gives none.
         ensures answer { (result ≡ tolds.Answer) ↔ IsSome self.new.wrong_code }
-        ensures last_answer { AnswersHold (D.seen self.new.device) self.new.wrong_code }
+        ensures last_answer { AnswersHold D.CONTEXTS (D.seen self.new.device) self.new.wrong_code }
         // After a wrong answer a call changes nothing.
         ensures unchanged { IsSome self.old.wrong_code → self.new ≡ self.old }
         ensures keeps { Keeps D.seen self.old.device self.new.device }
-        ensures costs { Costs D.seen self.old self.new client bytes.now }
+        ensures costs { Costs D.CONTEXTS D.seen self.old self.new client bytes.now }
         ensures left { orphan_count self.new.held ≤ orphan_count self.old.held }
         ensures fixed { (self.new.began ≡ self.old.began) × (self.new.limit ≡ self.old.limit)
             × (self.new.held.sessions.numbers ≡ self.old.held.sessions.numbers) }
@@ -418,6 +419,7 @@ impl<D: Device> Broker<D> {
         }
         let seen = ClientView {
             client,
+            contexts: D::CONTEXTS,
             table: self.tables.table(client),
             sessions: &self.machine.held.sessions,
         };
@@ -515,7 +517,8 @@ impl<D: Device> Broker<D> {
         ensures costs { SendsUpTo D.seen (close_bound client self.old.held)
             self.old.device self.new.device }
         // Nothing is sent but flushes, and no wrong answer to one is passed over.
-        ensures sent { SendsFlushes D.seen self.old.device self.new.device (closes_wrong result) }
+        ensures sent { SendsFlushes D.CONTEXTS D.seen self.old.device self.new.device
+            (closes_wrong result) }
         ensures fixed { (self.new.began ≡ self.old.began) × (self.new.limit ≡ self.old.limit)
             × (self.new.held.sessions.numbers ≡ self.old.held.sessions.numbers) }
     {
@@ -547,7 +550,8 @@ impl<D: Device> Broker<D> {
         ensures costs { SendsUpTo D.seen (close_bound client self.old.held)
             self.old.device self.new.device }
         // Nothing is sent but flushes, and no wrong answer to one is passed over.
-        ensures sent { SendsFlushes D.seen self.old.device self.new.device (closes_wrong result) }
+        ensures sent { SendsFlushes D.CONTEXTS D.seen self.old.device self.new.device
+            (closes_wrong result) }
         ensures steps { (steps.new ≤ steps.old + 6 * own_objects client self.old.held.objects.items)
             × ((result ≡ closes.Answer → ⊥)
             → steps.old + 3 * own_objects client self.old.held.objects.items ≤ steps.new) }
@@ -574,8 +578,8 @@ impl<D: Device> Broker<D> {
     /// fewer than ten bytes.
     pub fn wrong_answer(&self) -> Option<u64>
         ensures code { result ≡ self.now.wrong_code }
-        ensures cause { IfSome result
-            (IsWrongAnswer (asked_of (D.seen self.now.device)) (last_of (D.seen self.now.device))) }
+        ensures cause { IfSome result (IsWrongAnswer D.CONTEXTS
+            (asked_of (D.seen self.now.device)) (last_of (D.seen self.now.device))) }
     {
         self.wrong_code
     }
@@ -594,7 +598,7 @@ impl<D: Device> Broker<D> {
             HoldsLeft self.began (D.seen self.device).faults self.journal slots
             self.held.sessions.left) }
         ensures whole { AreWhole self.journal }
-        ensures last_answer { AnswersHold (D.seen self.device) self.wrong_code }
+        ensures last_answer { AnswersHold D.CONTEXTS (D.seen self.device) self.wrong_code }
     {
         self.machine.held.objects.show_vacant();
         // So which sessions are left is known here.
@@ -642,7 +646,8 @@ impl<D: Device> Broker<D> {
         ensures costs { SendsUpTo D.seen (close_bound client self.old.held)
             self.old.device self.new.device }
         // Nothing is sent but flushes, and no wrong answer to one is passed over.
-        ensures sent { SendsFlushes D.seen self.old.device self.new.device (closes_wrong result) }
+        ensures sent { SendsFlushes D.CONTEXTS D.seen self.old.device self.new.device
+            (closes_wrong result) }
         ensures steps { (C.count steps.new
             ≤ C.count steps.old + 6 * own_objects client self.old.held.objects.items)
             × ((result ≡ closes.Answer → ⊥) → C.count steps.old

@@ -34,6 +34,7 @@ impl<D: Device> Recorded for Broker<D> {
       base = origin_of (D.seen b.device).base b.held.sessions.numbers;
       limit = b.limit;
       began = b.began;
+      contexts = D.CONTEXTS;
     } };
 
     ghost wrong = { λ b. is_some b.wrong_code };

@@ -3,7 +3,9 @@ use Rattle.std.specs.Prelude.{◌≡◌, ℕ, ◌==◌, Bool, true, List, Option
 use Rattle.std.specs.List.{list_any, filter}
 use Rattle.tab_spec.specs.declared.numbers.Numbers.{Numbers}
 use Rattle.tab_spec.specs.Persist.{Persist}
+use Rattle.tab_spec.specs.declared.contexts.ContextLimits.{ContextLimits}
 use Rattle.history_spec.specs.Entry.{Entry, is_close_kind, own}
+use Rattle.history_spec.specs.Told.{Limits}
 
 -- what a history begins from: what its device keeps, and the numbers that this has
 pub record Origin : Type 0 where
@@ -23,6 +25,12 @@ pub record Fixed : Type 0 where
   pub limit : ℕ
   -- the device's fault count at the start
   pub began : ℕ
+  -- what the contexts of the device may be
+  pub contexts : ContextLimits
+
+-- what a client may be told by these
+abbrev pub limits_of : Fixed → Limits
+limits_of fixed = record { bytes = fixed.limit; contexts = fixed.contexts }
 
 -- legal over what it begins from, where that is told. Which histories are legal is said by what keeps the history
 abbrev pub IsLegalOver : (legal : Origin → List Entry → Type 0) → Option Origin → List Entry → Type 0

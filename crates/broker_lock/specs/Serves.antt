@@ -88,7 +88,7 @@ pub record IsFull (limit : ℕ) (before after : List Entry) (bytes reply : List 
 
 abbrev pub Tells : Fixed → List Entry → List Entry → (client number : ℕ) (bytes reply : List ℕ) → Told → Type 0
 Tells fixed before after client number bytes reply tolds.Entered = IsEntered fixed before after client number bytes reply
-Tells fixed before after client number bytes reply tolds.Memory = (after ≡ before) × IsToldMemory bytes reply × HasRoom fixed.limit before bytes
+Tells fixed before after client number bytes reply tolds.Memory = (after ≡ before) × IsToldMemory fixed.contexts bytes reply × HasRoom fixed.limit before bytes
 Tells fixed before after client number bytes reply (tolds.JournalFull count most) = IsFull fixed.limit before after bytes reply count most
 Tells fixed before after client number bytes reply tolds.Answer = (after ≡ before) × (reply ≡ error_reply RC_DEVICE_ANSWER) × IsUntold fixed
 
@@ -107,7 +107,7 @@ TellsCanceled fixed before after client number upto bytes reply tolds.Answer = (
 
 -- ---- a close
 
--- the answer to it: some of nobody's are left, and not none; or a wrong answer came, as it never does over a device that tells
+-- the answer to it: there are orphans, and not none; or a wrong answer came, as it never does over a device that tells
 -- its state
 abbrev pub MayLeave : Fixed → Closed → Type 0
 MayLeave fixed closes.Clean = Unit {0}

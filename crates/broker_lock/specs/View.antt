@@ -1,5 +1,6 @@
 -- What a seat at a lock's table knows.
 use Rattle.std.specs.Prelude.{ℕ, Bool, false, List, [], None}
+use Rattle.tab_spec.specs.declared.contexts.TheConstants.{PROFILE_CONTEXTS}
 use Rattle.history_spec.specs.Entry.{Entry}
 use Rattle.broker_lock.specs.Known.{Fixed}
 
@@ -25,7 +26,7 @@ first_view fixed = record { fixed = fixed; front = []; met = []; known = []; par
 -- a seat that was joined to another
 abbrev pub spent_view : SeatView
 spent_view = record {
-  fixed = record { base = None; limit = 0; began = 0 };
+  fixed = record { base = None; limit = 0; began = 0; contexts = PROFILE_CONTEXTS };
   front = [];
   met = [];
   known = [];

@@ -29,10 +29,10 @@ pub enum Told {
 /// What a client's close left.
 #[derive(Clone, Copy, PartialEq, Eq)]
 pub enum Closed {
-    /// Nothing that wasn't there before.
+    /// No orphan that wasn't there before.
     Clean,
-    /// Some of the client's objects or sessions, since their flush failed: how many of nobody's
-    /// are in the device now, at least one.
+    /// Some of the client's objects or sessions, since their flush failed: how many orphans are in
+    /// the device now, at least one.
     Orphans(u32),
     /// The device gave a wrong answer, here or before, so nothing more is sent to it.
     Answer,

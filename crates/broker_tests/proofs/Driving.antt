@@ -6,6 +6,7 @@ use Rattle.std.specs.Bool.{IsTrue}
 use Rattle.std.proofs.lemmas.Bool.{eq-eqb, ne_eqb}
 use Rattle.std.proofs.Math.Bool.{or-true}
 use Rattle.std.proofs.lemmas.List.Folds.{list_any-append}
+use Rattle.tab_spec.specs.declared.contexts.ContextLimits.{ContextLimits}
 use Rattle.history_spec.specs.Entry.{Clients, Entry, canceled_entry, clients_by, clients_of, close_entry, open_entry, IsNextNumber}
 use Rattle.device_port.specs.Device.{Seen}
 use Rattle.world_laws.proofs.Clients.{stay}
@@ -60,8 +61,8 @@ record IsPlain (history : List Entry) (number : ℕ) (e : Entry) : Type 0 where
   same : clients_by (clients_of history) e ≡ clients_of history
   number_is : e.number ≡ number
 
-is_plain : {D : Type 0} (seen : D → Seen) (old new : BrokerView D) (client number : ℕ) (bytes : List ℕ) (e : Entry)
-    → IsRefused old new client number bytes e ⊎ (IsFaulted seen old new client number bytes e ⊎ IsCarriedOut seen old new client number bytes e)
+is_plain : {contexts : ContextLimits} {D : Type 0} (seen : D → Seen) (old new : BrokerView D) (client number : ℕ) (bytes : List ℕ) (e : Entry)
+    → IsRefused contexts old new client number bytes e ⊎ (IsFaulted contexts seen old new client number bytes e ⊎ IsCarriedOut contexts seen old new client number bytes e)
     → IsPlain old.journal number e
 is_plain seen old new client number bytes e (inl refused) =
     subst (IsPlain old.journal number) (sym refused.entry) (record { same = refl; number_is = refl })
@@ -70,17 +71,17 @@ is_plain seen old new client number bytes e (inr (inl faulted)) =
 is_plain seen old new client number bytes e (inr (inr carried)) =
     subst (IsPlain old.journal number) (sym carried.entry) (record { same = refl; number_is = refl })
 
-pub told : {D : Type 0} (seen : D → Seen) (result : Told) (old new : BrokerView D) (client number : ℕ) (bytes reply : List ℕ) {closed opened : ℕ}
-    → Tells seen result old new client number bytes reply → IsDriven old.journal closed opened number
+pub told : (contexts : ContextLimits) {D : Type 0} (seen : D → Seen) (result : Told) (old new : BrokerView D) (client number : ℕ) (bytes reply : List ℕ) {closed opened : ℕ}
+    → Tells contexts seen result old new client number bytes reply → IsDriven old.journal closed opened number
     → IsDriven new.journal closed opened (number + 1)
-told seen tolds.Entered old new client number bytes reply {closed} {opened} t d =
+told contexts seen tolds.Entered old new client number bytes reply {closed} {opened} t d =
     let p = is_plain seen old new client number bytes t.e t.cause in
     subst (λ (h : List Entry). IsDriven h closed opened (number + 1)) (sym t.entered) (plain old.journal t.e p.same p.number_is d)
-told seen tolds.Memory old new client number bytes reply {closed} {opened} t d =
+told contexts seen tolds.Memory old new client number bytes reply {closed} {opened} t d =
     subst (λ (v : BrokerView _). IsDriven v.journal closed opened (number + 1)) (sym t.0) (more old.journal d)
-told seen (tolds.JournalFull count limit) old new client number bytes reply {closed} {opened} t d =
+told contexts seen (tolds.JournalFull count limit) old new client number bytes reply {closed} {opened} t d =
     subst (λ (v : BrokerView _). IsDriven v.journal closed opened (number + 1)) (sym t.same) (more old.journal d)
-told seen tolds.Answer old new client number bytes reply {closed} {opened} t d =
+told contexts seen tolds.Answer old new client number bytes reply {closed} {opened} t d =
     subst (λ (h : List Entry). IsDriven h closed opened (number + 1)) (sym t.0) (more old.journal d)
 
 pub canceled : {D : Type 0} (result : Told) (old new : BrokerView D) (client number upto : ℕ) (bytes reply : List ℕ) {closed opened : ℕ}

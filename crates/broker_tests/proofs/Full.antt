@@ -1,9 +1,9 @@
 -- Swappers in which each item is an object.
 use Rattle.std.proofs.Common.{◌≡◌, ◌+◌, ◌<◌, ℕ, zero, suc, Bool, true, false, List, [], ◌∷◌, ◌++◌, length, get_or, set, map, refl, ap, subst, sym, ◌∙◌, ◌⊎◌, inl, inr, arith, length-append, length-set}
-use Rattle.std.specs.Prelude.{◌||◌, Option, Result, Ok, Err, is_err, OnOk, OnErr}
+use Rattle.std.specs.Prelude.{◌||◌, Option, None, Result, Ok, Err, is_err, OnOk, OnErr}
 use Rattle.std.specs.List.{AllByRecursion, list_any}
 use Rattle.std.proofs.lemmas.Bool.{or_from, or_parts}
-use Rattle.std.proofs.lemmas.List.{length-map}
+use Rattle.std.proofs.lemmas.List.{get_or-set_same, length-map}
 use Rattle.object_swap.specs.Items.{AreThere, Item, Names, is_vacant, item_at, no_item, owners}
 
 any_owner : (items : List Item) → list_any (λ p. p.1) (owners items) ≡ list_any is_vacant items
@@ -48,6 +48,29 @@ pub all_there : (needed : List ℕ) (items : List Item) → list_any is_vacant i
 all_there [] items full inside = tt
 all_there (n ∷ needed) items full inside =
     (record { inside = inside.0; there = full_at items n full inside.0 }, all_there needed items full inside.1)
+
+at_owner : (items : List Item) (index : ℕ) → (get_or (owners items) index (None, true)).1 ≡ is_vacant (item_at items index)
+at_owner [] index = refl
+at_owner (item ∷ items) zero = refl
+at_owner (item ∷ items) (suc index) = at_owner items index
+
+-- an object that was there is there, where each has its owner still
+pub still_there : (items new_items : List Item) (index : ℕ) → owners new_items ≡ owners items → Names items index → AreThere (index ∷ []) new_items
+still_there items new_items index same names = (
+  record {
+    inside = omega (arith, same_count items new_items same, names.inside);
+    there = sym (at_owner new_items index) ∙ ap (λ (l : List (Option ℕ × Bool)). (get_or l index (None, true)).1) same ∙ at_owner items index ∙ names.there;
+  },
+  tt,
+)
+
+-- an object that was put there is
+pub put_there : (items new_items : List Item) (index : ℕ) (item : Item) → new_items ≡ set items index item → index < length items → is_vacant item ≡ false
+    → Names new_items index
+put_there items new_items index item is inside there = record {
+  inside = omega (arith, ap (λ (l : List Item). length l) is, length-set items index item, inside);
+  there = ap (λ (l : List Item). is_vacant (item_at l index)) is ∙ ap is_vacant (get_or-set_same items index item no_item inside) ∙ there;
+}
 
 pub from_ok : {A E : Type 0} (r : Result A E) (P : Type 0) → OnOk r P → is_err r ≡ false → P
 from_ok (Ok x) P p e = p

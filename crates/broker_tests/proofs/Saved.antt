@@ -4,6 +4,7 @@ use Rattle.std.specs.Prelude.{◌==◌, Option, Some, None, is_some, Result, Ok,
 use Rattle.std.proofs.lemmas.List.{get_or-set_same}
 use Rattle.tab_spec.specs.Shape.{number_of_session}
 use Rattle.tab_spec.specs.declared.TheConstants.{HEADER_BYTES}
+use Rattle.tab_spec.specs.declared.contexts.ContextLimits.{ContextLimits}
 use Rattle.session_swap.specs.Items.{Item, Names, SavesForClient, SessionsView, is_loaded_item, item_at, item_of, saved_by_client, with_handle}
 use Rattle.session_swap.proofs.Among.{loaded_inside, loaded_some, loaded_whole}
 
@@ -17,10 +18,10 @@ named_by : (context : List ℕ) (handle : ℕ) (item : Option Item) → is_loade
 named_by context handle None is = absurd cc
 named_by context handle (Some item) is = named_if (item.handle == handle) item _ is
 
-pub still_named : {A E : Type 0} (P : Type 0) (r : Result A E) (last : Option (List ℕ)) (reply : List ℕ) (handle : ℕ) (old new : SessionsView)
-    → is_loaded_item (item_of old.items handle) ≡ true → OnOk r (SavesForClient last reply handle old new × P) → OnErr r (new ≡ old)
+pub still_named : (contexts : ContextLimits) {A E : Type 0} (P : Type 0) (r : Result A E) (last : Option (List ℕ)) (reply : List ℕ) (handle : ℕ) (old new : SessionsView)
+    → is_loaded_item (item_of old.items handle) ≡ true → OnOk r (SavesForClient contexts last reply handle old new × P) → OnErr r (new ≡ old)
     → Names new.items handle
-still_named P (Ok x) last reply handle old new loaded saves same =
+still_named contexts P (Ok x) last reply handle old new loaded saves same =
     let n = number_of_session handle in
     let context = drop HEADER_BYTES reply in
     let inside = loaded_inside old.items n (loaded_whole handle (item_at old.items n) loaded) in
@@ -28,5 +29,5 @@ still_named P (Ok x) last reply handle old new loaded saves same =
     ap (λ (v : SessionsView). item_at v.items n) saves.0.view_is
     ∙ get_or-set_same old.items n (saved_by_client context (item_at old.items n)) None inside in
     ap (λ (item : Option Item). is_some (with_handle handle item)) at ∙ named_by context handle (item_at old.items n) loaded
-still_named P (Err e) last reply handle old new loaded saves same =
+still_named contexts P (Err e) last reply handle old new loaded saves same =
     subst (λ (v : SessionsView). Names v.items handle) (sym same) (loaded_some (item_of old.items handle) loaded)

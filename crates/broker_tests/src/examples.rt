@@ -2,6 +2,7 @@
 
 ghost use Rattle.std.specs.Prelude.{◌≡◌, [], ◌∷◌, true, false, Some, None, Ok, Err, replicate, set};
 ghost use Rattle.tab_spec.specs.Examples.{bytes_of, frame};
+ghost use Rattle.tab_spec.specs.declared.contexts.TheConstants.{PROFILE_CONTEXTS};
 ghost use Rattle.device_spec.specs.Examples.{device_at};
 ghost use Rattle.device_spec.specs.Slots.{with_slot};
 ghost use Rattle.history_spec.specs.Examples.{two_clients, zero_persist};
@@ -46,17 +47,23 @@ fn sessions_stand_for_those_of_the_world()
     ensures counted { orphan_count (held_beside three_items two_sessions) ≡ 2 }
     ensures present { AreOpenOwners (0 ∷ []) two_sessions }
     ensures closed { AreOpenOwners (1 ∷ []) two_sessions → ⊥ }
-    ensures own { (tables_seen 0 first_table two_sessions).has_session 0x03000000 ≡ true }
-    ensures others { (tables_seen 1 second_table two_sessions).has_session 0x03000000 ≡ false }
-    ensures nobodys { (tables_seen 0 first_table two_sessions).has_session 0x02000001 ≡ false }
-    ensures other_sort { (tables_seen 0 first_table two_sessions).has_session 0x02000000 ≡ false }
+    ensures own { (tables_seen PROFILE_CONTEXTS 0 first_table two_sessions).has_session 0x03000000
+        ≡ true }
+    ensures others { (tables_seen PROFILE_CONTEXTS 1 second_table two_sessions).has_session
+        0x03000000 ≡ false }
+    ensures nobodys { (tables_seen PROFILE_CONTEXTS 0 first_table two_sessions).has_session
+        0x02000001 ≡ false }
+    ensures other_sort { (tables_seen PROFILE_CONTEXTS 0 first_table two_sessions).has_session
+        0x02000000 ≡ false }
 {}
 
 // A session that a client saved is its own, and it can't use it.
 #[tactic(auto, unfolding(client_machine::specs::Listing::sessions_had))]
 fn saved_sessions_are_not_in_use()
-    ensures saved { (tables_seen 0 first_table handed_sessions).has_session 0x02000000 ≡ false }
-    ensures used { (tables_seen 0 first_table handed_sessions).has_session 0x03000002 ≡ true }
+    ensures saved { (tables_seen PROFILE_CONTEXTS 0 first_table handed_sessions).has_session
+        0x02000000 ≡ false }
+    ensures used { (tables_seen PROFILE_CONTEXTS 0 first_table handed_sessions).has_session
+        0x03000002 ≡ true }
     ensures own { (tables_had 0 first_table handed_sessions).has_session 0x02000000 ≡ true }
     ensures others { (tables_had 1 second_table handed_sessions).has_session 0x02000000 ≡ false }
     ensures flushed { flush_sent (tables_had 0 first_table handed_sessions) first_table three_items

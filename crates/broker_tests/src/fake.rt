@@ -1,8 +1,10 @@
 //! A device that tells nothing. Its contexts have a blob of one byte.
 ghost use Rattle.std.specs.Prelude.{◌≡◌, ◌≤◌, None, length, refl};
+ghost use Rattle.tab_spec.specs.declared.contexts.TheConstants.{PROFILE_CONTEXTS};
 
 use device_port::{Device, DeviceFailed, Trace};
 use tab_bytes::Buffer;
+use tab_spec::{ContextLimits, PROFILE_CONTEXTS};
 
 // The response to ContextSave of the session 0x02000001, with the number 5 (Part 2,
 // "TPMS_CONTEXT"): number, savedHandle, hierarchy, and the blob.
@@ -44,7 +46,15 @@ impl Device for Fake {
       trace = d.trace;
     } };
 
+    ghost CONTEXTS = { PROFILE_CONTEXTS };
+
+    const CONTEXTS: ContextLimits = PROFILE_CONTEXTS;
+
     ghost told_together = { λ _. refl };
+
+    ghost profile = { λ _. tt };
+
+    ghost short = { refl };
 
     fn transmit(&mut self, command: &[u8], reply: &mut Buffer) -> Result<(), DeviceFailed> {
         if self.fails {

@@ -1,5 +1,6 @@
 //! Sessions that a client saves and gives back, over a device that tells nothing.
 ghost use Rattle.std.specs.Prelude.{◌≡◌, true, IfOk};
+ghost use Rattle.tab_spec.specs.declared.contexts.TheConstants.{PROFILE_CONTEXTS};
 ghost use Rattle.session_swap.specs.Items.{Names, is_loaded_item, item_of};
 
 use crate::fake::{Fake, RESPONSE_5};
@@ -8,7 +9,7 @@ use session_swap::{Sessions, refresh};
 use std::alloc::Global;
 use std::test::Fail;
 use tab_bytes::Buffer;
-use tab_spec::Numbers;
+use tab_spec::{Numbers, PROFILE_CONTEXTS};
 
 // The handles of an HMAC session and of a policy session.
 const FIRST: u32 = 0x0200_0001;
@@ -47,6 +48,7 @@ struct Desk {
     sessions: Sessions,
     device: Fake,
     reply: Buffer,
+    ghost contexts: { sessions.contexts ≡ PROFILE_CONTEXTS },
 }
 
 impl Desk {
@@ -56,7 +58,7 @@ impl Desk {
         ensures second { IfOk result
             (λ d. is_loaded_item (item_of d.sessions.items SECOND) ≡ true) }
     {
-        let mut sessions = Sessions::new(alloc, Numbers::of_the_profile())?;
+        let mut sessions = Sessions::new(alloc, Numbers::of_the_profile(), PROFILE_CONTEXTS)?;
         sessions.adopt_session(7, FIRST);
         sessions.adopt_session(9, SECOND);
         Ok(Desk {
@@ -130,6 +132,11 @@ impl Desk {
         self.sessions
             .make_sessions(&mut self.device, &[FIRST], 0, &mut self.reply)
             .is_ok()
+    }
+
+    // Renews the contexts that are due, and returns how many these were; nothing where that failed.
+    fn renews(&mut self) -> Option<u32> {
+        refresh(&mut self.sessions, &mut self.device, &mut self.reply).ok()
     }
 
     // Whether these bytes are refused.
@@ -209,7 +216,7 @@ fn run_renewal(alloc: Global) -> Result<(u32, u64, bool), Fail> {
     if !desk.save_other() {
         return Ok((0, 0, false));
     }
-    let Ok(renewed) = refresh(&mut desk.sessions, &mut desk.device, &mut desk.reply) else {
+    let Some(renewed) = desk.renews() else {
         return Ok((0, 0, false));
     };
     let taken = desk.sessions.client_load(7, &CONTEXT_5) == Ok(FIRST);

@@ -4,6 +4,7 @@ use object_swap::Objects;
 use std::alloc::Global;
 use std::test::Fail;
 use tab_bytes::Buffer;
+use tab_spec::PROFILE_CONTEXTS;
 
 // The context of an object (Part 2, "TPMS_CONTEXT"): number, savedHandle, hierarchy, and a blob of
 // one byte.
@@ -32,7 +33,7 @@ fn others_are_not_kept(objects: &Objects) -> bool {
 fn run(alloc: Global) -> Result<[bool; 2], Fail> {
     let mut device = Fake::new();
     let mut reply = Buffer::new(alloc)?;
-    let mut objects = Objects::new(alloc, 3)?;
+    let mut objects = Objects::new(alloc, 3, PROFILE_CONTEXTS)?;
     let list = objects.add_client(7)?;
     objects.reserve()?;
     objects.adopt(7, list, 0x8000_0000);

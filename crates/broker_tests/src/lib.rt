@@ -20,6 +20,8 @@ mod given_back;
 #[cfg(test)]
 mod kept;
 #[cfg(test)]
+mod larger;
+#[cfg(test)]
 mod numbers;
 #[cfg(test)]
 mod objects;

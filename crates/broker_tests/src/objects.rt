@@ -2,6 +2,7 @@
 ghost use Rattle.std.specs.Prelude.{◌≡◌, ◌<◌, ◌+◌, [], Some, None, true, false, length};
 ghost use Rattle.std.specs.Prelude.{refl};
 ghost use Rattle.std.specs.List.{AllByRecursion, list_any};
+ghost use Rattle.tab_spec.specs.declared.contexts.TheConstants.{PROFILE_CONTEXTS};
 ghost use Rattle.object_swap.specs.Items.{is_vacant, owner_at};
 
 use device_memory::MemoryDevice;
@@ -10,6 +11,7 @@ use object_swap::Objects;
 use std::alloc::Global;
 use std::test::Fail;
 use tab_bytes::Buffer;
+use tab_spec::{ContextLimits, PROFILE_CONTEXTS};
 
 const STARTUP: [u8; 12] = [0x80, 0x01, 0, 0, 0, 12, 0, 0, 0x01, 0x44, 0, 0];
 
@@ -36,7 +38,15 @@ impl Device for Silent {
       trace = d.trace;
     } };
 
+    ghost CONTEXTS = { PROFILE_CONTEXTS };
+
+    const CONTEXTS: ContextLimits = PROFILE_CONTEXTS;
+
     ghost told_together = { λ _. refl };
+
+    ghost profile = { λ _. tt };
+
+    ghost short = { refl };
 
     fn transmit(&mut self, command: &[u8], reply: &mut Buffer) -> Result<(), DeviceFailed> {
         if self.device.transmit(command, reply).is_err() {
@@ -85,6 +95,7 @@ fn add(objects: &mut Objects, device: &mut Silent, list: u32, reply: &mut Buffer
     requires list { owner_at objects.old.owners list ≡ Some 7 }
     requires left { objects.old.left ≡ [] }
     requires slots { objects.old.slots ≡ 3 }
+    requires contexts { objects.old.contexts ≡ PROFILE_CONTEXTS }
     requires few { length objects.old.items < 10 }
     requires full { list_any is_vacant objects.old.items ≡ false }
     ensures full { list_any is_vacant objects.new.items ≡ false }
@@ -115,11 +126,13 @@ fn add_five(objects: &mut Objects, device: &mut Silent, list: u32, reply: &mut B
     requires list { owner_at objects.old.owners list ≡ Some 7 }
     requires left { objects.old.left ≡ [] }
     requires slots { objects.old.slots ≡ 3 }
+    requires contexts { objects.old.contexts ≡ PROFILE_CONTEXTS }
     requires empty { length objects.old.items ≡ 0 }
     requires full { list_any is_vacant objects.old.items ≡ false }
     ensures full { list_any is_vacant objects.new.items ≡ false }
     ensures count { result ≡ true → length objects.new.items ≡ 5 }
     ensures slots { objects.new.slots ≡ 3 }
+    ensures contexts { objects.new.contexts ≡ PROFILE_CONTEXTS }
     ensures left { objects.new.left ≡ [] }
 {
     for _ in 0..5u8 {
@@ -134,12 +147,14 @@ fn add_five(objects: &mut Objects, device: &mut Silent, list: u32, reply: &mut B
 fn need(objects: &mut Objects, device: &mut Silent, needed: &[u32], reply: &mut Buffer) -> bool
     requires left { objects.old.left ≡ [] }
     requires slots { objects.old.slots ≡ 3 }
+    requires contexts { objects.old.contexts ≡ PROFILE_CONTEXTS }
     requires few { length needed.now < 4 }
     requires inside { AllByRecursion (λ item. item < length objects.old.items) needed.now }
     requires full { list_any is_vacant objects.old.items ≡ false }
     ensures full { list_any is_vacant objects.new.items ≡ false }
     ensures count { length objects.new.items ≡ length objects.old.items }
     ensures slots { objects.new.slots ≡ objects.old.slots }
+    ensures contexts { objects.new.contexts ≡ PROFILE_CONTEXTS }
     ensures left { objects.new.left ≡ [] }
 {
     objects.make_objects(device, needed, 0, reply).is_ok()
@@ -160,7 +175,7 @@ fn drop_one(objects: &mut Objects, device: &mut Silent, item: u32, reply: &mut B
 fn run(alloc: Global) -> Result<[u64; 5], Fail> {
     let mut device = started(alloc)?;
     let mut reply = Buffer::new(alloc)?;
-    let mut objects = Objects::new(alloc, 3)?;
+    let mut objects = Objects::new(alloc, 3, PROFILE_CONTEXTS)?;
     let list = objects.add_client(7)?;
     let mut counts = [0; 5];
     if !add_five(&mut objects, &mut device, list, &mut reply) {

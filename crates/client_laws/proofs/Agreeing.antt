@@ -16,6 +16,7 @@ use Rattle.tab_spec.specs.Object.{Object}
 use Rattle.tab_spec.specs.Session.{Session}
 use Rattle.tab_spec.specs.Shape.{are_of_kinds, is_of_kind, is_present, is_session_octet, makes_object_by, octet_of}
 use Rattle.tab_spec.specs.Values.{AreBytes}
+use Rattle.tab_spec.specs.declared.contexts.TheConstants.{PROFILE_CONTEXTS}
 use Rattle.effect_spec.specs.Operands.{Operand, absent, plain, command_auth, object_operand, operand_by, session_operand, with_handle}
 use Rattle.history_spec.specs.Table.{held_under}
 use Rattle.world_spec.specs.World.{ClientState, client_operands, session_of, tables_of}
@@ -258,7 +259,7 @@ runs slots client state bytes a first e all ready =
             (λ none once. once_one slots client state handle first second auth one
             (named_so password session known_session value (RC_REFERENCE_S0 + 0) none) once)
             own.there.sessions own.there.once;
-        room = room_by (makes_object_by (let found : Result Shape ℕ = Ok a.shape in found) bytes) (list_any is_free slots.slots) ready.room;
+        room = room_by (makes_object_by PROFILE_CONTEXTS (let found : Result Shape ℕ = Ok a.shape in found) bytes) (list_any is_free slots.slots) ready.room;
       };
       operands = λ i. record {
         handles = one.operand_is (get_or a.shape.row.handles 0 Absent) first_there.0 i

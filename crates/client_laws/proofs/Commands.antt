@@ -3,7 +3,7 @@ use Rattle.std.proofs.Common.{◌≡◌, ◌<◌, ◌≤◌, ℕ, Bool, true, fa
 use Rattle.std.specs.Prelude.{Some, None, Ok, Err, not, nat_le, nat_lt, ◌==◌, ◌||◌, ◌&&◌, if◌then◌else◌}
 use Rattle.std.specs.Int.{w32, from_be_bytes}
 use Rattle.std.proofs.lemmas.Bool.{and_parts, eqb-true, leb-true, ltb-false, ltb-true, or_left, or_parts}
-use Rattle.tab_spec.specs.declared.TheConstants.{CC_CONTEXT_LOAD, CC_CONTEXT_SAVE, CC_CREATE_PRIMARY, CC_FLUSH_CONTEXT, CC_GET_CAPABILITY, CC_LOAD, CC_START_AUTH_SESSION, HT_HMAC_SESSION, HT_NV_INDEX, HT_POLICY_SESSION, HT_TRANSIENT, RC_SUCCESS, RH_NULL, RH_OWNER, SESSION_NUMBERS, TRANSIENT_FIRST}
+use Rattle.tab_spec.specs.declared.TheConstants.{CC_CONTEXT_LOAD, CC_CONTEXT_SAVE, CC_CREATE_PRIMARY, CC_FLUSH_CONTEXT, CC_GET_CAPABILITY, CC_LOAD, CC_START_AUTH_SESSION, HT_HMAC_SESSION, HT_NV_INDEX, HT_POLICY_SESSION, HT_TRANSIENT, RC_SUCCESS, RH_NULL, RH_OWNER, SESSION_NUMBERS, TRANSIENT_FIRST, TRANSIENT_ST_CLEAR}
 use Rattle.tab_spec.specs.declared.Kind.{Kind}
 use Rattle.tab_spec.specs.declared.Kind.TheVariants.{Absent, Owner, Pcr, Nv, NvAuth, Object, Policy, Entity, Saved, Null}
 use Rattle.tab_spec.specs.declared.SessionKind.{SessionKind}
@@ -17,6 +17,8 @@ use Rattle.tab_spec.specs.Frame.{code_of, is_frame}
 use Rattle.tab_spec.specs.Session.{is_kind_number, kind_of, kind_octet}
 use Rattle.tab_spec.specs.Shape.{IsShape, are_of_kinds, handle_at, handles_in, is_of_kind, is_present, is_session_octet, loads_object, makes_object_by, number_of_session, octet_of}
 use Rattle.tab_spec.specs.Values.{Reading}
+use Rattle.tab_spec.specs.declared.contexts.ContextLimits.{ContextLimits}
+use Rattle.tab_spec.specs.Contexts.{is_saved_object}
 use Rattle.effect_spec.specs.Capabilities.{is_of_device}
 use Rattle.device_spec.specs.Answers.{fits_handle, has_response_handle, is_started_handle, is_word, loads_session, session_type_of, takes, word_at}
 use Rattle.tab_laws.proofs.Admissions.{kinds_hold}
@@ -120,31 +122,32 @@ unmanaged code managed =
 
 -- ---- which commands are sent
 
-abbrev sent_as : ℕ → List ℕ → List ℕ → Bool
-sent_as code params bytes =
+abbrev sent_as : ContextLimits → ℕ → List ℕ → List ℕ → Bool
+sent_as contexts code params bytes =
     if code == CC_FLUSH_CONTEXT then false
     else if code == CC_CONTEXT_SAVE then length params == 0
-    else if code == CC_CONTEXT_LOAD then loads_object bytes
+    else if code == CC_CONTEXT_LOAD then loads_object contexts bytes
     else if code == CC_GET_CAPABILITY then is_of_device params
     else true
 
-sent_known : (a : Admitted) (bytes : List ℕ) (code : ℕ) → is_sent a bytes ≡ true → (a.shape.row.code == code) ≡ true
-    → sent_as code (drop a.auths.params bytes) bytes ≡ true
-sent_known a bytes code sent is = sym (ap (λ (c : ℕ). sent_as c (drop a.auths.params bytes) bytes) (eqb-true a.shape.row.code code is)) ∙ sent
+sent_known : (contexts : ContextLimits) (a : Admitted) (bytes : List ℕ) (code : ℕ) → is_sent contexts a bytes ≡ true → (a.shape.row.code == code) ≡ true
+    → sent_as contexts code (drop a.auths.params bytes) bytes ≡ true
+sent_known contexts a bytes code sent is = sym (ap (λ (c : ℕ). sent_as contexts c (drop a.auths.params bytes) bytes) (eqb-true a.shape.row.code code is)) ∙ sent
 
 -- nothing follows the handle of ContextSave
-pub sent_save : (a : Admitted) (bytes : List ℕ) → is_sent a bytes ≡ true → (a.shape.row.code == CC_CONTEXT_SAVE) ≡ true
+pub sent_save : (contexts : ContextLimits) (a : Admitted) (bytes : List ℕ) → is_sent contexts a bytes ≡ true → (a.shape.row.code == CC_CONTEXT_SAVE) ≡ true
     → (length (drop a.auths.params bytes) == 0) ≡ true
-sent_save a bytes sent is = sent_known a bytes CC_CONTEXT_SAVE sent is
+sent_save contexts a bytes sent is = sent_known contexts a bytes CC_CONTEXT_SAVE sent is
 
 -- ContextLoad is of an object's context
-pub sent_load : (a : Admitted) (bytes : List ℕ) → is_sent a bytes ≡ true → (a.shape.row.code == CC_CONTEXT_LOAD) ≡ true → loads_object bytes ≡ true
-sent_load a bytes sent is = sent_known a bytes CC_CONTEXT_LOAD sent is
+pub sent_load : (contexts : ContextLimits) (a : Admitted) (bytes : List ℕ) → is_sent contexts a bytes ≡ true → (a.shape.row.code == CC_CONTEXT_LOAD) ≡ true
+    → loads_object contexts bytes ≡ true
+sent_load contexts a bytes sent is = sent_known contexts a bytes CC_CONTEXT_LOAD sent is
 
 -- GetCapability is of a list that is the device's
-pub sent_list : (a : Admitted) (bytes : List ℕ) → is_sent a bytes ≡ true → (a.shape.row.code == CC_GET_CAPABILITY) ≡ true
+pub sent_list : (contexts : ContextLimits) (a : Admitted) (bytes : List ℕ) → is_sent contexts a bytes ≡ true → (a.shape.row.code == CC_GET_CAPABILITY) ≡ true
     → is_of_device (drop a.auths.params bytes) ≡ true
-sent_list a bytes sent is = sent_known a bytes CC_GET_CAPABILITY sent is
+sent_list contexts a bytes sent is = sent_known contexts a bytes CC_GET_CAPABILITY sent is
 
 -- ---- the second handle
 
@@ -282,12 +285,12 @@ made_by true load loads e so = refl
 made_by false true loads e so = so refl
 made_by false false loads e so = absurd cc
 
-pub command_makes : (tables : Tables) (bytes : List ℕ) (a : Admitted) (reply : List ℕ) → client_admitted tables bytes ≡ Ok a → is_sent a bytes ≡ true
-    → tells_object a reply ≡ true → makes_object_by (Ok a.shape) bytes ≡ true
-command_makes tables bytes a reply e sent tells =
+pub command_makes : (contexts : ContextLimits) (tables : Tables) (bytes : List ℕ) (a : Admitted) (reply : List ℕ) → client_admitted tables bytes ≡ Ok a
+    → is_sent contexts a bytes ≡ true → tells_object a reply ≡ true → makes_object_by contexts (Ok a.shape) bytes ≡ true
+command_makes contexts tables bytes a reply e sent tells =
     let parts = told_object (starts_session a) a.shape.row.response_handle (code_of reply == RC_SUCCESS) tells in
-    made_by (makes_one a.shape.row) (a.shape.row.code == CC_CONTEXT_LOAD) (loads_object bytes) ((clients_command tables bytes a e).makes parts.0 parts.1)
-    (sent_load a bytes sent)
+    made_by (makes_one a.shape.row) (a.shape.row.code == CC_CONTEXT_LOAD) (loads_object contexts bytes)
+    ((clients_command tables bytes a e).makes parts.0 parts.1) (sent_load contexts a bytes sent)
 
 -- ---- the handle of a response
 
@@ -307,10 +310,10 @@ word_by test true word e = absurd cc
 word_by test false word e = (refl, e)
 
 -- the handle is there
-told_handle : (is_taken : Bool) (asked last : List ℕ) → takes false is_taken asked last ≡ true → (code_of last == RC_SUCCESS) ≡ true
+told_handle : (contexts : ContextLimits) (is_taken : Bool) (asked last : List ℕ) → takes contexts false is_taken asked last ≡ true → (code_of last == RC_SUCCESS) ≡ true
     → has_response_handle (row_of (code_of asked)) ≡ true
     → (14 ≤ length last) × (fits_handle is_taken asked (from_be_bytes w32 (take 4 (drop 10 last))) ≡ true)
-told_handle is_taken asked last taken success has =
+told_handle contexts is_taken asked last taken success has =
     let handle = from_be_bytes w32 (take 4 (drop 10 last)) in
     let form = success_by (is_frame last) (code_of last == RC_SUCCESS) _ _ taken success in
     let word : is_word (fits_handle is_taken asked) (word_at 10 last) ≡ true =
@@ -330,29 +333,40 @@ over_handle tables bytes a first e =
     record { code = code; has = ap (λ (c : ℕ). has_response_handle (row_of c)) code ∙ ap has_response_handle known.row }
 
 -- a ContextLoad of an object's context is none of a session's
-not_session : (short : Bool) (word : ℕ) → (not short && word == TRANSIENT_FIRST) ≡ true → is_word is_session_handle (if short then None else Some word) ≡ false
-not_session true word e = absurd cc
-not_session false word e = ap is_session_handle (eqb-true word TRANSIENT_FIRST e)
+of_object : (clear at_clear at_first session : Bool) → ((clear && at_clear) || at_first) ≡ true → (at_clear ≡ true → session ≡ false)
+    → (at_first ≡ true → session ≡ false) → session ≡ false
+of_object true true at_first session e one two = one refl
+of_object true false true session e one two = two refl
+of_object true false false session e one two = absurd cc
+of_object false at_clear true session e one two = two refl
+of_object false at_clear false session e one two = absurd cc
 
-saved_none : (sent bytes : List ℕ) → length sent ≡ length bytes → drop 18 sent ≡ drop 18 bytes → loads_object bytes ≡ true
+not_session : (contexts : ContextLimits) (short : Bool) (word : ℕ) → (not short && is_saved_object contexts word) ≡ true
+    → is_word is_session_handle (if short then None else Some word) ≡ false
+not_session contexts true word e = absurd cc
+not_session contexts false word e =
+    of_object contexts.st_clear (word == TRANSIENT_ST_CLEAR) (word == TRANSIENT_FIRST) (is_session_handle word) e
+    (λ is. ap is_session_handle (eqb-true word TRANSIENT_ST_CLEAR is)) (λ is. ap is_session_handle (eqb-true word TRANSIENT_FIRST is))
+
+saved_none : (contexts : ContextLimits) (sent bytes : List ℕ) → length sent ≡ length bytes → drop 18 sent ≡ drop 18 bytes → loads_object contexts bytes ≡ true
     → is_word is_session_handle (word_at 18 sent) ≡ false
-saved_none sent bytes size behind loads =
+saved_none contexts sent bytes size behind loads =
     (λ i. is_word is_session_handle (if nat_lt (size i) 22 then None else Some (from_be_bytes w32 (take 4 (behind i)))))
-    ∙ not_session (nat_lt (length bytes) 22) (from_be_bytes w32 (take 4 (drop 18 bytes))) loads
+    ∙ not_session contexts (nat_lt (length bytes) 22) (from_be_bytes w32 (take 4 (drop 18 bytes))) loads
 
 loads_none : (load word : Bool) → (load ≡ true → word ≡ false) → (load && word) ≡ false
 loads_none true word none = none refl
 loads_none false word none = refl
 
 -- what is sent loads no session
-pub sent_loads_none : (tables : Tables) (bytes : List ℕ) (a : Admitted) (first : ℕ) → client_admitted tables bytes ≡ Ok a → is_sent a bytes ≡ true
-    → loads_session (sent_for bytes a first) ≡ false
-sent_loads_none tables bytes a first e sent =
+pub sent_loads_none : (contexts : ContextLimits) (tables : Tables) (bytes : List ℕ) (a : Admitted) (first : ℕ) → client_admitted tables bytes ≡ Ok a
+    → is_sent contexts a bytes ≡ true → loads_session (sent_for bytes a first) ≡ false
+sent_loads_none contexts tables bytes a first e sent =
     let new = sent_for bytes a first in
     let over = handled_is tables bytes a first (get_or a.shape.handles 1 0) (client_is tables bytes a e).whole in
     loads_none (code_of new == CC_CONTEXT_LOAD) (is_word is_session_handle (word_at 18 new)) (λ load.
-    saved_none new bytes over.agree.size (drop_behind a.shape.rest 18 bytes new over.agree over.within)
-    (sent_load a bytes sent (ap (λ (c : ℕ). c == CC_CONTEXT_LOAD) (sym (over_handle tables bytes a first e).code) ∙ load)))
+    saved_none contexts new bytes over.agree.size (drop_behind a.shape.rest 18 bytes new over.agree over.within)
+    (sent_load contexts a bytes sent (ap (λ (c : ℕ). c == CC_CONTEXT_LOAD) (sym (over_handle tables bytes a first e).code) ∙ load)))
 
 octet_by : (start session started saved octet : Bool) → (if start then started else if session then saved else octet) ≡ true
     → start ≡ false → session ≡ false → octet ≡ true
@@ -360,18 +374,18 @@ octet_by true session started saved octet e is none = absurd cc
 octet_by false true started saved octet e is none = absurd cc
 octet_by false false started saved octet e is none = e
 
-pub command_object : (is_taken : Bool) (tables : Tables) (bytes : List ℕ) (a : Admitted) (first : ℕ) (last : List ℕ) → client_admitted tables bytes ≡ Ok a
-    → is_sent a bytes ≡ true → takes false is_taken (sent_for bytes a first) last ≡ true → tells_object a last ≡ true
+pub command_object : (contexts : ContextLimits) (is_taken : Bool) (tables : Tables) (bytes : List ℕ) (a : Admitted) (first : ℕ) (last : List ℕ)
+    → client_admitted tables bytes ≡ Ok a → is_sent contexts a bytes ≡ true → takes contexts false is_taken (sent_for bytes a first) last ≡ true → tells_object a last ≡ true
     → (14 ≤ length last) × ((octet_of (from_be_bytes w32 (take 4 (drop 10 last))) == HT_TRANSIENT) ≡ true)
-command_object is_taken tables bytes a first last e sent taken tells =
+command_object contexts is_taken tables bytes a first last e sent taken tells =
     let asked = sent_for bytes a first in
     let handle = from_be_bytes w32 (take 4 (drop 10 last)) in
     let over = over_handle tables bytes a first e in
     let parts = told_object (starts_session a) a.shape.row.response_handle (code_of last == RC_SUCCESS) tells in
-    let told = told_handle is_taken asked last taken parts.2 (over.has ∙ parts.1) in (
+    let told = told_handle contexts is_taken asked last taken parts.2 (over.has ∙ parts.1) in (
       told.0,
       octet_by (code_of asked == CC_START_AUTH_SESSION) (loads_session asked) _ _ (octet_of handle == HT_TRANSIENT) told.1
-          (ap (λ (c : ℕ). c == CC_START_AUTH_SESSION) over.code ∙ parts.0) (sent_loads_none tables bytes a first e sent),
+          (ap (λ (c : ℕ). c == CC_START_AUTH_SESSION) over.code ∙ parts.0) (sent_loads_none contexts tables bytes a first e sent),
     )
 
 -- ---- the handle of a session
@@ -404,16 +418,16 @@ started_handle is_taken (Ok read) handle e =
       ltb-true (number_of_session handle) SESSION_NUMBERS parts.1,
     )
 
-pub command_session : (is_taken : Bool) (tables : Tables) (bytes : List ℕ) (a : Admitted) (first : ℕ) (last : List ℕ) → client_admitted tables bytes ≡ Ok a
-    → takes false is_taken (sent_for bytes a first) last ≡ true → tells_session a last ≡ true
+pub command_session : (contexts : ContextLimits) (is_taken : Bool) (tables : Tables) (bytes : List ℕ) (a : Admitted) (first : ℕ) (last : List ℕ)
+    → client_admitted tables bytes ≡ Ok a → takes contexts false is_taken (sent_for bytes a first) last ≡ true → tells_session a last ≡ true
     → (is_taken ≡ false) × (14 ≤ length last) × (is_session_handle (from_be_bytes w32 (take 4 (drop 10 last))) ≡ true)
     × (number_of_session (from_be_bytes w32 (take 4 (drop 10 last))) < SESSION_NUMBERS)
-command_session is_taken tables bytes a first last e taken tells =
+command_session contexts is_taken tables bytes a first last e taken tells =
     let asked = sent_for bytes a first in
     let handle = from_be_bytes w32 (take 4 (drop 10 last)) in
     let over = over_handle tables bytes a first e in
     let parts = and_parts (starts_session a) (code_of last == RC_SUCCESS) tells in
-    let told = told_handle is_taken asked last taken parts.1 (over.has ∙ ((clients_command tables bytes a e).starts parts.0).0) in
+    let told = told_handle contexts is_taken asked last taken parts.1 (over.has ∙ ((clients_command tables bytes a e).starts parts.0).0) in
     let started = started_by (code_of asked == CC_START_AUTH_SESSION) (is_started_handle is_taken (session_type_of (drop 18 asked)) handle) _ told.1
     (ap (λ (c : ℕ). c == CC_START_AUTH_SESSION) over.code ∙ parts.0) in
     let new = started_handle is_taken (session_type_of (drop 18 asked)) handle started in

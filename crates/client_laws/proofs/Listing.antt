@@ -15,6 +15,7 @@ use Rattle.tab_spec.specs.Persist.{Persist}
 use Rattle.tab_spec.specs.Reply.{error_reply, response}
 use Rattle.tab_spec.specs.Shape.{are_of_kinds, handle_bytes, is_session_octet, loads_object, octet_of, with_handles}
 use Rattle.tab_spec.specs.Values.{Reading, number32, then_read}
+use Rattle.tab_spec.specs.declared.contexts.TheConstants.{PROFILE_CONTEXTS}
 use Rattle.effect_spec.specs.Capabilities.{Asked, Limits, Listed, asked_of, capability_of, client_limits, device_limits, handle_items, handles_listed, is_own_list, is_of_device, asks_another, list_of, listed, property_items, property_pairs, transient_from}
 use Rattle.history_spec.specs.declared.Pick.TheVariants.{Nothing}
 use Rattle.world_spec.specs.World as world
@@ -111,7 +112,7 @@ list_there tables bytes a b is = record {
   handles = refl;
   sessions = ap (λ (n : ℕ). missing_session tables 0 (take n a.auths.auths)) b.none;
   once = ap (λ (n : ℕ). repeated_session (0 ∷ 0 ∷ []) 1 (take n a.auths.auths)) b.none;
-  room = ap (λ (c : ℕ). if ((c == CC_CREATE_PRIMARY || c == CC_LOAD) || (c == CC_CONTEXT_LOAD && loads_object bytes)) && tables.is_full
+  room = ap (λ (c : ℕ). if ((c == CC_CREATE_PRIMARY || c == CC_LOAD) || (c == CC_CONTEXT_LOAD && loads_object tables.contexts bytes)) && tables.is_full
       then Some RC_OBJECT_MEMORY else None) (eqb-true a.shape.row.code CC_GET_CAPABILITY is);
 }
 
@@ -165,14 +166,14 @@ row_same slots client state params persist of =
     (active state.sessions) params of
 
 list_over : (slots : SlotState) (client : ℕ) (state : ClientState) (bytes : List ℕ) (a : Admitted) (first : ℕ)
-    → client_admitted (tables_of client state) bytes ≡ Ok a → (a.shape.row.code == CC_GET_CAPABILITY) ≡ true → is_sent a bytes ≡ true
+    → client_admitted (tables_of client state) bytes ≡ Ok a → (a.shape.row.code == CC_GET_CAPABILITY) ≡ true → is_sent PROFILE_CONTEXTS a bytes ≡ true
     → slots.started ≡ true → slots.persist ≡ state.persist
     → slot_step slots (sent_for bytes a first) ≡ (slots, told (client_capability client state (drop a.auths.params bytes)))
 list_over slots client state bytes a first e is sent started persist =
     let params = drop a.auths.params bytes in
     list_step slots (tables_of client state) bytes a first started e is
     ∙ device_told slots (capability_row slots params)
-    ∙ ap (λ (row : Result (List ℕ) ℕ). (slots, told row)) (row_same slots client state params persist (sent_list a bytes sent is))
+    ∙ ap (λ (row : Result (List ℕ) ℕ). (slots, told row)) (row_same slots client state params persist (sent_list PROFILE_CONTEXTS a bytes sent is))
 
 list_plain : (client : ℕ) (state : ClientState) (bytes : List ℕ) (a : Admitted) → client_admitted (tables_of client state) bytes ≡ Ok a
     → (a.shape.row.code == CC_GET_CAPABILITY) ≡ true
@@ -182,7 +183,7 @@ list_plain client state bytes a e is =
     ∙ ap (λ (step : ClientStep). choosing_nothing step Nothing) (plain_told state (client_capability client state (drop a.auths.params bytes)))
 
 pub list_told : (slots : SlotState) (client : ℕ) (state : ClientState) (bytes : List ℕ) (a : Admitted) (first : ℕ)
-    → client_admitted (tables_of client state) bytes ≡ Ok a → (a.shape.row.code == CC_GET_CAPABILITY) ≡ true → is_sent a bytes ≡ true
+    → client_admitted (tables_of client state) bytes ≡ Ok a → (a.shape.row.code == CC_GET_CAPABILITY) ≡ true → is_sent PROFILE_CONTEXTS a bytes ≡ true
     → slots.started ≡ true → slots.persist ≡ state.persist
     → (reply : List ℕ) × ((slot_step slots (sent_for bytes a first) ≡ (slots, reply)) × (client_step client state bytes Nothing ≡ Some (state, reply)))
 list_told slots client state bytes a first e is sent started persist = (
@@ -312,7 +313,7 @@ record Asks (sent : List ℕ) : Type 0 where
   tag : tag_of sent ≡ ST_NO_SESSIONS
   none : asks_of_tables sent ≡ false
 
-told_taken : (sent : List ℕ) (row : Result (List ℕ) ℕ) → Asks sent → Fails IsPlain row → Short row → takes false false sent (told row) ≡ true
+told_taken : (sent : List ℕ) (row : Result (List ℕ) ℕ) → Asks sent → Fails IsPlain row → Short row → takes PROFILE_CONTEXTS false false sent (told row) ≡ true
 told_taken sent (Err code) asks plain short =
     refusal_taken false sent code
     (no_own (code_of sent == CC_STARTUP) (code_of sent == CC_CONTEXT_SAVE) (code_of sent == CC_FLUSH_CONTEXT) (code_of sent == CC_CONTEXT_LOAD) _ _
@@ -330,17 +331,17 @@ told_taken sent (Ok params) asks plain short =
     (ap (λ (c : ℕ). c == CC_CONTEXT_SAVE) asks.code) (no_tables_asked sent asks.none)
 
 -- whatever the broker holds
-any_taken : (is_kept is_taken : Bool) (sent last : List ℕ) → code_of sent ≡ CC_GET_CAPABILITY → takes false false sent last ≡ true
-    → takes is_kept is_taken sent last ≡ true
+any_taken : (is_kept is_taken : Bool) (sent last : List ℕ) → code_of sent ≡ CC_GET_CAPABILITY → takes PROFILE_CONTEXTS false false sent last ≡ true
+    → takes PROFILE_CONTEXTS is_kept is_taken sent last ≡ true
 any_taken is_kept is_taken sent last code taken =
     let load = ap (λ (c : ℕ). c == CC_CONTEXT_LOAD) code in
     let start = ap (λ (c : ℕ). c == CC_START_AUTH_SESSION) code in
-    takes_same is_kept is_taken sent last load start ∙ sym (takes_same false false sent last load start) ∙ taken
+    takes_same PROFILE_CONTEXTS is_kept is_taken sent last load start ∙ sym (takes_same PROFILE_CONTEXTS false false sent last load start) ∙ taken
 
 pub list_taken : (is_kept is_taken : Bool) (slots : SlotState) (client : ℕ) (state : ClientState) (bytes : List ℕ) (a : Admitted) (first : ℕ)
-    → client_admitted (tables_of client state) bytes ≡ Ok a → (a.shape.row.code == CC_GET_CAPABILITY) ≡ true → is_sent a bytes ≡ true
+    → client_admitted (tables_of client state) bytes ≡ Ok a → (a.shape.row.code == CC_GET_CAPABILITY) ≡ true → is_sent PROFILE_CONTEXTS a bytes ≡ true
     → slots.started ≡ true → slots.persist ≡ state.persist
-    → takes is_kept is_taken (sent_for bytes a first) (slot_step slots (sent_for bytes a first)).1 ≡ true
+    → takes PROFILE_CONTEXTS is_kept is_taken (sent_for bytes a first) (slot_step slots (sent_for bytes a first)).1 ≡ true
 list_taken is_kept is_taken slots client state bytes a first e is sent started persist =
     let tables = tables_of client state in
     let asked = sent_for bytes a first in
@@ -354,13 +355,13 @@ list_taken is_kept is_taken slots client state bytes a first e is sent started p
     let asks : Asks asked = record {
       code = code;
       tag = (handled_is tables bytes a first second whole).tag ∙ b.tag;
-      none = none_asked asked params are (sent_list a bytes sent is);
+      none = none_asked asked params are (sent_list PROFILE_CONTEXTS a bytes sent is);
     } in
     let objects = transient_from TRANSIENT_FIRST state.objects in
     let sessions = world.listed_sessions client 0 state.sessions in
     let count = active state.sessions in
     let limits = client_limits state.most in
-    ap (λ (step : Step). takes is_kept is_taken asked step.1) (list_over slots client state bytes a first e is sent started persist)
+    ap (λ (step : Step). takes PROFILE_CONTEXTS is_kept is_taken asked step.1) (list_over slots client state bytes a first e is sent started persist)
     ∙ any_taken is_kept is_taken asked (told (client_capability client state params)) code
     (told_taken asked (client_capability client state params) asks
     (fails_read (asked_of params) (list_of limits all_commands state.persist objects sessions count) (fails_asked params)

@@ -13,6 +13,7 @@ use Rattle.tab_spec.specs.Parameters.{in_parameter, when_read}
 use Rattle.tab_spec.specs.Reply.{error_reply, response}
 use Rattle.tab_spec.specs.Shape.{loads_object, octet_of}
 use Rattle.tab_spec.specs.Values.{AreBytes, Reading, fixed_bytes, number32, number64, require, sized, sized_bytes}
+use Rattle.tab_spec.specs.declared.contexts.TheConstants.{PROFILE_CONTEXTS}
 use Rattle.effect_spec.specs.Contexts.{Context, blob_fits, context_head, context_of, context_parameter, object_within, opened_by, opened_object, revealed}
 use Rattle.history_spec.specs.declared.Pick.TheVariants.{Nothing}
 use Rattle.world_spec.specs.World.{ClientState, ClientStep, choosing_nothing, client_step, load_parameters, load_step, object_opened, refused_step, tables_of}
@@ -72,7 +73,7 @@ parameter_gives P (Ok read) gives =
     cond_both (blob_fits read.0) (Ok read) (Err RC_SIZE) (λ (read : Reading Context). Gives P (in_parameter 1 read)) (λ fits. gives) (λ long. tt)
 
 -- its savedHandle is that of an object
-handle_is : (bytes params : List ℕ) (c : Context) → loads_object bytes ≡ true → drop 10 bytes ≡ params → load_parameters params ≡ Ok c
+handle_is : (bytes params : List ℕ) (c : Context) → loads_object PROFILE_CONTEXTS bytes ≡ true → drop 10 bytes ≡ params → load_parameters params ≡ Ok c
     → (c.saved_handle == TRANSIENT_FIRST) ≡ true
 handle_is bytes params c loads are e =
     let has : HasHandle params c =
@@ -116,12 +117,12 @@ params_here tables bytes a e is =
     ap (λ (n : ℕ). drop n bytes) (sym (bare tables bytes a load_row (client_is tables bytes a e).whole row refl).params)
 
 sent_handle : (tables : Tables) (bytes : List ℕ) (a : Admitted) (c : Context) → client_admitted tables bytes ≡ Ok a → (a.shape.row.code == CC_CONTEXT_LOAD) ≡ true
-    → is_sent a bytes ≡ true → load_parameters (drop a.auths.params bytes) ≡ Ok c → (c.saved_handle == TRANSIENT_FIRST) ≡ true
+    → is_sent PROFILE_CONTEXTS a bytes ≡ true → load_parameters (drop a.auths.params bytes) ≡ Ok c → (c.saved_handle == TRANSIENT_FIRST) ≡ true
 sent_handle tables bytes a c e is sent read =
-    handle_is bytes (drop a.auths.params bytes) c (sent_load a bytes sent is) (params_here tables bytes a e is) read
+    handle_is bytes (drop a.auths.params bytes) c (sent_load PROFILE_CONTEXTS a bytes sent is) (params_here tables bytes a e is) read
 
 pub load_opened : (slots : SlotState) (client : ℕ) (state : ClientState) (bytes : List ℕ) (a : Admitted) (first : ℕ) (c : Context)
-    → client_admitted (tables_of client state) bytes ≡ Ok a → (a.shape.row.code == CC_CONTEXT_LOAD) ≡ true → is_sent a bytes ≡ true → AreBytes bytes
+    → client_admitted (tables_of client state) bytes ≡ Ok a → (a.shape.row.code == CC_CONTEXT_LOAD) ≡ true → is_sent PROFILE_CONTEXTS a bytes ≡ true → AreBytes bytes
     → IsReady slots client state a bytes first → load_parameters (drop a.auths.params bytes) ≡ Ok c
     → slot_step slots (sent_for bytes a first) ≡ step_by slots (object_loaded slots (opened_object slots.persist.seed (drop a.auths.params bytes)))
 load_opened slots client state bytes a first c e is sent all ready read =
@@ -147,7 +148,7 @@ pub load_refused_plain : (client : ℕ) (state : ClientState) (bytes : List ℕ)
 load_refused_plain client state bytes a code e is fault = plain_load client state bytes a (Err code) e is fault
 
 pub load_opened_plain : (client : ℕ) (state : ClientState) (bytes : List ℕ) (a : Admitted) (c : Context) → client_admitted (tables_of client state) bytes ≡ Ok a
-    → (a.shape.row.code == CC_CONTEXT_LOAD) ≡ true → is_sent a bytes ≡ true → load_parameters (drop a.auths.params bytes) ≡ Ok c
+    → (a.shape.row.code == CC_CONTEXT_LOAD) ≡ true → is_sent PROFILE_CONTEXTS a bytes ≡ true → load_parameters (drop a.auths.params bytes) ≡ Ok c
     → client_step client state bytes Nothing ≡ Some (object_opened state (opened_object state.persist.seed (drop a.auths.params bytes)))
 load_opened_plain client state bytes a c e is sent read =
     plain_load client state bytes a (Ok c) e is read
@@ -184,7 +185,7 @@ no_own : (startup save flush session object capability tables : Bool) → startu
 no_own startup save flush session true capability tables a b c d e = rw (a, b, c, d, e) refl
 no_own startup save flush session false capability tables a b c d e = rw (a, b, c, d, e) refl
 
-refused_taken : (is_taken : Bool) (sent : List ℕ) (code : ℕ) → Asks sent → IsPlain code → takes false is_taken sent (error_reply code) ≡ true
+refused_taken : (is_taken : Bool) (sent : List ℕ) (code : ℕ) → Asks sent → IsPlain code → takes PROFILE_CONTEXTS false is_taken sent (error_reply code) ≡ true
 refused_taken is_taken sent code asks plain =
     refusal_taken is_taken sent code
     (no_own (code_of sent == CC_STARTUP) (code_of sent == CC_CONTEXT_SAVE) (code_of sent == CC_FLUSH_CONTEXT) (loads_session sent) _
@@ -196,7 +197,7 @@ handle_fits : (start session started saved octet : Bool) → start ≡ false →
 handle_fits start session started saved octet a b c = rw (a, b, c) refl
 
 object_taken : (is_kept is_taken : Bool) (slots : SlotState) (sent : List ℕ) (o : Object) → IsSlots slots → Asks sent
-    → takes is_kept is_taken sent (step_by slots (object_loaded slots (Some o))).1 ≡ true
+    → takes PROFILE_CONTEXTS is_kept is_taken sent (step_by slots (object_loaded slots (Some o))).1 ≡ true
 object_taken is_kept is_taken slots sent o sound asks =
     let handle = TRANSIENT_FIRST + free_slot slots.slots in
     let body = to_be_bytes w32 handle ++ [] in
@@ -213,12 +214,12 @@ object_taken is_kept is_taken slots sent o sound asks =
     (ap (λ (c : ℕ). c == CC_CONTEXT_SAVE) asks.code) (no_list_asked sent (ap (λ (c : ℕ). c == CC_GET_CAPABILITY) asks.code))
 
 opened_taken : (is_taken : Bool) (slots : SlotState) (sent : List ℕ) (opened : Option Object) → IsSlots slots → Asks sent
-    → takes false is_taken sent (step_by slots (object_loaded slots opened)).1 ≡ true
+    → takes PROFILE_CONTEXTS false is_taken sent (step_by slots (object_loaded slots opened)).1 ≡ true
 opened_taken is_taken slots sent None sound asks = refused_taken is_taken sent (RC_INTEGRITY + RC_P + RC_1) asks refl
 opened_taken is_taken slots sent (Some o) sound asks = object_taken false is_taken slots sent o sound asks
 
 asks_of : (tables : Tables) (bytes : List ℕ) (a : Admitted) (first : ℕ) → client_admitted tables bytes ≡ Ok a → (a.shape.row.code == CC_CONTEXT_LOAD) ≡ true
-    → is_sent a bytes ≡ true → Asks (sent_for bytes a first)
+    → is_sent PROFILE_CONTEXTS a bytes ≡ true → Asks (sent_for bytes a first)
 asks_of tables bytes a first e is sent =
     let whole = (client_is tables bytes a e).whole in
     let known = clients_command tables bytes a e in
@@ -226,27 +227,27 @@ asks_of tables bytes a first e is sent =
     record {
       code = command_sent_code tables bytes a first e ∙ known.code ∙ eqb-true a.shape.row.code CC_CONTEXT_LOAD is;
       tag = (handled_is tables bytes a first (get_or a.shape.handles 1 0) whole).tag ∙ (bare tables bytes a load_row whole row refl).tag;
-      none = sent_loads_none tables bytes a first e sent;
+      none = sent_loads_none PROFILE_CONTEXTS tables bytes a first e sent;
     }
 
 taken_by : (is_taken : Bool) (slots : SlotState) (client : ℕ) (state : ClientState) (bytes : List ℕ) (a : Admitted) (first : ℕ) (read : Result Context ℕ)
-    → client_admitted (tables_of client state) bytes ≡ Ok a → (a.shape.row.code == CC_CONTEXT_LOAD) ≡ true → is_sent a bytes ≡ true → AreBytes bytes
+    → client_admitted (tables_of client state) bytes ≡ Ok a → (a.shape.row.code == CC_CONTEXT_LOAD) ≡ true → is_sent PROFILE_CONTEXTS a bytes ≡ true → AreBytes bytes
     → IsReady slots client state a bytes first → load_parameters (drop a.auths.params bytes) ≡ read
-    → takes false is_taken (sent_for bytes a first) (slot_step slots (sent_for bytes a first)).1 ≡ true
+    → takes PROFILE_CONTEXTS false is_taken (sent_for bytes a first) (slot_step slots (sent_for bytes a first)).1 ≡ true
 taken_by is_taken slots client state bytes a first (Err code) e is sent all ready found =
     let asked = sent_for bytes a first in
-    ap (λ (step : Step). takes false is_taken asked step.1) (load_refused slots client state bytes a first code e is all ready found)
+    ap (λ (step : Step). takes PROFILE_CONTEXTS false is_taken asked step.1) (load_refused slots client state bytes a first code e is all ready found)
     ∙ refused_taken is_taken asked code (asks_of (tables_of client state) bytes a first e is sent)
     (subst (λ (read : Result Context ℕ). Fails IsPlain read) found (fails_load (drop a.auths.params bytes)))
 taken_by is_taken slots client state bytes a first (Ok c) e is sent all ready found =
     let asked = sent_for bytes a first in
-    ap (λ (step : Step). takes false is_taken asked step.1) (load_opened slots client state bytes a first c e is sent all ready found)
+    ap (λ (step : Step). takes PROFILE_CONTEXTS false is_taken asked step.1) (load_opened slots client state bytes a first c e is sent all ready found)
     ∙ opened_taken is_taken slots asked (opened_object slots.persist.seed (drop a.auths.params bytes)) ready.sound
     (asks_of (tables_of client state) bytes a first e is sent)
 
 pub load_taken : (is_taken : Bool) (slots : SlotState) (client : ℕ) (state : ClientState) (bytes : List ℕ) (a : Admitted) (first : ℕ)
-    → client_admitted (tables_of client state) bytes ≡ Ok a → (a.shape.row.code == CC_CONTEXT_LOAD) ≡ true → is_sent a bytes ≡ true → AreBytes bytes
-    → IsReady slots client state a bytes first → takes false is_taken (sent_for bytes a first) (slot_step slots (sent_for bytes a first)).1 ≡ true
+    → client_admitted (tables_of client state) bytes ≡ Ok a → (a.shape.row.code == CC_CONTEXT_LOAD) ≡ true → is_sent PROFILE_CONTEXTS a bytes ≡ true → AreBytes bytes
+    → IsReady slots client state a bytes first → takes PROFILE_CONTEXTS false is_taken (sent_for bytes a first) (slot_step slots (sent_for bytes a first)).1 ≡ true
 load_taken is_taken slots client state bytes a first e is sent all ready =
     taken_by is_taken slots client state bytes a first (load_parameters (drop a.auths.params bytes)) e is sent all ready refl
 
@@ -305,16 +306,16 @@ load_reads seed params o all e =
     )
 
 pub load_taken_kept : (is_taken : Bool) (slots : SlotState) (client : ℕ) (state : ClientState) (bytes : List ℕ) (a : Admitted) (first : ℕ) (o : Object)
-    → client_admitted (tables_of client state) bytes ≡ Ok a → (a.shape.row.code == CC_CONTEXT_LOAD) ≡ true → is_sent a bytes ≡ true → AreBytes bytes
+    → client_admitted (tables_of client state) bytes ≡ Ok a → (a.shape.row.code == CC_CONTEXT_LOAD) ≡ true → is_sent PROFILE_CONTEXTS a bytes ≡ true → AreBytes bytes
     → IsReady slots client state a bytes first → opened_object slots.persist.seed (drop a.auths.params bytes) ≡ Some o
-    → takes true is_taken (sent_for bytes a first) (slot_step slots (sent_for bytes a first)).1 ≡ true
+    → takes PROFILE_CONTEXTS true is_taken (sent_for bytes a first) (slot_step slots (sent_for bytes a first)).1 ≡ true
 load_taken_kept is_taken slots client state bytes a first o e is sent all ready opened =
     let asked = sent_for bytes a first in
     let params = drop a.auths.params bytes in
     let these : AreBytes params =
     bytes_back (take a.auths.params bytes) params (subst AreBytes (sym (take-append-drop a.auths.params bytes)) all) in
     let read = load_reads slots.persist.seed params o these opened in
-    ap (λ (step : Step). takes true is_taken asked step.1)
+    ap (λ (step : Step). takes PROFILE_CONTEXTS true is_taken asked step.1)
     (load_opened slots client state bytes a first read.0 e is sent all ready read.1
     ∙ ap (λ (found : Option Object). step_by slots (object_loaded slots found)) opened)
     ∙ object_taken true is_taken slots asked o ready.sound (asks_of (tables_of client state) bytes a first e is sent)

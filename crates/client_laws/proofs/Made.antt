@@ -11,6 +11,7 @@ use Rattle.tab_spec.specs.Frame.{code_of}
 use Rattle.tab_spec.specs.Persist.{Persist}
 use Rattle.tab_spec.specs.Reply.{error_reply, response}
 use Rattle.tab_spec.specs.Shape.{IsShape, loads_object, makes_object_by}
+use Rattle.tab_spec.specs.declared.contexts.TheConstants.{PROFILE_CONTEXTS}
 use Rattle.effect_spec.specs.Effect.{HasHandle, RowOutcome, command_entity, effect_authorized, effect_in, effect_of, handle_area, outcome_of, response_auth_of, response_body}
 use Rattle.effect_spec.specs.Operands.{Created, Operands, command_auth, named_session, new_object, new_session, nothing}
 use Rattle.effect_spec.specs.SessionAuths.{ResponseAuth, response_auth, rp_hash}
@@ -70,7 +71,7 @@ failed_tells false false success is = (refl, refl)
 
 -- where the response of a command has a handle, it makes an object, and where it starts a session its response has one
 record IsMaker (a : Admitted) (bytes : List ℕ) : Type 0 where
-  object : starts_session a ≡ false → a.shape.row.response_handle ≡ true → makes_object_by (Ok a.shape) bytes ≡ true
+  object : starts_session a ≡ false → a.shape.row.response_handle ≡ true → makes_object_by PROFILE_CONTEXTS (Ok a.shape) bytes ≡ true
   session : starts_session a ≡ true → a.shape.row.response_handle ≡ true
 
 told_by : (a : Admitted) (bytes : List ℕ) (created : Created) (reply : List ℕ) (start named : Bool) → starts_session a ≡ start → a.shape.row.response_handle ≡ named
@@ -187,7 +188,7 @@ command_made client state bytes a e managed =
     (outcome_made tables state.persist operands bytes a (starts_session a) refl e managed)
     (record {
       object = λ other has.
-          no_load (makes_one a.shape.row) (a.shape.row.code == CC_CONTEXT_LOAD) (loads_object bytes) (known.makes other has)
+          no_load (makes_one a.shape.row) (a.shape.row.code == CC_CONTEXT_LOAD) (loads_object PROFILE_CONTEXTS bytes) (known.makes other has)
           (unmanaged a.shape.row.code managed).load;
       session = λ so. (known.starts so).0;
     })

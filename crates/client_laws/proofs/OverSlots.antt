@@ -8,6 +8,7 @@ use Rattle.tab_spec.specs.Persist.{Persist}
 use Rattle.tab_spec.specs.Reply.{error_reply}
 use Rattle.tab_spec.specs.Shape.{row_in}
 use Rattle.tab_spec.specs.Values.{AreBytes}
+use Rattle.tab_spec.specs.declared.contexts.TheConstants.{PROFILE_CONTEXTS}
 use Rattle.effect_spec.specs.Effect.{Effect, effect_of}
 use Rattle.effect_spec.specs.Operands.{Operands}
 use Rattle.world_spec.specs.World.{ClientState, room_for, tables_of}
@@ -68,14 +69,14 @@ admitted_here tables bytes a e = e
 -- of StartAuthSession, and of any other
 sort_taken : (slots : SlotState) (sent : List ℕ) (a : Admitted) (start : Bool) → starts_session a ≡ start → IsSlots slots → slots.started ≡ true
     → admitted row_of (slot_tables slots) sent ≡ Ok a → (starts_session a ≡ false → is_of_effects a.shape.row.code ≡ true)
-    → (starts_session a ≡ true → HasPlace slots) → takes false false sent (slot_step slots sent).1 ≡ true
+    → (starts_session a ≡ true → HasPlace slots) → takes PROFILE_CONTEXTS false false sent (slot_step slots sent).1 ≡ true
 sort_taken slots sent a true is sound started here only place = start_taken slots sent a sound started here is (place is)
 sort_taken slots sent a false is sound started here only place =
     answers_rightly slots sent a sound started (admitted_here (slot_tables slots) sent a here) (only is)
 
 pub command_taken : (slots : SlotState) (client : ℕ) (state : ClientState) (bytes : List ℕ) (a : Admitted) (first : ℕ)
     → client_admitted (tables_of client state) bytes ≡ Ok a → is_managed a.shape.row.code ≡ false → AreBytes bytes
-    → IsReady slots client state a bytes first → takes false false (sent_for bytes a first) (slot_step slots (sent_for bytes a first)).1 ≡ true
+    → IsReady slots client state a bytes first → takes PROFILE_CONTEXTS false false (sent_for bytes a first) (slot_step slots (sent_for bytes a first)).1 ≡ true
 command_taken slots client state bytes a first e managed all ready =
     let tables = tables_of client state in
     let run = runs slots client state bytes a first e all ready in

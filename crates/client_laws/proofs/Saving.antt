@@ -16,6 +16,8 @@ use Rattle.tab_spec.specs.Reply.{response}
 use Rattle.tab_spec.specs.Session.{Session}
 use Rattle.tab_spec.specs.Shape.{cut_handle, handle_bytes, number_of_session, octet_of}
 use Rattle.tab_spec.specs.Values.{AreBytes}
+use Rattle.tab_spec.specs.declared.contexts.TheConstants.{PROFILE_CONTEXTS}
+use Rattle.tab_spec.specs.declared.contexts.ContextLimits.{ContextLimits}
 use Rattle.effect_spec.specs.Contexts.{object_context, session_context}
 use Rattle.history_spec.specs.declared.Pick.TheVariants.{Sequence}
 use Rattle.history_spec.specs.Table.{held_under}
@@ -58,9 +60,9 @@ header_again bytes all long =
     ∙ sym (append_assoc (take 2 bytes) (take 4 (drop 2 bytes)) (take 4 (drop 6 bytes)))
     ∙ λ i. sym tag i ++ sym size i ++ sym code i
 
-pub save_sent : (tables : Tables) (bytes : List ℕ) (a : Admitted) (first : ℕ) → client_admitted tables bytes ≡ Ok a → (a.shape.row.code == CC_CONTEXT_SAVE) ≡ true
-    → is_sent a bytes ≡ true → AreBytes bytes → sent_for bytes a first ≡ context_save_command first
-save_sent tables bytes a first e is sent all =
+pub save_sent : (contexts : ContextLimits) (tables : Tables) (bytes : List ℕ) (a : Admitted) (first : ℕ) → client_admitted tables bytes ≡ Ok a
+    → (a.shape.row.code == CC_CONTEXT_SAVE) ≡ true → is_sent contexts a bytes ≡ true → AreBytes bytes → sent_for bytes a first ≡ context_save_command first
+save_sent contexts tables bytes a first e is sent all =
     let whole = (client_is tables bytes a e).whole in
     let known = clients_command tables bytes a e in
     let p = passed tables bytes a whole in
@@ -71,7 +73,7 @@ save_sent tables bytes a first e is sent all =
     long_enough true false (length bytes) (RC_INSUFFICIENT + RC_1 * 1) (RC_INSUFFICIENT + RC_1 * 2) least refl
     (subst (λ (r : CommandRow). cut_handle r.handles 1 bytes ≡ None) row p.cut) in
     let none : length (drop 14 bytes) ≡ 0 =
-    ap (λ (n : ℕ). length (drop n bytes)) (sym b.params) ∙ eqb-true (length (drop a.auths.params bytes)) 0 (sent_save a bytes sent is) in
+    ap (λ (n : ℕ). length (drop n bytes)) (sym b.params) ∙ eqb-true (length (drop a.auths.params bytes)) 0 (sent_save contexts a bytes sent is) in
     let size : length bytes ≡ 14 = omega (arith, none, length-drop 14 bytes, long) in
     let empty : drop 14 bytes ≡ [] = drop_of_length-le bytes {i = 14} (omega (arith, size)) in
     let says : size_of bytes ≡ 14 = eqb-true (size_of bytes) (length bytes) (and_parts (is_size (length bytes)) (size_of bytes == length bytes) p.frame).1 ∙ size in
@@ -90,28 +92,28 @@ stands_object true slots objects handle first is stands = stands
 stands_object false slots objects handle first is stands = absurd cc
 
 pub save_over : (slots : SlotState) (client : ℕ) (state : ClientState) (bytes : List ℕ) (a : Admitted) (first : ℕ) (o : Object)
-    → client_admitted (tables_of client state) bytes ≡ Ok a → (a.shape.row.code == CC_CONTEXT_SAVE) ≡ true → is_sent a bytes ≡ true → AreBytes bytes
+    → client_admitted (tables_of client state) bytes ≡ Ok a → (a.shape.row.code == CC_CONTEXT_SAVE) ≡ true → is_sent PROFILE_CONTEXTS a bytes ≡ true → AreBytes bytes
     → IsReady slots client state a bytes first → (octet_of (get_or a.shape.handles 0 0) == HT_TRANSIENT) ≡ true
     → held_under state.objects (get_or a.shape.handles 0 0) ≡ Some o → slots.object_counter < CONTEXT_LIMIT
     → slot_step slots (sent_for bytes a first) ≡ object_out slots o
 save_over slots client state bytes a first o e is sent all ready transient there more =
     let handle = get_or a.shape.handles 0 0 in
     let stands = stands_object (octet_of handle == HT_TRANSIENT) slots state.objects handle first transient ready.stands in
-    ap (slot_step slots) (save_sent (tables_of client state) bytes a first e is sent all)
+    ap (slot_step slots) (save_sent PROFILE_CONTEXTS (tables_of client state) bytes a first e is sent all)
     ∙ object_out_step slots first o ready.started ready.fits stands.0 (stands.1 ∙ there) more
 
 pub save_over_taken : (is_kept is_taken : Bool) (slots : SlotState) (client : ℕ) (state : ClientState) (bytes : List ℕ) (a : Admitted) (first : ℕ) (o : Object)
-    → client_admitted (tables_of client state) bytes ≡ Ok a → (a.shape.row.code == CC_CONTEXT_SAVE) ≡ true → is_sent a bytes ≡ true → AreBytes bytes
+    → client_admitted (tables_of client state) bytes ≡ Ok a → (a.shape.row.code == CC_CONTEXT_SAVE) ≡ true → is_sent PROFILE_CONTEXTS a bytes ≡ true → AreBytes bytes
     → IsReady slots client state a bytes first → (octet_of (get_or a.shape.handles 0 0) == HT_TRANSIENT) ≡ true
     → held_under state.objects (get_or a.shape.handles 0 0) ≡ Some o → slots.object_counter < CONTEXT_LIMIT
-    → takes is_kept is_taken (sent_for bytes a first) (slot_step slots (sent_for bytes a first)).1 ≡ true
+    → takes PROFILE_CONTEXTS is_kept is_taken (sent_for bytes a first) (slot_step slots (sent_for bytes a first)).1 ≡ true
 save_over_taken is_kept is_taken slots client state bytes a first o e is sent all ready transient there more =
     let handle = get_or a.shape.handles 0 0 in
     let command = context_save_command first in
     let stands = stands_object (octet_of handle == HT_TRANSIENT) slots state.objects handle first transient ready.stands in
-    subst (λ (asked : List ℕ). takes is_kept is_taken asked (slot_step slots asked).1 ≡ true)
-    (sym (save_sent (tables_of client state) bytes a first e is sent all))
-    (takes_same is_kept is_taken command (slot_step slots command).1 refl refl
+    subst (λ (asked : List ℕ). takes PROFILE_CONTEXTS is_kept is_taken asked (slot_step slots asked).1 ≡ true)
+    (sym (save_sent PROFILE_CONTEXTS (tables_of client state) bytes a first e is sent all))
+    (takes_same PROFILE_CONTEXTS is_kept is_taken command (slot_step slots command).1 refl refl
     ∙ save_taken slots first o ready.sound ready.started ready.fits stands.0 (stands.1 ∙ there) more)
 
 -- ---- what the plain machine does
@@ -124,15 +126,15 @@ nothing_read : (params : List ℕ) → (length params == 0) ≡ true → save_pa
 nothing_read params none = cond-true (length params == 0) (Ok 0) (Err RC_SIZE) none
 
 plain_save : (client : ℕ) (state : ClientState) (bytes : List ℕ) (a : Admitted) (sequence : ℕ) → client_admitted (tables_of client state) bytes ≡ Ok a
-    → (a.shape.row.code == CC_CONTEXT_SAVE) ≡ true → is_sent a bytes ≡ true
+    → (a.shape.row.code == CC_CONTEXT_SAVE) ≡ true → is_sent PROFILE_CONTEXTS a bytes ≡ true
     → client_step client state bytes (Sequence sequence) ≡ handed_step client state (get_or a.shape.handles 0 0) sequence
 plain_save client state bytes a sequence e is sent =
     step_saved client state bytes (Sequence sequence) a e is
     ∙ ap (λ (read : Result ℕ ℕ). save_step client state (get_or a.shape.handles 0 0) read (Sequence sequence))
-    (nothing_read (drop a.auths.params bytes) (sent_save a bytes sent is))
+    (nothing_read (drop a.auths.params bytes) (sent_save PROFILE_CONTEXTS a bytes sent is))
 
 pub save_object_plain : (client : ℕ) (state : ClientState) (bytes : List ℕ) (a : Admitted) (sequence : ℕ) (o : Object)
-    → client_admitted (tables_of client state) bytes ≡ Ok a → (a.shape.row.code == CC_CONTEXT_SAVE) ≡ true → is_sent a bytes ≡ true
+    → client_admitted (tables_of client state) bytes ≡ Ok a → (a.shape.row.code == CC_CONTEXT_SAVE) ≡ true → is_sent PROFILE_CONTEXTS a bytes ≡ true
     → (octet_of (get_or a.shape.handles 0 0) == HT_TRANSIENT) ≡ true → held_under state.objects (get_or a.shape.handles 0 0) ≡ Some o
     → state.object_sequence ≤ sequence → sequence < CONTEXT_LIMIT
     → client_step client state bytes (Sequence sequence)
@@ -148,7 +150,7 @@ save_object_plain client state bytes a sequence o e is sent transient there free
     ∙ cond-true (may_hand_out state.object_sequence sequence) (Some handed) None (may_so state.object_sequence sequence free more)
 
 pub save_session_plain : (client : ℕ) (state : ClientState) (bytes : List ℕ) (a : Admitted) (sequence : ℕ) (s : Session)
-    → client_admitted (tables_of client state) bytes ≡ Ok a → (a.shape.row.code == CC_CONTEXT_SAVE) ≡ true → is_sent a bytes ≡ true
+    → client_admitted (tables_of client state) bytes ≡ Ok a → (a.shape.row.code == CC_CONTEXT_SAVE) ≡ true → is_sent PROFILE_CONTEXTS a bytes ≡ true
     → is_session_handle (get_or a.shape.handles 0 0) ≡ true → session_of state.sessions client (get_or a.shape.handles 0 0) ≡ Some s
     → state.session_sequence ≤ sequence → sequence < CONTEXT_LIMIT
     → (let handle = get_or a.shape.handles 0 0 in

@@ -20,6 +20,7 @@ use Rattle.tab_spec.specs.Reply.{error_reply, response}
 use Rattle.tab_spec.specs.Session.{Session, is_kind_number, kind_octet, kind_of}
 use Rattle.tab_spec.specs.Shape.{are_of_kinds, handles_in, is_present, number_of_session, octet_of, rest_of}
 use Rattle.tab_spec.specs.Values.{Reading}
+use Rattle.tab_spec.specs.declared.contexts.TheConstants.{PROFILE_CONTEXTS}
 use Rattle.effect_spec.specs.Effect.{Effect, RowOutcome, command_entity, effect_authorized, effect_in, effect_of, ends_session, handle_area, outcome_of, response_auth_of, response_body}
 use Rattle.effect_spec.specs.Operands.{Operand, absent, plain, an_object, a_session, Operands, Created, command_auth, handles_left, named_session, new_object, new_session, nothing, object_operand, operand_at, operand_by, session_left, session_operand, with_handle, with_operand}
 use Rattle.effect_spec.specs.SessionAuths.{ResponseAuth, response_auth, rp_hash}
@@ -165,7 +166,7 @@ handle_fits start started other a b = rw (a, b) refl
 -- ---- its response is taken
 
 abbrev Taken : List ℕ → List ℕ → Type 0
-Taken bytes reply = is_frame reply ≡ true → takes false false bytes reply ≡ true
+Taken bytes reply = is_frame reply ≡ true → takes PROFILE_CONTEXTS false false bytes reply ≡ true
 
 no_own : (startup save flush load capability session object tables : Bool) → startup ≡ false → save ≡ false → flush ≡ false → load ≡ false → capability ≡ false
     → (startup || save || flush || (load && session) || ((load && object) && false) || (capability && tables)) ≡ false
@@ -174,7 +175,7 @@ no_own startup save flush load capability session object tables a b c d e = rw (
 another : (code other : ℕ) → (code == CC_START_AUTH_SESSION) ≡ true → (CC_START_AUTH_SESSION == other) ≡ false → (code == other) ≡ false
 another code other is not = another_code code CC_START_AUTH_SESSION other is not
 
-own_none : (bytes : List ℕ) → (code_of bytes == CC_START_AUTH_SESSION) ≡ true → is_own false bytes ≡ false
+own_none : (bytes : List ℕ) → (code_of bytes == CC_START_AUTH_SESSION) ≡ true → is_own PROFILE_CONTEXTS false bytes ≡ false
 own_none bytes is =
     let code = code_of bytes in
     no_own (code == CC_STARTUP) (code == CC_CONTEXT_SAVE) (code == CC_FLUSH_CONTEXT) (code == CC_CONTEXT_LOAD) (code == CC_GET_CAPABILITY) _ _ _
@@ -330,7 +331,7 @@ room_asked slots code params is = ap (λ (start : Bool). if start then session_t
 
 pub start_taken : (slots : SlotState) (bytes : List ℕ) (a : Admitted) → IsSlots slots → slots.started ≡ true
     → admitted row_of (slot_tables slots) bytes ≡ Ok a → (a.shape.row.code == CC_START_AUTH_SESSION) ≡ true → HasPlace slots
-    → takes false false bytes (slot_step slots bytes).1 ≡ true
+    → takes PROFILE_CONTEXTS false false bytes (slot_step slots bytes).1 ≡ true
 start_taken slots bytes a sound started e so place =
     let params = drop a.auths.params bytes in
     let effect = effect_of slots.persist (slot_operands slots a.shape a.auths) a.shape a.auths bytes in

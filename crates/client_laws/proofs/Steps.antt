@@ -12,11 +12,11 @@ use Rattle.client_laws.specs.Ready.{client_effect}
 use Rattle.client_laws.proofs.Commands.{unmanaged}
 
 pub looked_up : (tables other : Tables) (bytes : List ℕ) → ((handle : ℕ) → tables.has_object handle ≡ other.has_object handle)
-    → ((handle : ℕ) → tables.has_session handle ≡ other.has_session handle) → tables.is_full ≡ other.is_full
+    → ((handle : ℕ) → tables.has_session handle ≡ other.has_session handle) → tables.is_full ≡ other.is_full → tables.contexts ≡ other.contexts
     → client_admitted tables bytes ≡ client_admitted other bytes
-looked_up tables other bytes objects sessions full =
+looked_up tables other bytes objects sessions full contexts =
     let same : tables ≡ other =
-    λ i. record { has_object = λ handle. objects handle i; has_session = λ handle. sessions handle i; is_full = full i } in
+    λ i. record { has_object = λ handle. objects handle i; has_session = λ handle. sessions handle i; is_full = full i; contexts = contexts i } in
     ap (λ (t : Tables). client_admitted t bytes) same
 
 -- ---- the sorts of steps

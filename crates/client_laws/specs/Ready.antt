@@ -8,6 +8,8 @@ use Rattle.tab_spec.specs.Admission.{is_session_handle}
 use Rattle.tab_spec.specs.Frame.{code_of}
 use Rattle.tab_spec.specs.Object.{Object}
 use Rattle.tab_spec.specs.Shape.{loads_object, makes_object_by, octet_of, with_handles}
+use Rattle.tab_spec.specs.declared.contexts.TheConstants.{PROFILE_CONTEXTS}
+use Rattle.tab_spec.specs.declared.contexts.ContextLimits.{ContextLimits}
 use Rattle.effect_spec.specs.Capabilities.{is_of_device}
 use Rattle.effect_spec.specs.Operands.{Created, Operand, Operands, a_session, absent, an_object, command_auth, new_object, new_session, nothing, operand_at, plain}
 use Rattle.effect_spec.specs.SessionAuths.{continues}
@@ -45,18 +47,18 @@ pub record IsReady (slots : SlotState) (client : ℕ) (state : ClientState) (a :
   pub fits : first < 2 ^ 32
   pub stands : StandsFor slots state.objects (get_or a.shape.handles 0 0) first
   pub sessions : AllByRecursion (λ handle. loaded_session slots handle ≡ session_of state.sessions client handle) (named_sessions a)
-  pub room : makes_object_by (Ok a.shape) bytes ≡ true → list_any is_free slots.slots ≡ true
+  pub room : makes_object_by PROFILE_CONTEXTS (Ok a.shape) bytes ≡ true → list_any is_free slots.slots ≡ true
   pub place : (a.shape.row.code == CC_START_AUTH_SESSION) ≡ true → HasSessionRoom slots state
 
--- whether an admitted command is sent to the device: FlushContext isn't, ContextSave only where nothing follows its handle, ContextLoad
+-- whether an admitted command is sent to a device with these contexts: FlushContext isn't, ContextSave only where nothing follows its handle, ContextLoad
 -- only of an object's context, and GetCapability only of a list that is the device's
-abbrev pub is_sent : Admitted → List ℕ → Bool
-is_sent a bytes =
+abbrev pub is_sent : ContextLimits → Admitted → List ℕ → Bool
+is_sent contexts a bytes =
     let code = a.shape.row.code in
     let params = drop a.auths.params bytes in
     if code == CC_FLUSH_CONTEXT then false
     else if code == CC_CONTEXT_SAVE then length params == 0
-    else if code == CC_CONTEXT_LOAD then loads_object bytes
+    else if code == CC_CONTEXT_LOAD then loads_object contexts bytes
     else if code == CC_GET_CAPABILITY then is_of_device params
     else true
 
@@ -83,7 +85,7 @@ tells_object a reply = not (starts_session a) && a.shape.row.response_handle && 
 abbrev pub TellsMade : Admitted → List ℕ → Created → List ℕ → Type 0
 TellsMade a bytes nothing reply = (tells_object a reply ≡ false) × (tells_session a reply ≡ false)
 TellsMade a bytes (new_object o) reply =
-    (tells_object a reply ≡ true) × (14 ≤ length reply) × (makes_object_by (Ok a.shape) bytes ≡ true)
+    (tells_object a reply ≡ true) × (14 ≤ length reply) × (makes_object_by PROFILE_CONTEXTS (Ok a.shape) bytes ≡ true)
 TellsMade a bytes (new_session s) reply = (tells_session a reply ≡ true) × (14 ≤ length reply)
 
 -- ---- the sessions that a command leaves

@@ -11,6 +11,8 @@ ghost use Rattle.tab_spec.specs.Reply.{error_reply, response};
 ghost use Rattle.tab_spec.specs.Session.{Session};
 ghost use Rattle.tab_spec.specs.Shape.{number_of_session, octet_of};
 ghost use Rattle.tab_spec.specs.Values.{AreBytes};
+ghost use Rattle.tab_spec.specs.declared.contexts.TheConstants.{PROFILE_CONTEXTS};
+ghost use Rattle.tab_spec.specs.declared.contexts.ContextLimits.{ContextLimits};
 ghost use Rattle.effect_spec.specs.Contexts.{Context, object_context, opened_object};
 ghost use Rattle.effect_spec.specs.Contexts.{session_context};
 ghost use Rattle.history_spec.specs.declared.Pick.TheVariants.{Nothing, Sequence};
@@ -28,15 +30,16 @@ ghost use Rattle.client_laws.specs.Ready.{IsReady, is_sent, sent_for};
 /// use, under each sequence that is free; the session is saved then. The sequence is the first
 /// eight bytes of the context.
 pub fn clients_contexts_are_saved()
-    ensures sent { (tables : Tables) (bytes : List ℕ) (a : Admitted) (first : ℕ)
-        → client_admitted tables bytes ≡ Ok a → (a.shape.row.code == CC_CONTEXT_SAVE) ≡ true
-        → is_sent a bytes ≡ true → AreBytes bytes
+    ensures sent { (contexts : ContextLimits) (tables : Tables) (bytes : List ℕ) (a : Admitted)
+        (first : ℕ) → client_admitted tables bytes ≡ Ok a
+        → (a.shape.row.code == CC_CONTEXT_SAVE) ≡ true
+        → is_sent contexts a bytes ≡ true → AreBytes bytes
         → sent_for bytes a first ≡ context_save_command first }
     ensures over { (slots : SlotState) (client : ℕ) (state : ClientState) (bytes : List ℕ)
         (a : Admitted) (first : ℕ) (o : Object)
         → client_admitted (tables_of client state) bytes ≡ Ok a
-        → (a.shape.row.code == CC_CONTEXT_SAVE) ≡ true → is_sent a bytes ≡ true → AreBytes bytes
-        → IsReady slots client state a bytes first
+        → (a.shape.row.code == CC_CONTEXT_SAVE) ≡ true → is_sent PROFILE_CONTEXTS a bytes ≡ true
+        → AreBytes bytes → IsReady slots client state a bytes first
         → (octet_of (get_or a.shape.handles 0 0) == HT_TRANSIENT) ≡ true
         → held_under state.objects (get_or a.shape.handles 0 0) ≡ Some o
         → slots.object_counter < CONTEXT_LIMIT
@@ -49,16 +52,16 @@ pub fn clients_contexts_are_saved()
     ensures taken { (is_kept is_taken : Bool) (slots : SlotState) (client : ℕ) (state : ClientState)
         (bytes : List ℕ) (a : Admitted) (first : ℕ) (o : Object)
         → client_admitted (tables_of client state) bytes ≡ Ok a
-        → (a.shape.row.code == CC_CONTEXT_SAVE) ≡ true → is_sent a bytes ≡ true → AreBytes bytes
-        → IsReady slots client state a bytes first
+        → (a.shape.row.code == CC_CONTEXT_SAVE) ≡ true → is_sent PROFILE_CONTEXTS a bytes ≡ true
+        → AreBytes bytes → IsReady slots client state a bytes first
         → (octet_of (get_or a.shape.handles 0 0) == HT_TRANSIENT) ≡ true
         → held_under state.objects (get_or a.shape.handles 0 0) ≡ Some o
         → slots.object_counter < CONTEXT_LIMIT
-        → takes is_kept is_taken (sent_for bytes a first)
+        → takes PROFILE_CONTEXTS is_kept is_taken (sent_for bytes a first)
         (slot_step slots (sent_for bytes a first)).1 ≡ true }
     ensures object { (client : ℕ) (state : ClientState) (bytes : List ℕ) (a : Admitted)
         (sequence : ℕ) (o : Object) → client_admitted (tables_of client state) bytes ≡ Ok a
-        → (a.shape.row.code == CC_CONTEXT_SAVE) ≡ true → is_sent a bytes ≡ true
+        → (a.shape.row.code == CC_CONTEXT_SAVE) ≡ true → is_sent PROFILE_CONTEXTS a bytes ≡ true
         → (octet_of (get_or a.shape.handles 0 0) == HT_TRANSIENT) ≡ true
         → held_under state.objects (get_or a.shape.handles 0 0) ≡ Some o
         → state.object_sequence ≤ sequence → sequence < CONTEXT_LIMIT
@@ -69,7 +72,7 @@ pub fn clients_contexts_are_saved()
         ) }
     ensures session { (client : ℕ) (state : ClientState) (bytes : List ℕ) (a : Admitted)
         (sequence : ℕ) (s : Session) → client_admitted (tables_of client state) bytes ≡ Ok a
-        → (a.shape.row.code == CC_CONTEXT_SAVE) ≡ true → is_sent a bytes ≡ true
+        → (a.shape.row.code == CC_CONTEXT_SAVE) ≡ true → is_sent PROFILE_CONTEXTS a bytes ≡ true
         → is_session_handle (get_or a.shape.handles 0 0) ≡ true
         → session_of state.sessions client (get_or a.shape.handles 0 0) ≡ Some s
         → state.session_sequence ≤ sequence → sequence < CONTEXT_LIMIT
@@ -113,31 +116,31 @@ pub fn clients_contexts_of_objects_are_loaded()
     ensures loaded { (slots : SlotState) (client : ℕ) (state : ClientState) (bytes : List ℕ)
         (a : Admitted) (first : ℕ) (c : Context)
         → client_admitted (tables_of client state) bytes ≡ Ok a
-        → (a.shape.row.code == CC_CONTEXT_LOAD) ≡ true → is_sent a bytes ≡ true → AreBytes bytes
-        → IsReady slots client state a bytes first
+        → (a.shape.row.code == CC_CONTEXT_LOAD) ≡ true → is_sent PROFILE_CONTEXTS a bytes ≡ true
+        → AreBytes bytes → IsReady slots client state a bytes first
         → load_parameters (drop a.auths.params bytes) ≡ Ok c
         → (let opened = opened_object slots.persist.seed (drop a.auths.params bytes) in
         slot_step slots (sent_for bytes a first) ≡ step_by slots (object_loaded slots opened)) }
     ensures plain_loaded { (client : ℕ) (state : ClientState) (bytes : List ℕ) (a : Admitted)
         (c : Context) → client_admitted (tables_of client state) bytes ≡ Ok a
-        → (a.shape.row.code == CC_CONTEXT_LOAD) ≡ true → is_sent a bytes ≡ true
+        → (a.shape.row.code == CC_CONTEXT_LOAD) ≡ true → is_sent PROFILE_CONTEXTS a bytes ≡ true
         → load_parameters (drop a.auths.params bytes) ≡ Ok c
         → (let opened = opened_object state.persist.seed (drop a.auths.params bytes) in
         client_step client state bytes Nothing ≡ Some (object_opened state opened)) }
     ensures taken { (is_taken : Bool) (slots : SlotState) (client : ℕ) (state : ClientState)
         (bytes : List ℕ) (a : Admitted) (first : ℕ)
         → client_admitted (tables_of client state) bytes ≡ Ok a
-        → (a.shape.row.code == CC_CONTEXT_LOAD) ≡ true → is_sent a bytes ≡ true → AreBytes bytes
-        → IsReady slots client state a bytes first
-        → takes false is_taken (sent_for bytes a first)
+        → (a.shape.row.code == CC_CONTEXT_LOAD) ≡ true → is_sent PROFILE_CONTEXTS a bytes ≡ true
+        → AreBytes bytes → IsReady slots client state a bytes first
+        → takes PROFILE_CONTEXTS false is_taken (sent_for bytes a first)
         (slot_step slots (sent_for bytes a first)).1 ≡ true }
     ensures kept { (is_taken : Bool) (slots : SlotState) (client : ℕ) (state : ClientState)
         (bytes : List ℕ) (a : Admitted) (first : ℕ) (o : Object)
         → client_admitted (tables_of client state) bytes ≡ Ok a
-        → (a.shape.row.code == CC_CONTEXT_LOAD) ≡ true → is_sent a bytes ≡ true → AreBytes bytes
-        → IsReady slots client state a bytes first
+        → (a.shape.row.code == CC_CONTEXT_LOAD) ≡ true → is_sent PROFILE_CONTEXTS a bytes ≡ true
+        → AreBytes bytes → IsReady slots client state a bytes first
         → opened_object slots.persist.seed (drop a.auths.params bytes) ≡ Some o
-        → takes true is_taken (sent_for bytes a first)
+        → takes PROFILE_CONTEXTS true is_taken (sent_for bytes a first)
         (slot_step slots (sent_for bytes a first)).1 ≡ true }
     ensures object { (seed : List ℕ) (bytes : List ℕ) (a : Admitted) (o : Object)
         → opened_object seed (drop a.auths.params bytes) ≡ Some o → IsObject o }
@@ -150,7 +153,7 @@ pub fn clients_contexts_of_objects_are_loaded()
 pub fn devices_list_for_clients()
     ensures told { (slots : SlotState) (client : ℕ) (state : ClientState) (bytes : List ℕ)
         (a : Admitted) (first : ℕ) → client_admitted (tables_of client state) bytes ≡ Ok a
-        → (a.shape.row.code == CC_GET_CAPABILITY) ≡ true → is_sent a bytes ≡ true
+        → (a.shape.row.code == CC_GET_CAPABILITY) ≡ true → is_sent PROFILE_CONTEXTS a bytes ≡ true
         → slots.started ≡ true → slots.persist ≡ state.persist
         → (reply : List ℕ)
         × ((slot_step slots (sent_for bytes a first) ≡ (slots, reply))
@@ -158,8 +161,8 @@ pub fn devices_list_for_clients()
     ensures taken { (is_kept is_taken : Bool) (slots : SlotState) (client : ℕ) (state : ClientState)
         (bytes : List ℕ) (a : Admitted) (first : ℕ)
         → client_admitted (tables_of client state) bytes ≡ Ok a
-        → (a.shape.row.code == CC_GET_CAPABILITY) ≡ true → is_sent a bytes ≡ true
+        → (a.shape.row.code == CC_GET_CAPABILITY) ≡ true → is_sent PROFILE_CONTEXTS a bytes ≡ true
         → slots.started ≡ true → slots.persist ≡ state.persist
-        → takes is_kept is_taken (sent_for bytes a first)
+        → takes PROFILE_CONTEXTS is_kept is_taken (sent_for bytes a first)
         (slot_step slots (sent_for bytes a first)).1 ≡ true }
 {}

@@ -4,8 +4,9 @@ ghost use Rattle.std.specs.Prelude.{◌≡◌, ◌∷◌, ◌++◌, [], true, fa
 ghost use Rattle.tab_spec.specs.declared.TheConstants.{CC_CONTEXT_LOAD, CC_CONTEXT_SAVE};
 ghost use Rattle.tab_spec.specs.declared.TheConstants.{CC_GET_CAPABILITY};
 ghost use Rattle.tab_spec.specs.Examples.{flush, frame, save, u32};
+ghost use Rattle.tab_spec.specs.declared.contexts.TheConstants.{TPM_CONTEXTS};
 ghost use Rattle.world_spec.specs.Examples.{ask};
-ghost use Rattle.client_laws.specs.Examples.{is_sent_for, load_of};
+ghost use Rattle.client_laws.specs.Examples.{is_sent_for, load_of, is_sent_to};
 
 #[tactic(auto, unfolding(tab_spec::specs::Auths::auths_of, tab_spec::specs::Admission::admitted))]
 fn contexts_are_sent()
@@ -17,6 +18,13 @@ fn contexts_are_sent()
     ensures nothing_behind { is_sent_for (load_of 0x80000000 ([])) ≡ Some true }
     ensures another_object { is_sent_for (load_of 0x80000001 (u32 0x40000001)) ≡ Some false }
     ensures loads_session { is_sent_for (load_of 0x02000000 (u32 0x40000007)) ≡ Some false }
+    ensures st_clear { is_sent_for (load_of 0x80000002 (u32 0x40000001)) ≡ Some false }
+    ensures st_clear_to_a_tpm { is_sent_to TPM_CONTEXTS (load_of 0x80000002 (u32 0x40000001))
+        ≡ Some true }
+    ensures sequence_to_a_tpm { is_sent_to TPM_CONTEXTS (load_of 0x80000001 (u32 0x40000001))
+        ≡ Some false }
+    ensures session_to_a_tpm { is_sent_to TPM_CONTEXTS (load_of 0x02000000 (u32 0x40000007))
+        ≡ Some false }
     ensures cut { is_sent_for
         (frame 0x8001 CC_CONTEXT_LOAD (u32 0 ++ u32 7 ++ 0x80 ∷ 0 ∷ 0 ∷ [])) ≡ Some false }
     ensures flushed { is_sent_for (flush 0x80000000) ≡ Some false }

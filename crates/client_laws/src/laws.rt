@@ -12,6 +12,8 @@ ghost use Rattle.tab_spec.specs.Frame.{code_of, is_frame};
 ghost use Rattle.tab_spec.specs.Reply.{error_reply};
 ghost use Rattle.tab_spec.specs.Shape.{makes_object_by, number_of_session, octet_of};
 ghost use Rattle.tab_spec.specs.Values.{AreBytes};
+ghost use Rattle.tab_spec.specs.declared.contexts.ContextLimits.{ContextLimits};
+ghost use Rattle.tab_spec.specs.declared.contexts.TheConstants.{PROFILE_CONTEXTS};
 ghost use Rattle.history_spec.specs.declared.Pick.{Pick};
 ghost use Rattle.world_spec.specs.World.{ClientState, capability_step, choosing_nothing};
 ghost use Rattle.world_spec.specs.World.{client_capability, client_step, effect_step, flush_handle};
@@ -23,13 +25,14 @@ ghost use Rattle.device_laws.specs.Effects.{is_managed};
 ghost use Rattle.client_laws.specs.Ready.{IsReady, TellsMade, client_effect, is_sent, sent_for};
 ghost use Rattle.client_laws.specs.Ready.{tells_object, tells_session};
 
-/// Whether a client's command is admitted depends on what is there under each handle, and on
-/// whether there is room for another object, and on nothing else of the tables.
+/// Whether a client's command is admitted depends on what is there under each handle, on whether
+/// there is room for another object, and on what contexts may be, and on nothing else of the
+/// tables.
 pub fn admissions_look_things_up()
     ensures { (tables other : Tables) (bytes : List ℕ)
         → ((handle : ℕ) → tables.has_object handle ≡ other.has_object handle)
         → ((handle : ℕ) → tables.has_session handle ≡ other.has_session handle)
-        → tables.is_full ≡ other.is_full
+        → tables.is_full ≡ other.is_full → tables.contexts ≡ other.contexts
         → client_admitted tables bytes ≡ client_admitted other bytes }
 {}
 
@@ -101,7 +104,8 @@ pub fn clients_commands_run_over_slots()
         (a : Admitted) (first : ℕ) → client_admitted (tables_of client state) bytes ≡ Ok a
         → is_managed a.shape.row.code ≡ false → AreBytes bytes
         → IsReady slots client state a bytes first
-        → takes false false (sent_for bytes a first) (slot_step slots (sent_for bytes a first)).1
+        → takes PROFILE_CONTEXTS false false (sent_for bytes a first)
+        (slot_step slots (sent_for bytes a first)).1
         ≡ true }
     ensures made { (client : ℕ) (state : ClientState) (bytes : List ℕ) (a : Admitted)
         → client_admitted (tables_of client state) bytes ≡ Ok a
@@ -110,7 +114,8 @@ pub fn clients_commands_run_over_slots()
         (client_effect client state a bytes).reply }
 {}
 
-/// What is known of a client's command that is admitted, over whatever tables. With another first
+/// What is known of a client's command that is admitted, over whatever tables, and of a device with
+/// whatever contexts. With another first
 /// handle it is still a frame with the same code, which isn't Startup's, and its second handle is
 /// of no object. The response to a command that is sent tells a new object's handle only where the
 /// command makes an object. Where a broker takes a response that tells a handle, the handle is
@@ -129,17 +134,22 @@ pub fn clients_commands_go_over_other_handles()
         → client_admitted tables bytes ≡ Ok a → code_of bytes ≡ a.shape.row.code }
     ensures sent_code { (tables : Tables) (bytes : List ℕ) (a : Admitted) (first : ℕ)
         → client_admitted tables bytes ≡ Ok a → code_of (sent_for bytes a first) ≡ code_of bytes }
-    ensures one_object { (tables : Tables) (bytes : List ℕ) (a : Admitted) (reply : List ℕ)
-        → client_admitted tables bytes ≡ Ok a → is_sent a bytes ≡ true
-        → tells_object a reply ≡ true → makes_object_by (Ok a.shape) bytes ≡ true }
-    ensures object_fits { (is_taken : Bool) (tables : Tables) (bytes : List ℕ) (a : Admitted)
-        (first : ℕ) (last : List ℕ) → client_admitted tables bytes ≡ Ok a → is_sent a bytes ≡ true
-        → takes false is_taken (sent_for bytes a first) last ≡ true → tells_object a last ≡ true
+    ensures one_object { (contexts : ContextLimits) (tables : Tables) (bytes : List ℕ)
+        (a : Admitted) (reply : List ℕ) → client_admitted tables bytes ≡ Ok a
+        → is_sent contexts a bytes ≡ true → tells_object a reply ≡ true
+        → makes_object_by contexts (Ok a.shape) bytes ≡ true }
+    ensures object_fits { (contexts : ContextLimits) (is_taken : Bool) (tables : Tables)
+        (bytes : List ℕ) (a : Admitted) (first : ℕ) (last : List ℕ)
+        → client_admitted tables bytes ≡ Ok a → is_sent contexts a bytes ≡ true
+        → takes contexts false is_taken (sent_for bytes a first) last ≡ true
+        → tells_object a last ≡ true
         → (14 ≤ length last)
         × ((octet_of (from_be_bytes w32 (take 4 (drop 10 last))) == HT_TRANSIENT) ≡ true) }
-    ensures session_fits { (is_taken : Bool) (tables : Tables) (bytes : List ℕ) (a : Admitted)
-        (first : ℕ) (last : List ℕ) → client_admitted tables bytes ≡ Ok a
-        → takes false is_taken (sent_for bytes a first) last ≡ true → tells_session a last ≡ true
+    ensures session_fits { (contexts : ContextLimits) (is_taken : Bool) (tables : Tables)
+        (bytes : List ℕ) (a : Admitted) (first : ℕ) (last : List ℕ)
+        → client_admitted tables bytes ≡ Ok a
+        → takes contexts false is_taken (sent_for bytes a first) last ≡ true
+        → tells_session a last ≡ true
         → (is_taken ≡ false) × (14 ≤ length last)
         × (is_session_handle (from_be_bytes w32 (take 4 (drop 10 last))) ≡ true)
         × (number_of_session (from_be_bytes w32 (take 4 (drop 10 last))) < SESSION_NUMBERS) }

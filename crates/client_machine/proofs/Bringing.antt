@@ -11,6 +11,7 @@ use Rattle.tab_spec.specs.Admission.{Tables, admitted, client_admitted, is_missi
 use Rattle.tab_spec.specs.Commands.{row_of}
 use Rattle.tab_spec.specs.Object.{Object}
 use Rattle.tab_spec.specs.Shape.{octet_of, row_in, shape_by, shape_of}
+use Rattle.tab_spec.specs.declared.contexts.ContextLimits.{ContextLimits}
 use Rattle.device_port.specs.Device.{Seen}
 use Rattle.device_port.specs.Use.{is_among}
 use Rattle.device_port.specs.declared.own.SwapError.{SwapError}
@@ -129,6 +130,7 @@ objects_moved seen most old new held view moved none counter settled =
         sessions = λ number none. none;
       };
       orphans = omega (arith, ap (λ (l : List ℕ). length l) moved.left);
+      made_for = record { objects = moved.contexts; sessions = refl };
       slots = moved.slots;
       numbers = refl;
       left = refl;
@@ -274,13 +276,13 @@ placed_there items None there resident = absurd cc
 placed_there items (Some index) there resident = handle_of_resident (item_at items index).slot resident
 
 -- the item that it names is in a slot
-pub command_placed : (client : ℕ) (sessions : List (Option sessions.Item)) (table : List (Option ℕ)) (items : List Item) (bytes : List ℕ) (a : Admitted)
-    (named : Option ℕ) → client_admitted (tables_seen client table sessions) bytes ≡ Ok a → named ≡ named_by table (first_handle a)
+pub command_placed : (contexts : ContextLimits) (client : ℕ) (sessions : List (Option sessions.Item)) (table : List (Option ℕ)) (items : List Item) (bytes : List ℕ) (a : Admitted)
+    (named : Option ℕ) → client_admitted (tables_seen contexts client table sessions) bytes ≡ Ok a → named ≡ named_by table (first_handle a)
     → IfSome named (λ index. is_resident (item_at items index) ≡ true) → IsPlaced table items (first_handle a)
-command_placed client sessions table items bytes a named e is resident transient =
+command_placed contexts client sessions table items bytes a named e is resident transient =
     let handle = first_handle a in
     let own : named ≡ held_under table handle = is ∙ named_is (octet_of handle == HT_TRANSIENT) (held_under table handle) transient in
-    placed_there items (held_under table handle) (command_there (tables_seen client table sessions) bytes a e transient)
+    placed_there items (held_under table handle) (command_there (tables_seen contexts client table sessions) bytes a e transient)
     (subst (λ (place : Option ℕ). IfSome place (λ index. is_resident (item_at items index) ≡ true)) own resident)
 
 -- an object that is placed is in a slot, by the item that its handle names

@@ -5,6 +5,7 @@ use Rattle.std.proofs.lemmas.Bool.{cases_lt, le-ltb}
 use Rattle.tab_spec.specs.declared.TheConstants.{TRANSIENT_FIRST}
 use Rattle.tab_spec.specs.declared.numbers.Numbers.{Numbers}
 use Rattle.tab_spec.specs.Count.{one_more}
+use Rattle.tab_spec.specs.declared.contexts.ContextLimits.{ContextLimits}
 use Rattle.device_spec.specs.ContextCommands.{flush_context_command}
 use Rattle.device_port.specs.Device.{Seen, sent_of}
 use Rattle.device_port.specs.Own.{Asks}
@@ -16,7 +17,7 @@ use Rattle.client_machine.specs.Costs.{SendsUpTo, renewal_bound}
 
 -- ---- one command
 
-pub sent_one : {D A : Type 0} (seen : D → Seen) (old new : D) (command : List ℕ) (result : Result A SwapError) → Asks seen old new command result
+pub sent_one : {contexts : ContextLimits} {D A : Type 0} (seen : D → Seen) (old new : D) (command : List ℕ) (result : Result A SwapError) → Asks contexts seen old new command result
     → SendsUpTo seen 1 old new
 sent_one seen old new command result asks = omega (arith, asks.once)
 
@@ -29,14 +30,14 @@ pub sent_none : {D : Type 0} (seen : D → Seen) (most : ℕ) (old new : D) → 
 sent_none seen most old new still = omega (arith, ap (λ (d : _). sent_of (seen d)) still)
 
 -- what a drop of an object sends: a flush, where it is in a slot
-abbrev pub FlushesSlot : {D A : Type 0} (seen : D → Seen) → Option ℕ → A → (old new : D) → Result A SwapError → Type 0
-FlushesSlot seen slot done old new result =
-    MatchOption (handle_in slot) ((result ≡ Ok done) × (new ≡ old)) (λ handle. Asks seen old new (flush_context_command handle) result)
+abbrev pub FlushesSlot : {D A : Type 0} (contexts : ContextLimits) (seen : D → Seen) → Option ℕ → A → (old new : D) → Result A SwapError → Type 0
+FlushesSlot contexts seen slot done old new result =
+    MatchOption (handle_in slot) ((result ≡ Ok done) × (new ≡ old)) (λ handle. Asks contexts seen old new (flush_context_command handle) result)
 
-pub sent_slot : {D A : Type 0} (seen : D → Seen) (slot : Option ℕ) (done : A) (old new : D) (result : Result A SwapError)
-    → FlushesSlot seen slot done old new result → SendsUpTo seen (one_if (is_some (handle_in slot))) old new
-sent_slot seen None done old new result sent = omega (arith, ap (λ (d : _). sent_of (seen d)) sent.1)
-sent_slot seen (Some slot) done old new result sent = sent_one seen old new (flush_context_command (TRANSIENT_FIRST + slot)) result sent
+pub sent_slot : (contexts : ContextLimits) {D A : Type 0} (seen : D → Seen) (slot : Option ℕ) (done : A) (old new : D) (result : Result A SwapError)
+    → FlushesSlot contexts seen slot done old new result → SendsUpTo seen (one_if (is_some (handle_in slot))) old new
+sent_slot contexts seen None done old new result sent = omega (arith, ap (λ (d : _). sent_of (seen d)) sent.1)
+sent_slot contexts seen (Some slot) done old new result sent = sent_one seen old new (flush_context_command (TRANSIENT_FIRST + slot)) result sent
 
 pub one_most : (test : Bool) → one_if test ≤ 1
 one_most true = omega arith

@@ -15,9 +15,10 @@ use Rattle.tab_spec.specs.Object.{Object}
 use Rattle.tab_spec.specs.Reply.{response, with_response_handle}
 use Rattle.tab_spec.specs.Shape.{are_of_kinds, is_of_kind, octet_of}
 use Rattle.tab_spec.specs.Values.{Reading}
+use Rattle.tab_spec.specs.declared.contexts.TheConstants.{PROFILE_CONTEXTS}
 use Rattle.effect_spec.specs.Contexts.{Context, blob_fits, context_of, object_context, opened_object}
 use Rattle.tab_laws.proofs.Handled.{client_is}
-use Rattle.device_spec.specs.Answers.{takes}
+use Rattle.device_spec.specs.Answers.{profile_takes as takes}
 use Rattle.device_spec.specs.Slots.{IsSlots, SlotState, Step, context_object, object_at, slot_step}
 use Rattle.device_laws.specs.Effects.{is_managed}
 use Rattle.device_laws.proofs.AnswerForms.{takes_more, takes_same}
@@ -133,7 +134,7 @@ saved_runs slots held client table a bytes may alone saves sound =
     let old = held.sessions.items in
     let number = slots.object_counter in
     let unstarted = another_code a.shape.row.code CC_CONTEXT_SAVE CC_START_AUTH_SESSION saves.is refl in
-    let one = managed (tables_seen client table old) bytes a may.admitted (managed_by a.shape.row.code CC_CONTEXT_SAVE saves.is refl) in
+    let one = managed (tables_seen PROFILE_CONTEXTS client table old) bytes a may.admitted (managed_by a.shape.row.code CC_CONTEXT_SAVE saves.is refl) in
     let none : tells_session a answer ≡ false = no_start (starts_session a) (code_of answer == RC_SUCCESS) unstarted in
     let success : (code_of answer == RC_SUCCESS) ≡ true =
     ap (λ (c : ℕ). c == RC_SUCCESS) (code_of_response ST_NO_SESSIONS RC_SUCCESS (object_context slots.persist.seed number o) (omega arith)) in
@@ -272,15 +273,15 @@ kept_by : (start success number : Bool) (sent answer : List ℕ) (a : Admitted) 
     → (code_of sent == CC_CONTEXT_LOAD) ≡ false → (starts_session a ≡ false → (code_of sent == CC_START_AUTH_SESSION) ≡ false)
     → takes false false sent answer ≡ true → (tells_session a answer ≡ true → number ≡ false) → takes false number sent answer ≡ true
 kept_by false success number sent answer a is so load other taken free =
-    takes_same false number sent answer load (other is) ∙ sym (takes_same false false sent answer load (other is)) ∙ taken
-kept_by true false number sent answer a is so load other taken free = error_taken_so false false number sent answer so taken
+    takes_same PROFILE_CONTEXTS false number sent answer load (other is) ∙ sym (takes_same PROFILE_CONTEXTS false false sent answer load (other is)) ∙ taken
+kept_by true false number sent answer a is so load other taken free = error_taken_so PROFILE_CONTEXTS false false number sent answer so taken
 kept_by true true number sent answer a is so load other taken free =
     ap (λ (number : Bool). takes false number sent answer) (free ((λ i. is i && so i))) ∙ taken
 
 sent_code : (slots : SlotState) (held : Held) (client : ℕ) (table : List (Option ℕ)) (a : Admitted) (bytes : List ℕ) → MayRun slots held client table a bytes
     → code_of (sent_over bytes a table held.objects.items) ≡ a.shape.row.code
 sent_code slots held client table a bytes may =
-    let tables = tables_seen client table held.sessions.items in
+    let tables = tables_seen PROFILE_CONTEXTS client table held.sessions.items in
     command_sent_code tables bytes a (device_handle table held.objects.items (first_handle a)) may.admitted ∙ (clients_command tables bytes a may.admitted).code
 
 -- what a broker that holds this is asked to take
@@ -337,7 +338,7 @@ context_taken : (slots : SlotState) (held : Held) (client : ℕ) (table : List (
 context_taken slots held client table a bytes may is =
     let items = held.objects.items in
     let sent = sent_over bytes a table items in
-    let params = sent_params (tables_seen client table held.sessions.items) bytes a (device_handle table items (first_handle a)) may.admitted is in
+    let params = sent_params (tables_seen PROFILE_CONTEXTS client table held.sessions.items) bytes a (device_handle table items (first_handle a)) may.admitted is in
     loaded_taken (loads_kept items sent) _ slots held client table a bytes may is
     (λ kept.
     kept_opened slots items (drop a.auths.params bytes) may.settled.objects
@@ -366,7 +367,7 @@ taken_here : (slots : SlotState) (held : Held) (client : ℕ) (table : List (Opt
     → saves_one a ≡ false → let sent = sent_over bytes a table held.objects.items in takes false false sent (slot_step slots sent).1 ≡ true
 taken_here slots held client table a bytes may alone =
     let sent = sent_over bytes a table held.objects.items in
-    takes_more (loads_kept held.objects.items sent) (number_taken held.sessions (slot_step slots sent).1) sent (slot_step slots sent).1
+    takes_more PROFILE_CONTEXTS (loads_kept held.objects.items sent) (number_taken held.sessions (slot_step slots sent).1) sent (slot_step slots sent).1
     (all_taken slots held client table a bytes may alone)
 
 -- ---- the plain machine does the same
@@ -396,7 +397,7 @@ no_handle false false success is = refl
 saves_none : (slots : SlotState) (held : Held) (client : ℕ) (table : List (Option ℕ)) (a : Admitted) (bytes : List ℕ) (reply : List ℕ) → MayRun slots held client table a bytes
     → SavesObject slots held table a → tells_object a reply ≡ true → ⊥
 saves_none slots held client table a bytes reply may saves told =
-    let known = (clients_command (tables_seen client table held.sessions.items) bytes a may.admitted).row in
+    let known = (clients_command (tables_seen PROFILE_CONTEXTS client table held.sessions.items) bytes a may.admitted).row in
     let row = row_as a.shape.row save_row CC_CONTEXT_SAVE known refl saves.is in
     let none : tells_object a reply ≡ false = no_handle (starts_session a) a.shape.row.response_handle (code_of reply == RC_SUCCESS) (ap (λ (r : CommandRow). r.response_handle) row) in
     true≢false (sym told ∙ none)

@@ -8,6 +8,7 @@ use Rattle.std.proofs.lemmas.List.{get_or-map, get_or-set_same, get_or-set_other
 use Rattle.tab_spec.specs.declared.TheConstants.{TRANSIENT_FIRST}
 use Rattle.tab_spec.specs.Count.{Rose}
 use Rattle.tab_spec.specs.Object.{Object}
+use Rattle.tab_spec.specs.declared.contexts.ContextLimits.{ContextLimits}
 use Rattle.device_spec.specs.Answers.{IsRight}
 use Rattle.device_spec.specs.Slots.{SlotState}
 use Rattle.device_port.specs.Device.{Seen, asked_of, last_of}
@@ -19,7 +20,7 @@ use Rattle.object_swap.proofs.Counts.{count_cons, all_but, count_one, count_set,
 use Rattle.object_swap.proofs.Orphans.{orphaned_last, orphaned_stand}
 use Rattle.session_swap.specs.Items as sessions
 use Rattle.tab_spec.specs.declared.numbers.Numbers.{Numbers}
-use Rattle.tab_spec.specs.Numbers.{left_most}
+use Rattle.tab_spec.specs.Numbers.{leave_limit}
 use Rattle.history_spec.specs.Table.{held_under, number_of_object, without_handle}
 use Rattle.world_spec.specs.World.{closed_sessions}
 use Rattle.history_laws.proofs.Counts.{one_false, one_if}
@@ -30,7 +31,7 @@ use Rattle.client_machine.specs.Dropping.{AreLeftByFaults, Disowns, Drops, Leave
 use Rattle.client_machine.specs.Moves.{GainsNone, KeepsObjectsOf, KeepsOwners, other_than}
 use Rattle.client_machine.specs.Settled.{Settled, sessions_in}
 use Rattle.client_machine.specs.Tables.{IsPlaceOf, IsTable, is_item, naming_in}
-use Rattle.client_machine.proofs.Keeping.{ClosesAs, Forgets, closes_same, closes_then, counted_both, counted_once, left_then, objects_same, owners_same, persist_same, right_none, rightly}
+use Rattle.client_machine.proofs.Keeping.{ClosesAs, Forgets, closes_same, closes_then, counted_both, counted_once, left_then, objects_same, owners_same, persist_same, right_none, rightly, for_then, same_for}
 use Rattle.client_machine.proofs.Orphans.{answered_then, gains_then, keeps_same, keeps_then, objects_then, owners_then, persist_then}
 use Rattle.client_machine.proofs.Prepared.{counts_same, counts_then}
 use Rattle.client_machine.proofs.Settling.{counter_over_objects, keeps_over_objects, persist_over_objects, rest_over_objects, settled_over_objects, some_same}
@@ -299,17 +300,18 @@ abbrev pub with_objects : Held → ObjectsView → Held
 with_objects held view = record { objects = view; sessions = held.sessions }
 
 -- what dropping one object gives
-pub record Dropped {D : Type 0} (seen : D → Seen)
+pub record Dropped {D : Type 0} (contexts : ContextLimits) (seen : D → Seen)
     (old new : D) (view new_view : ObjectsView) (item : ℕ) : Type 0 where
   pub items_are : new_view.items ≡ set view.items item no_item
   pub objects : objects_of (seen new).state new_view.items ≡ without_object item (objects_of (seen old).state view.items)
   pub stand : Stand (seen new).state new_view.items view.left
   pub counter : counter_of (seen new).state ≡ counter_of (seen old).state
   pub rest : KeepsRest seen old new
-  pub taken : (new ≡ old) ⊎ IsAnswered (asked_of (seen new)) (last_of (seen new))
+  pub taken : (new ≡ old) ⊎ IsAnswered contexts (asked_of (seen new)) (last_of (seen new))
   pub slots : new_view.slots ≡ view.slots
   pub owners : new_view.owners ≡ view.owners
   pub left : new_view.left ≡ view.left
+  pub made_for : new_view.contexts ≡ view.contexts
 
 -- the sessions are the same in a device whose objects changed
 sessions_unmoved : (client : ℕ) (old new : Option SlotState) (view : sessions.SessionsView) → rest_of new ≡ rest_of old
@@ -319,10 +321,10 @@ sessions_unmoved client old new view same =
     ap (λ (s : SlotState). closed_sessions client view.numbers.active (sessions_in s view.items) view.left)
     (rest_over_objects old new slots after same is_old is_new)
 
-pub dropped : {D : Type 0} (seen : D → Seen) (client : ℕ) (old new : D) (held : Held) (new_view : ObjectsView) (item : ℕ)
-    → Dropped seen old new held.objects new_view item → IsNamed held.objects.items client item → Settled (seen old).state held
-    → Drops seen client old new held (with_objects held new_view) held.objects.owners 0
-dropped seen client old new held new_view item d at settled =
+pub dropped : {contexts : ContextLimits} {D : Type 0} (seen : D → Seen) (client : ℕ) (old new : D) (held : Held) (new_view : ObjectsView) (item : ℕ)
+    → Dropped contexts seen old new held.objects new_view item → IsNamed held.objects.items client item → Settled (seen old).state held
+    → Drops contexts seen client old new held (with_objects held new_view) held.objects.owners 0
+dropped {contexts = contexts} seen client old new held new_view item d at settled =
     let items = held.objects.items in
     let back : set items item no_item ≡ new_view.items = sym d.items_are in
     record {
@@ -343,7 +345,8 @@ dropped seen client old new held new_view item d at settled =
       orphans = omega (arith, ap (λ (l : List ℕ). length l) d.left);
       left = leaves_same 0 held.objects.left new_view.left d.left;
       failures = inl (omega (arith, d.rest.count));
-      right = rightly seen old new d.taken;
+      right = rightly contexts seen old new d.taken;
+      made_for = record { objects = d.made_for; sessions = refl };
       slots = d.slots;
       numbers = refl;
       length_is = ap length d.items_are ∙ length-set items item no_item;
@@ -366,12 +369,12 @@ left_settled (Some slots) held item slot settled names is = record {
   gap = settled.gap;
 }
 
-pub left : {D : Type 0} (seen : D → Seen) (client : ℕ) (old new : D) (held : Held) (new_view : ObjectsView) (item slot : ℕ)
+pub left : {contexts : ContextLimits} {D : Type 0} (seen : D → Seen) (client : ℕ) (old new : D) (held : Held) (new_view : ObjectsView) (item slot : ℕ)
     → new_view ≡ orphaned held.objects item slot → (item_at held.objects.items item).slot ≡ Some slot
     → (seen new).state ≡ (seen old).state → KeepsRest seen old new → Rose (seen old).faults (seen new).faults → last_of (seen new) ≡ None
     → IsNamed held.objects.items client item → Settled (seen old).state held
-    → Drops seen client old new held (with_objects held new_view) held.objects.owners 1
-left seen client old new held new_view item slot view_is slot_is same rest rose none at settled =
+    → Drops contexts seen client old new held (with_objects held new_view) held.objects.owners 1
+left {contexts = contexts} seen client old new held new_view item slot view_is slot_is same rest rose none at settled =
     let items = held.objects.items in
     let items_are : new_view.items ≡ set items item no_item = ap (λ (v : ObjectsView). v.items) view_is in
     let back : set items item no_item ≡ new_view.items = sym items_are in
@@ -393,7 +396,8 @@ left seen client old new held new_view item slot view_is slot_is same rest rose 
       orphans = omega (arith, ap (λ (v : ObjectsView). length v.left) view_is, length-append held.objects.left (slot ∷ []));
       left = (slot ∷ [], ap (λ (v : ObjectsView). v.left) view_is, omega arith);
       failures = counted_once (seen old).faults (seen new).faults rose;
-      right = inr (right_none (asked_of (seen new)) (last_of (seen new)) none);
+      right = inr (right_none contexts (asked_of (seen new)) (last_of (seen new)) none);
+      made_for = record { objects = ap (λ (v : ObjectsView). v.contexts) view_is; sessions = refl };
       slots = ap (λ (v : ObjectsView). v.slots) view_is;
       numbers = refl;
       length_is = ap length items_are ∙ length-set items item no_item;
@@ -401,8 +405,8 @@ left seen client old new held new_view item slot view_is slot_is same rest rose 
 
 -- ---- one after another
 
-pub drops_none : {D : Type 0} (seen : D → Seen) (client : ℕ) (old : D) (held : Held) → Settled (seen old).state held
-    → Drops seen client old old held held held.objects.owners 0
+pub drops_none : {contexts : ContextLimits} {D : Type 0} (seen : D → Seen) (client : ℕ) (old : D) (held : Held) → Settled (seen old).state held
+    → Drops contexts seen client old old held held held.objects.owners 0
 drops_none seen client old held settled = record {
   keeps = keeps_same seen old;
   settled = settled;
@@ -419,21 +423,22 @@ drops_none seen client old held settled = record {
   left = leaves_same 0 held.objects.left held.objects.left refl;
   failures = inl (omega arith);
   right = inl refl;
+  made_for = same_for held;
   slots = refl;
   numbers = refl;
   length_is = refl;
 }
 
-few_then : {active still between new_left : ℕ} → still ≡ active → between ≤ left_most active → (between ≤ left_most still → new_left ≤ left_most still)
-    → new_left ≤ left_most active
+few_then : {active still between new_left : ℕ} → still ≡ active → between ≤ leave_limit active → (between ≤ leave_limit still → new_left ≤ leave_limit still)
+    → new_left ≤ leave_limit active
 few_then {between = between} {new_left = new_left} same few more =
-    subst (λ (n : ℕ). new_left ≤ left_most n) same (more (subst (λ (n : ℕ). between ≤ left_most n) (sym same) few))
+    subst (λ (n : ℕ). new_left ≤ leave_limit n) same (more (subst (λ (n : ℕ). between ≤ leave_limit n) (sym same) few))
 
-pub drops_then : {D : Type 0} (seen : D → Seen) (client : ℕ) (old middle new : D) (held between new_held : Held) (n m : ℕ)
-    → Drops seen client old middle held between held.objects.owners n
-    → Drops seen client middle new between new_held between.objects.owners m
-    → Drops seen client old new held new_held held.objects.owners (n + m)
-drops_then {D} seen client old middle new held between new_held n m first second = record {
+pub drops_then : {contexts : ContextLimits} {D : Type 0} (seen : D → Seen) (client : ℕ) (old middle new : D) (held between new_held : Held) (n m : ℕ)
+    → Drops contexts seen client old middle held between held.objects.owners n
+    → Drops contexts seen client middle new between new_held between.objects.owners m
+    → Drops contexts seen client old new held new_held held.objects.owners (n + m)
+drops_then {contexts = contexts} {D = D} seen client old middle new held between new_held n m first second = record {
   keeps = keeps_then seen old middle new first.keeps second.keeps;
   settled = second.settled;
   counts = counts_then 0 0 0 (seen old).state (seen middle).state (seen new).state (omega arith) first.counts second.counts;
@@ -451,7 +456,8 @@ drops_then {D} seen client old middle new held between new_held n m first second
   orphans = omega (arith, first.orphans, second.orphans);
   left = leaves_then n m held.objects.left between.objects.left new_held.objects.left first.left second.left;
   failures = counted_both (seen old).faults (seen middle).faults (seen new).faults n m second.keeps.count first.failures second.failures;
-  right = answered_then (λ (d : D). IsRight (asked_of (seen d)) (last_of (seen d))) old middle new first.right second.right;
+  right = answered_then (λ (d : D). IsRight contexts (asked_of (seen d)) (last_of (seen d))) old middle new first.right second.right;
+  made_for = for_then held between new_held first.made_for second.made_for;
   slots = second.slots ∙ first.slots;
   numbers = second.numbers ∙ first.numbers;
   length_is = second.length_is ∙ first.length_is;
@@ -465,11 +471,11 @@ ended_settled : (state : Option SlotState) (held : Held) (list : ℕ) → Settle
 ended_settled None held list settled = tt
 ended_settled (Some slots) held list settled = record { objects = settled.objects; sessions = settled.sessions; gap = settled.gap }
 
-pub drops_ended : {D : Type 0} (seen : D → Seen) (client : ℕ) (old new : D) (held new_held : Held) (view : ObjectsView) (list n : ℕ)
-    → Drops seen client old new held new_held held.objects.owners n → view ≡ ended_list new_held.objects list
-    → Drops seen client old new held (with_objects new_held view) (set held.objects.owners list None) n
-drops_ended seen client old new held new_held view list n drops view_is =
-    subst (λ (v : ObjectsView). Drops seen client old new held (with_objects new_held v) (set held.objects.owners list None) n) (sym view_is)
+pub drops_ended : {contexts : ContextLimits} {D : Type 0} (seen : D → Seen) (client : ℕ) (old new : D) (held new_held : Held) (view : ObjectsView) (list n : ℕ)
+    → Drops contexts seen client old new held new_held held.objects.owners n → view ≡ ended_list new_held.objects list
+    → Drops contexts seen client old new held (with_objects new_held view) (set held.objects.owners list None) n
+drops_ended {contexts = contexts} seen client old new held new_held view list n drops view_is =
+    subst (λ (v : ObjectsView). Drops contexts seen client old new held (with_objects new_held v) (set held.objects.owners list None) n) (sym view_is)
     (record {
       keeps = drops.keeps;
       settled = ended_settled (seen new).state new_held list drops.settled;
@@ -486,14 +492,15 @@ drops_ended seen client old new held new_held view list n drops view_is =
       left = drops.left;
       failures = drops.failures;
       right = drops.right;
+      made_for = record { objects = drops.made_for.objects; sessions = drops.made_for.sessions };
       slots = drops.slots;
       numbers = drops.numbers;
       length_is = drops.length_is;
     })
 
 -- one object of the client's, for FlushContext
-pub drops_object : {D : Type 0} (seen : D → Seen) (client : ℕ) (old new : D) (held : Held) (view : ObjectsView)
-    → Drops seen client old new held (with_objects held view) held.objects.owners 0 → Forgets seen client old new held (with_objects held view)
+pub drops_object : {contexts : ContextLimits} {D : Type 0} (seen : D → Seen) (client : ℕ) (old new : D) (held : Held) (view : ObjectsView)
+    → Drops contexts seen client old new held (with_objects held view) held.objects.owners 0 → Forgets seen client old new held (with_objects held view)
 drops_object seen client old new held view drops = record {
   keeps = drops.keeps;
   settled = drops.settled;
@@ -505,6 +512,7 @@ drops_object seen client old new held view drops = record {
   owners = drops.owners;
   persist = drops.persist;
   orphans = omega (arith, drops.orphans);
+  made_for = drops.made_for;
   slots = drops.slots;
   numbers = refl;
   left = omega arith;
@@ -513,20 +521,21 @@ drops_object seen client old new held view drops = record {
 
 -- ---- what couldn't be flushed
 
-pub disowns_none : {D : Type 0} (seen : D → Seen) (device : D) (held : Held) (n : ℕ) → Disowns seen device device held held (Ok n)
+pub disowns_none : {contexts : ContextLimits} {D : Type 0} (seen : D → Seen) (device : D) (held : Held) (n : ℕ) → Disowns contexts seen device device held held (Ok n)
 disowns_none seen device held n =
-    record { keeps = keeps_same seen device; slots = refl; numbers = refl; length_is = refl; lists = tt; left = inl (omega arith); err = tt; sent = none_tried seen device }
+    record { keeps = keeps_same seen device; made_for = same_for held; slots = refl; numbers = refl; length_is = refl; lists = tt; left = inl (omega arith); err = tt; sent = none_tried seen device }
 
 lists_after : {B : Type 0} (result : Result B ℕ) (owners between after : List (Option ℕ)) → between ≡ owners → OnErr result (after ≡ between)
     → OnErr result (after ≡ owners)
 lists_after (Ok x) owners between after first second = tt
 lists_after (Err code) owners between after first second = second ∙ first
 
-pub disowns_then : {D A B : Type 0} (seen : D → Seen) (old middle new : D) (held between new_held : Held) (x : A) (result : Result B ℕ)
-    → between.objects.owners ≡ held.objects.owners → Disowns seen old middle held between (Ok x) → Disowns seen middle new between new_held result
-    → Disowns seen old new held new_held result
+pub disowns_then : {contexts : ContextLimits} {D A B : Type 0} (seen : D → Seen) (old middle new : D) (held between new_held : Held) (x : A) (result : Result B ℕ)
+    → between.objects.owners ≡ held.objects.owners → Disowns contexts seen old middle held between (Ok x) → Disowns contexts seen middle new between new_held result
+    → Disowns contexts seen old new held new_held result
 disowns_then seen old middle new held between new_held x result lists first second = record {
   keeps = keeps_then seen old middle new first.keeps second.keeps;
+  made_for = for_then held between new_held first.made_for second.made_for;
   slots = second.slots ∙ first.slots;
   numbers = second.numbers ∙ first.numbers;
   length_is = second.length_is ∙ first.length_is;
@@ -545,11 +554,12 @@ left_once nobodys new_nobodys faults new_faults more rose =
     ]
 
 -- one object whose flush failed
-pub disowns_left : {D A : Type 0} (seen : D → Seen) (old new : D) (held : Held) (new_view : ObjectsView) (item slot : ℕ) (x : A)
-    → new_view ≡ orphaned held.objects item slot → KeepsRest seen old new → Rose (seen old).faults (seen new).faults → SendsFlushes seen old new false
-    → Disowns seen old new held (with_objects held new_view) (Ok x)
+pub disowns_left : {contexts : ContextLimits} {D A : Type 0} (seen : D → Seen) (old new : D) (held : Held) (new_view : ObjectsView) (item slot : ℕ) (x : A)
+    → new_view ≡ orphaned held.objects item slot → KeepsRest seen old new → Rose (seen old).faults (seen new).faults → SendsFlushes contexts seen old new false
+    → Disowns contexts seen old new held (with_objects held new_view) (Ok x)
 disowns_left seen old new held new_view item slot x view_is rest rose sent = record {
   keeps = keeps_over_objects seen old new rest;
+  made_for = record { objects = ap (λ (v : ObjectsView). v.contexts) view_is; sessions = refl };
   slots = ap (λ (v : ObjectsView). v.slots) view_is;
   numbers = refl;
   length_is = ap (λ (v : ObjectsView). length v.items) view_is ∙ length-set held.objects.items item no_item;
@@ -560,24 +570,24 @@ disowns_left seen old new held new_view item slot x view_is rest rose sent = rec
 }
 
 -- a call that returned where the last one succeeded, and where it failed
-pub disowns_ok : {D A B : Type 0} (seen : D → Seen) (old new : D) (held new_held : Held) (x : A) (y : B)
-    → Disowns seen old new held new_held (Ok x) → Disowns seen old new held new_held (Ok y)
+pub disowns_ok : {contexts : ContextLimits} {D A B : Type 0} (seen : D → Seen) (old new : D) (held new_held : Held) (x : A) (y : B)
+    → Disowns contexts seen old new held new_held (Ok x) → Disowns contexts seen old new held new_held (Ok y)
 disowns_ok seen old new held new_held x y done =
-    record { keeps = done.keeps; slots = done.slots; numbers = done.numbers; length_is = done.length_is; lists = tt; left = done.left; err = tt; sent = done.sent }
+    record { keeps = done.keeps; made_for = done.made_for; slots = done.slots; numbers = done.numbers; length_is = done.length_is; lists = tt; left = done.left; err = tt; sent = done.sent }
 
 -- and where its client's list is nobody's then
-pub disowns_ended : {D A B : Type 0} (seen : D → Seen) (old new : D) (held new_held : Held) (view : ObjectsView) (list : ℕ) (x : A) (y : B)
-    → Disowns seen old new held new_held (Ok x) → view ≡ ended_list new_held.objects list
-    → Disowns seen old new held (with_objects new_held view) (Ok y)
-disowns_ended {B = B} seen old new held new_held view list x y done view_is =
-    subst (λ (v : ObjectsView). Disowns {A = B} seen old new held (with_objects new_held v) (Ok y)) (sym view_is)
-    (record { keeps = done.keeps; slots = done.slots; numbers = done.numbers; length_is = done.length_is; lists = tt; left = done.left; err = tt; sent = done.sent })
+pub disowns_ended : {contexts : ContextLimits} {D A B : Type 0} (seen : D → Seen) (old new : D) (held new_held : Held) (view : ObjectsView) (list : ℕ) (x : A) (y : B)
+    → Disowns contexts seen old new held new_held (Ok x) → view ≡ ended_list new_held.objects list
+    → Disowns contexts seen old new held (with_objects new_held view) (Ok y)
+disowns_ended {contexts = contexts} {B = B} seen old new held new_held view list x y done view_is =
+    subst (λ (v : ObjectsView). Disowns {A = B} contexts seen old new held (with_objects new_held v) (Ok y)) (sym view_is)
+    (record { keeps = done.keeps; made_for = record { objects = done.made_for.objects; sessions = done.made_for.sessions }; slots = done.slots; numbers = done.numbers; length_is = done.length_is; lists = tt; left = done.left; err = tt; sent = done.sent })
 
-pub disowns_failed : {D A B : Type 0} (seen : D → Seen) (old new : D) (held new_held : Held) (code : ℕ) (result : Result B ℕ)
-    → (other : ℕ) × (result ≡ Err other) × (other ≡ code) → Disowns {A = A} seen old new held new_held (Err code)
-    → Disowns seen old new held new_held result
-disowns_failed {A = A} {B = B} seen old new held new_held code result (other, is, same) done =
-    let failed : Disowns {A = A} seen old new held new_held (Err other) =
-    subst (λ (code : ℕ). Disowns {A = A} seen old new held new_held (Err code)) (sym same) done in
-    subst (λ (r : Result B ℕ). Disowns seen old new held new_held r) (sym is)
-    (record { keeps = failed.keeps; slots = failed.slots; numbers = failed.numbers; length_is = failed.length_is; lists = failed.lists; left = failed.left; err = failed.err; sent = failed.sent })
+pub disowns_failed : {contexts : ContextLimits} {D A B : Type 0} (seen : D → Seen) (old new : D) (held new_held : Held) (code : ℕ) (result : Result B ℕ)
+    → (other : ℕ) × (result ≡ Err other) × (other ≡ code) → Disowns {A = A} contexts seen old new held new_held (Err code)
+    → Disowns contexts seen old new held new_held result
+disowns_failed {contexts = contexts} {A = A} {B = B} seen old new held new_held code result (other, is, same) done =
+    let failed : Disowns {A = A} contexts seen old new held new_held (Err other) =
+    subst (λ (code : ℕ). Disowns {A = A} contexts seen old new held new_held (Err code)) (sym same) done in
+    subst (λ (r : Result B ℕ). Disowns contexts seen old new held new_held r) (sym is)
+    (record { keeps = failed.keeps; made_for = failed.made_for; slots = failed.slots; numbers = failed.numbers; length_is = failed.length_is; lists = failed.lists; left = failed.left; err = failed.err; sent = failed.sent })

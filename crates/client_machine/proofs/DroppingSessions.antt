@@ -4,7 +4,8 @@ use Rattle.std.specs.Prelude.{false, slice_get, Option, Some, None, Result, Ok, 
 use Rattle.std.specs.List.{count_by}
 use Rattle.tab_spec.specs.Count.{Rose}
 use Rattle.tab_spec.specs.Shape.{number_of_session}
-use Rattle.tab_spec.specs.Numbers.{left_most}
+use Rattle.tab_spec.specs.Numbers.{leave_limit}
+use Rattle.tab_spec.specs.declared.contexts.ContextLimits.{ContextLimits}
 use Rattle.device_spec.specs.Slots.{SlotState}
 use Rattle.device_port.specs.Device.{Seen, asked_of, last_of}
 use Rattle.device_port.specs.Own.{IsAnswered}
@@ -36,7 +37,7 @@ abbrev Items : Type 0
 Items = List (Option sessions.Item)
 
 -- what a flush of one session gives
-pub record Ended {D : Type 0} (seen : D → Seen)
+pub record Ended {D : Type 0} (contexts : ContextLimits) (seen : D → Seen)
     (old new : D) (view new_view : SessionsView) (n : ℕ) : Type 0 where
   pub numbers : new_view.numbers ≡ view.numbers
   pub items_are : new_view.items ≡ set view.items n None
@@ -46,14 +47,15 @@ pub record Ended {D : Type 0} (seen : D → Seen)
   pub room : HasGapRoom (seen new).state
   pub counter : counter_of (seen new).state ≡ counter_of (seen old).state
   pub rest : KeepsRest seen old new
-  pub answered : IsAnswered (asked_of (seen new)) (last_of (seen new))
+  pub answered : IsAnswered contexts (asked_of (seen new)) (last_of (seen new))
+  pub made_for : new_view.contexts ≡ view.contexts
 
 -- of a session that is no orphan
-pub forgets : {D : Type 0} (seen : D → Seen)
+pub forgets : (contexts : ContextLimits) {D : Type 0} (seen : D → Seen)
     (client : ℕ) (old new : D) (held : Held) (new_view : SessionsView) (n : ℕ)
-    → Ended seen old new held.sessions new_view n → n < length held.sessions.items → is_orphan (item_at held.sessions.items n) ≡ false
+    → Ended contexts seen old new held.sessions new_view n → n < length held.sessions.items → is_orphan (item_at held.sessions.items n) ≡ false
     → Settled (seen old).state held → Forgets seen client old new held (with_sessions held new_view)
-forgets seen client old new held new_view n e inside none settled =
+forgets contexts seen client old new held new_view n e inside none settled =
     let items = held.sessions.items in
     record {
       keeps = keeps_over_sessions seen old new e.rest;
@@ -66,6 +68,7 @@ forgets seen client old new held new_view n e inside none settled =
       owners = λ present owners. subst (λ (l : Items). AreOpenOwners present l) (sym e.items_are) (ended_owners present items n owners);
       persist = persist_over_sessions (seen old).state (seen new).state e.rest.rest;
       orphans = omega (arith, ap (λ (l : Items). count_by is_orphan l) e.items_are, orphans_same items n None inside none refl);
+      made_for = record { objects = refl; sessions = e.made_for };
       slots = refl;
       numbers = e.numbers;
       left = omega (arith, ap length e.left_is, shorter n held.sessions.left);
@@ -73,14 +76,14 @@ forgets seen client old new held new_view n e inside none settled =
     }
 
 -- and one that the client's close drops
-pub ended : {D : Type 0} (seen : D → Seen)
+pub ended : {contexts : ContextLimits} {D : Type 0} (seen : D → Seen)
     (client : ℕ) (old new : D) (held : Held) (new_view : SessionsView) (n : ℕ)
-    → Ended seen old new held.sessions new_view n → IsGoing client held.sessions n → Settled (seen old).state held
-    → Drops seen client old new held (with_sessions held new_view) held.objects.owners 0
-ended seen client old new held new_view n e going settled =
+    → Ended contexts seen old new held.sessions new_view n → IsGoing client held.sessions n → Settled (seen old).state held
+    → Drops contexts seen client old new held (with_sessions held new_view) held.objects.owners 0
+ended {contexts = contexts} seen client old new held new_view n e going settled =
     let items = held.sessions.items in
     let active = held.sessions.numbers.active in
-    let f = forgets seen client old new held new_view n e going.inside going.held settled in
+    let f = forgets _ seen client old new held new_view n e going.inside going.held settled in
     let same = subst (λ (l : Items). sessions_of (seen new).state l ≡ without_session n (sessions_of (seen old).state items)) e.items_are e.sessions in
     record {
       keeps = f.keeps;
@@ -101,7 +104,8 @@ ended seen client old new held new_view n e going settled =
       orphans = omega (arith, f.orphans);
       left = leaves_same 0 held.objects.left held.objects.left refl;
       failures = inl (omega (arith, e.rest.count));
-      right = inr (right_of (asked_of (seen new)) (last_of (seen new)) e.answered);
+      right = inr (right_of contexts (asked_of (seen new)) (last_of (seen new)) e.answered);
+      made_for = record { objects = refl; sessions = e.made_for };
       slots = refl;
       numbers = e.numbers;
       length_is = refl;
@@ -122,13 +126,13 @@ orphaned_settled (Some slots) held handle settled names = record {
   gap = settled.gap;
 }
 
-pub orphaned : {D : Type 0} (seen : D → Seen)
+pub orphaned : {contexts : ContextLimits} {D : Type 0} (seen : D → Seen)
     (client : ℕ) (old new : D) (held : Held) (new_view : SessionsView) (handle : ℕ)
     → new_view ≡ orphaned_view held.sessions (number_of_session handle)
     → (seen new).state ≡ (seen old).state → KeepsRest seen old new → Rose (seen old).faults (seen new).faults → last_of (seen new) ≡ None
     → Names held.sessions.items handle → IsGoing client held.sessions (number_of_session handle) → Settled (seen old).state held
-    → Drops seen client old new held (with_sessions held new_view) held.objects.owners 1
-orphaned seen client old new held new_view handle view_is same rest rose none names going settled =
+    → Drops contexts seen client old new held (with_sessions held new_view) held.objects.owners 1
+orphaned {contexts = contexts} seen client old new held new_view handle view_is same rest rose none names going settled =
     let items = held.sessions.items in
     let active = held.sessions.numbers.active in
     let n = number_of_session handle in
@@ -158,7 +162,8 @@ orphaned seen client old new held new_view handle view_is same rest rose none na
       );
       left = leaves_same 1 held.objects.left held.objects.left refl;
       failures = counted_once (seen old).faults (seen new).faults rose;
-      right = inr (right_none (asked_of (seen new)) (last_of (seen new)) none);
+      right = inr (right_none contexts (asked_of (seen new)) (last_of (seen new)) none);
+      made_for = record { objects = refl; sessions = ap (λ (v : SessionsView). v.contexts) view_is };
       slots = refl;
       numbers = ap (λ (v : SessionsView). v.numbers) view_is;
       length_is = refl;
@@ -188,15 +193,16 @@ behind_orphans client items n is =
     (behind_held (item_at items n) (saved_owner client (item_at items n) is.own is.saved))
 
 -- and what is dropped then
-pub leaves_then : {D : Type 0} (seen : D → Seen) (client : ℕ) (old new : D) (held : Held) (view : SessionsView) (new_held : Held) (n failed : ℕ)
+pub leaves_then : {contexts : ContextLimits} {D : Type 0} (seen : D → Seen) (client : ℕ) (old new : D) (held : Held) (view : SessionsView) (new_held : Held)
+    (n failed : ℕ)
     → view ≡ behind_view held.sessions n → IsLeaving client held.sessions.items n → Settled (seen old).state held
-    → (length held.sessions.left ≤ left_most held.sessions.numbers.active → length new_held.sessions.left ≤ left_most held.sessions.numbers.active)
-    → Drops seen client old new (with_sessions held view) new_held held.objects.owners failed
-    → Drops seen client old new held new_held held.objects.owners failed
-leaves_then seen client old new held view new_held n failed is leaving settled few drops =
+    → (length held.sessions.left ≤ leave_limit held.sessions.numbers.active → length new_held.sessions.left ≤ leave_limit held.sessions.numbers.active)
+    → Drops contexts seen client old new (with_sessions held view) new_held held.objects.owners failed
+    → Drops contexts seen client old new held new_held held.objects.owners failed
+leaves_then {contexts = contexts} seen client old new held view new_held n failed is leaving settled few drops =
     let items = held.sessions.items in
-    let d : Drops seen client old new (with_sessions held (behind_view held.sessions n)) new_held held.objects.owners failed =
-    subst (λ (v : SessionsView). Drops seen client old new (with_sessions held v) new_held held.objects.owners failed) is drops in
+    let d : Drops contexts seen client old new (with_sessions held (behind_view held.sessions n)) new_held held.objects.owners failed =
+    subst (λ (v : SessionsView). Drops contexts seen client old new (with_sessions held v) new_held held.objects.owners failed) is drops in
     record {
       keeps = d.keeps;
       settled = d.settled;
@@ -215,19 +221,21 @@ leaves_then seen client old new held view new_held n failed is leaving settled f
       left = d.left;
       failures = d.failures;
       right = d.right;
+      made_for = record { objects = d.made_for.objects; sessions = d.made_for.sessions };
       slots = d.slots;
       numbers = d.numbers;
       length_is = d.length_is;
     }
 
-pub disowns_behind : {D A : Type 0} (seen : D → Seen) (client : ℕ) (old new : D) (held : Held) (view : SessionsView) (new_held : Held) (n : ℕ) (result : Result A ℕ)
-    → view ≡ behind_view held.sessions n → IsLeaving client held.sessions.items n
-    → Disowns seen old new (with_sessions held view) new_held result → Disowns seen old new held new_held result
-disowns_behind seen client old new held view new_held n result is leaving disowns =
-    let d : Disowns seen old new (with_sessions held (behind_view held.sessions n)) new_held result =
-    subst (λ (v : SessionsView). Disowns seen old new (with_sessions held v) new_held result) is disowns in
+pub disowns_behind : {contexts : ContextLimits} {D A : Type 0} (seen : D → Seen) (client : ℕ) (old new : D) (held : Held) (view : SessionsView) (new_held : Held)
+    (n : ℕ) (result : Result A ℕ) → view ≡ behind_view held.sessions n → IsLeaving client held.sessions.items n
+    → Disowns contexts seen old new (with_sessions held view) new_held result → Disowns contexts seen old new held new_held result
+disowns_behind {contexts = contexts} seen client old new held view new_held n result is leaving disowns =
+    let d : Disowns contexts seen old new (with_sessions held (behind_view held.sessions n)) new_held result =
+    subst (λ (v : SessionsView). Disowns contexts seen old new (with_sessions held v) new_held result) is disowns in
     record {
       keeps = d.keeps;
+      made_for = record { objects = d.made_for.objects; sessions = d.made_for.sessions };
       slots = d.slots;
       numbers = d.numbers;
       length_is = d.length_is;
@@ -269,22 +277,22 @@ one_left faults new_faults held new_view handle names is rose =
 
 -- ---- where the result of a call is passed on
 
-pub drops_passed : {D : Type 0} (seen : D → Seen) (client handle : ℕ) (old new : D) (held new_held : Held) (result : Result ℕ ℕ)
+pub drops_passed : (contexts : ContextLimits) {D : Type 0} (seen : D → Seen) (client handle : ℕ) (old new : D) (held new_held : Held) (result : Result ℕ ℕ)
     → IsDropped client held.sessions handle
-    → IfOk result (λ failed. (c : ℕ) → IsDropped c held.sessions handle → Drops seen c old new held new_held held.objects.owners failed)
-    → IfOk result (λ failed. Drops seen client old new held new_held held.objects.owners failed)
-drops_passed seen client handle old new held new_held (Ok failed) is drops = drops client is
-drops_passed seen client handle old new held new_held (Err code) is drops = tt
+    → IfOk result (λ failed. (c : ℕ) → IsDropped c held.sessions handle → Drops contexts seen c old new held new_held held.objects.owners failed)
+    → IfOk result (λ failed. Drops contexts seen client old new held new_held held.objects.owners failed)
+drops_passed contexts seen client handle old new held new_held (Ok failed) is drops = drops client is
+drops_passed contexts seen client handle old new held new_held (Err code) is drops = tt
 
 -- a session is left, and the one that was left longest is dropped
-pub leaves_dropped : {D : Type 0} (seen : D → Seen) (client : ℕ) (old new : D) (held : Held) (view : SessionsView) (new_held : Held) (n first : ℕ)
-    (result : Result ℕ ℕ) → view ≡ behind_view held.sessions n → IsLeaving client held.sessions.items n → Settled (seen old).state held
+pub leaves_dropped : (contexts : ContextLimits) {D : Type 0} (seen : D → Seen) (client : ℕ) (old new : D) (held : Held) (view : SessionsView) (new_held : Held)
+    (n first : ℕ) (result : Result ℕ ℕ) → view ≡ behind_view held.sessions n → IsLeaving client held.sessions.items n → Settled (seen old).state held
     → slice_get view.left 0 ≡ Some first → OnOk result (new_held.sessions.left ≡ without_one first view.left)
-    → IfOk result (λ failed. Drops seen client old new (with_sessions held view) new_held held.objects.owners failed)
-    → IfOk result (λ failed. Drops seen client old new held new_held held.objects.owners failed)
-leaves_dropped seen client old new held view new_held n first (Ok failed) is leaving settled first_is gone drops =
+    → IfOk result (λ failed. Drops contexts seen client old new (with_sessions held view) new_held held.objects.owners failed)
+    → IfOk result (λ failed. Drops contexts seen client old new held new_held held.objects.owners failed)
+leaves_dropped contexts seen client old new held view new_held n first (Ok failed) is leaving settled first_is gone drops =
     let longer : length view.left ≡ length held.sessions.left + 1 =
     ap (λ (v : SessionsView). length v.left) is ∙ length-append held.sessions.left (n ∷ []) in
     leaves_then seen client old new held view new_held n failed is leaving settled
     (λ few. omega (arith, few, longer, ap length gone, one_fewer first view.left first_is)) drops
-leaves_dropped seen client old new held view new_held n first (Err code) is leaving settled first_is gone drops = tt
+leaves_dropped contexts seen client old new held view new_held n first (Err code) is leaving settled first_is gone drops = tt

@@ -9,6 +9,7 @@ use Rattle.tab_spec.specs.Count.{one_more}
 use Rattle.tab_spec.specs.Object.{Object}
 use Rattle.tab_spec.specs.Persist.{Persist}
 use Rattle.tab_spec.specs.Shape.{number_of_session, octet_of}
+use Rattle.tab_spec.specs.declared.contexts.ContextLimits.{ContextLimits}
 use Rattle.device_spec.specs.ContextCommands.{flush_context_command}
 use Rattle.device_spec.specs.Slots.{SlotState}
 use Rattle.device_port.specs.Device.{Seen, asked_of, last_of, sent_of}
@@ -28,6 +29,7 @@ use Rattle.client_machine.proofs.Prepared.{counts_then}
 use Rattle.client_machine.proofs.Ran.{open_same}
 use Rattle.client_machine.proofs.Seeing.{place_there}
 use Rattle.client_machine.proofs.Settling.{persist_over_objects, rest_over_objects, sessions_over_objects, settled_at}
+use Rattle.client_machine.proofs.Keeping.{for_then}
 
 -- ---- what a client has, after another step
 
@@ -88,6 +90,7 @@ moves_after seen client old middle new held between new_held new_table p d is = 
   owners = λ present there owners.
       d.owners present (open_same present held.sessions.items between.sessions.items p.session_owners owners);
   orphans = omega (arith, p.orphans, d.orphans);
+  made_for = for_then held between new_held p.made_for d.made_for;
   slots = d.slots ∙ p.slots;
   numbers = d.numbers ∙ p.numbers;
   left = omega (arith, ap length p.left, d.left);
@@ -176,9 +179,9 @@ object_leaves seen client old new held new_view table new_table handle item same
 
 -- ---- what is sent
 
-pub was_answered : (asked : List ℕ) (last : Option (List ℕ)) → IsAnswered asked last → IsSome last
-was_answered asked None answered = absurd answered.1
-was_answered asked (Some response) answered = refl
+pub was_answered : (contexts : ContextLimits) (asked : List ℕ) (last : Option (List ℕ)) → IsAnswered contexts asked last → IsSome last
+was_answered contexts asked None answered = absurd answered.1
+was_answered contexts asked (Some response) answered = refl
 
 slot_by : (table : List (Option ℕ)) (items : List Item) (handle item : ℕ) → (octet_of handle == HT_TRANSIENT) ≡ true
     → held_under table handle ≡ Some item → flushed_handle table items handle ≡ handle_in (item_at items item).slot
@@ -186,56 +189,56 @@ slot_by table items handle item transient held_here =
     chosen (octet_of handle == HT_TRANSIENT) (slot_handle items (held_under table handle)) (Some handle) transient
     ∙ ap (λ (place : Option ℕ). slot_handle items place) held_here
 
-sent_by : {D : Type 0} (seen : D → Seen) (nobodys : ℕ) (slot : Option ℕ)
-    (old middle new : D) → is_some slot ≡ true → FlushesSome seen nobodys old middle
+sent_by : {contexts : ContextLimits} {D : Type 0} (seen : D → Seen) (nobodys : ℕ) (slot : Option ℕ)
+    (old middle new : D) → is_some slot ≡ true → FlushesSome contexts seen nobodys old middle
     → (nobodys ≡ 0 → middle ≡ old)
     → IfSome slot (λ handle. (asked_of (seen new) ≡ flush_context_command handle) × (sent_of (seen new) ≡ one_more (sent_of (seen middle))))
-    → IfSome slot (λ handle. IsAnswered (asked_of (seen new)) (last_of (seen new))) → IsFlushSent seen nobodys slot old new
+    → IfSome slot (λ handle. IsAnswered contexts (asked_of (seen new)) (last_of (seen new))) → IsFlushSent contexts seen nobodys slot old new
 sent_by seen nobodys None old middle new there own still flushed answered = absurd cc
-sent_by seen nobodys (Some slot) old middle new there own still flushed answered =
-    (middle, own, still, flushed.0, flushed.1, was_answered (asked_of (seen new)) (last_of (seen new)) answered)
+sent_by {contexts = contexts} seen nobodys (Some slot) old middle new there own still flushed answered =
+    (middle, own, still, flushed.0, flushed.1, was_answered contexts (asked_of (seen new)) (last_of (seen new)) answered)
 
-sent_once : {D : Type 0} (unsent : Type 0) (seen : D → Seen) (old new : D) (slot : Option ℕ)
-    → MatchOption slot unsent (λ handle. Asks {A = Unit {0}} seen old new (flush_context_command handle) (Ok tt))
+sent_once : (contexts : ContextLimits) {D : Type 0} (unsent : Type 0) (seen : D → Seen) (old new : D) (slot : Option ℕ)
+    → MatchOption slot unsent (λ handle. Asks {A = Unit {0}} contexts seen old new (flush_context_command handle) (Ok tt))
     → IfSome slot (λ handle. (asked_of (seen new) ≡ flush_context_command handle) × (sent_of (seen new) ≡ one_more (sent_of (seen old))))
-sent_once unsent seen old new None sent = tt
-sent_once unsent seen old new (Some handle) sent = (sent.asked, sent.once)
+sent_once contexts unsent seen old new None sent = tt
+sent_once contexts unsent seen old new (Some handle) sent = (sent.asked, sent.once)
 
-sent_answered : {D : Type 0} (unsent : Type 0) (seen : D → Seen) (old new : D) (slot : Option ℕ)
-    → MatchOption slot unsent (λ handle. Asks {A = Unit {0}} seen old new (flush_context_command handle) (Ok tt))
-    → IfSome slot (λ handle. IsAnswered (asked_of (seen new)) (last_of (seen new)))
-sent_answered unsent seen old new None sent = tt
-sent_answered unsent seen old new (Some handle) sent = sent.answered
+sent_answered : (contexts : ContextLimits) {D : Type 0} (unsent : Type 0) (seen : D → Seen) (old new : D) (slot : Option ℕ)
+    → MatchOption slot unsent (λ handle. Asks {A = Unit {0}} contexts seen old new (flush_context_command handle) (Ok tt))
+    → IfSome slot (λ handle. IsAnswered contexts (asked_of (seen new)) (last_of (seen new)))
+sent_answered contexts unsent seen old new None sent = tt
+sent_answered contexts unsent seen old new (Some handle) sent = sent.answered
 
-pub object_sent : {D : Type 0} (unsent : Type 0) (seen : D → Seen) (nobodys : ℕ)
+pub object_sent : {contexts : ContextLimits} {D : Type 0} (unsent : Type 0) (seen : D → Seen) (nobodys : ℕ)
     (table : List (Option ℕ)) (items between : List Item) (handle item : ℕ) (old middle new : D)
     → (octet_of handle == HT_TRANSIENT) ≡ true → held_under table handle ≡ Some item
     → is_some (handle_in (item_at items item).slot) ≡ true → item_at between item ≡ item_at items item
-    → FlushesSome seen nobodys old middle → (nobodys ≡ 0 → middle ≡ old)
-    → MatchOption (handle_in (item_at between item).slot) unsent (λ handle. Asks {A = Unit {0}} seen middle new (flush_context_command handle) (Ok tt))
-    → IsFlushSent seen nobodys (flushed_handle table items handle) old new
-object_sent unsent seen nobodys table items between handle item old middle new transient held_here there same own still sent =
+    → FlushesSome contexts seen nobodys old middle → (nobodys ≡ 0 → middle ≡ old)
+    → MatchOption (handle_in (item_at between item).slot) unsent (λ handle. Asks {A = Unit {0}} contexts seen middle new (flush_context_command handle) (Ok tt))
+    → IsFlushSent contexts seen nobodys (flushed_handle table items handle) old new
+object_sent {contexts = contexts} unsent seen nobodys table items between handle item old middle new transient held_here there same own still sent =
     let slot : handle_in (item_at between item).slot ≡ flushed_handle table items handle =
     ap (λ (i : Item). handle_in i.slot) same ∙ sym (slot_by table items handle item transient held_here) in
-    subst (λ (slot : Option ℕ). IsFlushSent seen nobodys slot old new) slot
+    subst (λ (slot : Option ℕ). IsFlushSent contexts seen nobodys slot old new) slot
     (sent_by seen nobodys (handle_in (item_at between item).slot) old middle new
     (ap (λ (i : Item). is_some (handle_in i.slot)) same ∙ there) own still
-    (sent_once unsent seen middle new (handle_in (item_at between item).slot) sent) (sent_answered unsent seen middle new (handle_in (item_at between item).slot) sent))
+    (sent_once contexts unsent seen middle new (handle_in (item_at between item).slot) sent) (sent_answered contexts unsent seen middle new (handle_in (item_at between item).slot) sent))
 
 -- one that is in no slot isn't flushed
-unsent_by : {D : Type 0} (done : Type 0) (Sent : ℕ → Type 0) (seen : D → Seen) (nobodys : ℕ) (old new : D) (slot : Option ℕ) → is_some slot ≡ false
-    → MatchOption slot (done × (new ≡ old)) Sent → IsFlushSent seen nobodys slot old new
-unsent_by done Sent seen nobodys old new None out sent = sent.1
-unsent_by done Sent seen nobodys old new (Some handle) out sent = absurd cc
+unsent_by : (contexts : ContextLimits) {D : Type 0} (done : Type 0) (Sent : ℕ → Type 0) (seen : D → Seen) (nobodys : ℕ) (old new : D) (slot : Option ℕ) → is_some slot ≡ false
+    → MatchOption slot (done × (new ≡ old)) Sent → IsFlushSent contexts seen nobodys slot old new
+unsent_by contexts done Sent seen nobodys old new None out sent = sent.1
+unsent_by contexts done Sent seen nobodys old new (Some handle) out sent = absurd cc
 
-pub object_unsent : {D : Type 0} (done : Type 0) (Sent : ℕ → Type 0) (seen : D → Seen) (nobodys : ℕ) (table : List (Option ℕ)) (items : List Item)
+pub object_unsent : (contexts : ContextLimits) {D : Type 0} (done : Type 0) (Sent : ℕ → Type 0) (seen : D → Seen) (nobodys : ℕ) (table : List (Option ℕ)) (items : List Item)
     (handle item : ℕ) (old new : D) → (octet_of handle == HT_TRANSIENT) ≡ true → held_under table handle ≡ Some item
     → is_some (handle_in (item_at items item).slot) ≡ false → MatchOption (handle_in (item_at items item).slot) (done × (new ≡ old)) Sent
-    → IsFlushSent seen nobodys (flushed_handle table items handle) old new × (is_some (flushed_handle table items handle) ≡ false)
-object_unsent done Sent seen nobodys table items handle item old new transient held_here out sent =
+    → IsFlushSent contexts seen nobodys (flushed_handle table items handle) old new × (is_some (flushed_handle table items handle) ≡ false)
+object_unsent contexts done Sent seen nobodys table items handle item old new transient held_here out sent =
     let slot : flushed_handle table items handle ≡ handle_in (item_at items item).slot = slot_by table items handle item transient held_here in (
-      subst (λ (slot : Option ℕ). IsFlushSent seen nobodys slot old new) (sym slot)
-          (unsent_by done Sent seen nobodys old new (handle_in (item_at items item).slot) out sent),
+      subst (λ (slot : Option ℕ). IsFlushSent contexts seen nobodys slot old new) (sym slot)
+          (unsent_by contexts done Sent seen nobodys old new (handle_in (item_at items item).slot) out sent),
       ap (λ (slot : Option ℕ). is_some slot) slot ∙ out,
     )
 

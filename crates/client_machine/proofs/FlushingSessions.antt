@@ -12,6 +12,7 @@ use Rattle.tab_spec.specs.Frame.{code_of, is_frame}
 use Rattle.tab_spec.specs.Object.{Object}
 use Rattle.tab_spec.specs.Reply.{error_reply, response}
 use Rattle.tab_spec.specs.Shape.{number_of_session, octet_of}
+use Rattle.tab_spec.specs.declared.contexts.ContextLimits.{ContextLimits}
 use Rattle.device_spec.specs.Slots.{SlotState}
 use Rattle.device_port.specs.Device.{Seen}
 use Rattle.device_laws.proofs.Frames.{error_is_frame, response_is_frame}
@@ -38,6 +39,7 @@ use Rattle.client_machine.proofs.Ran.{below_on}
 use Rattle.client_machine.proofs.Running.{picks_none}
 use Rattle.client_machine.proofs.Seeing.{place_there, admitted_seen, session_had}
 use Rattle.client_machine.proofs.Settling.{persist_over_sessions, rest_over_sessions, settled_at, table_over_sessions}
+use Rattle.client_machine.proofs.Keeping.{IsProfile, profile_at}
 
 -- ---- what a client may flush
 
@@ -210,12 +212,12 @@ no_pick a reply code =
     let none : tells_session a reply ≡ false = ap (λ (c : ℕ). (c == CC_START_AUTH_SESSION) && (code_of reply == RC_SUCCESS)) code in
     picks_none a reply (ap (λ (c : ℕ). c == CC_CONTEXT_SAVE) code) none
 
-pub flush_steps : (old new : Option SlotState) (held new_held : Held) (client : ℕ) (table new_table : List (Option ℕ)) (a : Admitted)
+pub flush_steps : (contexts : ContextLimits) (old new : Option SlotState) (held new_held : Held) (client : ℕ) (table new_table : List (Option ℕ)) (a : Admitted)
     (bytes reply : List ℕ) → Settled old held → IsTable held.objects.items client table
-    → client_admitted (tables_seen client table held.sessions.items) bytes ≡ Ok a → a.shape.row.code ≡ CC_FLUSH_CONTEXT
+    → client_admitted (tables_seen contexts client table held.sessions.items) bytes ≡ Ok a → a.shape.row.code ≡ CC_FLUSH_CONTEXT → IsProfile contexts old
     → StepsAs (λ client_state. Some (flush_step client client_state (flush_of a bytes))) old new held new_held table new_table reply
     → StepsAs (λ client_state. client_step client client_state bytes (pick_of a reply)) old new held new_held table new_table reply
-flush_steps old new held new_held client table new_table a bytes reply settled is e code steps =
+flush_steps contexts old new held new_held client table new_table a bytes reply settled is e code profile steps =
     λ slots after least was now below.
     let before = client_state slots held table least in
     let here = settled_at old slots held settled was in
@@ -223,7 +225,8 @@ flush_steps old new held new_held client table new_table a bytes reply settled i
       steps.0,
       steps.1,
       step_flushed client before bytes (pick_of a reply) a
-          (sym (admitted_seen slots client table held least bytes here.objects here.sessions is) ∙ e)
+          (sym (admitted_seen slots client table held least bytes here.objects here.sessions is)
+          ∙ subst (λ (c : ContextLimits). client_admitted (tables_seen c client table held.sessions.items) bytes ≡ Ok a) (profile_at contexts old slots profile was) e)
           (eq-eqb a.shape.row.code CC_FLUSH_CONTEXT code)
           ∙ ap (λ (p : Pick). choosing_nothing (flush_step client before (flush_of a bytes)) p) (no_pick a reply code)
           ∙ steps.2,
@@ -243,16 +246,16 @@ flushed_frame tables named reply is = ap (λ (reply : List ℕ). is_frame reply)
 -- ---- what FlushContext of a client does
 
 -- what it names goes
-pub flushed_so : {D : Type 0} (seen : D → Seen) (client handle : ℕ) (old new : D) (held new_held : Held) (table new_table : List (Option ℕ))
+pub flushed_so : {contexts : ContextLimits} {D : Type 0} (seen : D → Seen) (client handle : ℕ) (old new : D) (held new_held : Held) (table new_table : List (Option ℕ))
     (named : Result ℕ ℕ) (reply : List ℕ) → named ≡ Ok handle → MayFlush client handle held table
-    → Flushes seen handle old new held new_held table new_table → reply ≡ response ST_NO_SESSIONS RC_SUCCESS []
-    → Flushed seen (tables_had client table held.sessions.items) old new held new_held table new_table named reply
-flushed_so seen client handle old new held new_held table new_table named reply is may done reply_is =
+    → Flushes contexts seen handle old new held new_held table new_table → reply ≡ response ST_NO_SESSIONS RC_SUCCESS []
+    → Flushed contexts seen (tables_had client table held.sessions.items) old new held new_held table new_table named reply
+flushed_so {contexts = contexts} seen client handle old new held new_held table new_table named reply is may done reply_is =
     let tables = tables_had client table held.sessions.items in
     let none = sym may.there in
-    subst (λ (n : Result ℕ ℕ). Flushed seen tables old new held new_held table new_table n reply) (sym is) (record {
+    subst (λ (n : Result ℕ ℕ). Flushed contexts seen tables old new held new_held table new_table n reply) (sym is) (record {
       reply_is = reply_is ∙ ap reply_unless none;
-      sent_is = subst (λ (f : Option ℕ). IsFlushSent seen (orphan_count held) (flush_sent_unless table held.objects.items handle f) old new) none done.sent_is;
+      sent_is = subst (λ (f : Option ℕ). IsFlushSent contexts seen (orphan_count held) (flush_sent_unless table held.objects.items handle f) old new) none done.sent_is;
       nobodys = λ some. done.nobodys (ap (λ (f : Option ℕ). is_some (flush_sent_unless table held.objects.items handle f)) none ∙ some);
       table_is = done.table_is ∙ ap (table_unless table handle) none;
       owners = done.owners ∙ ap (λ (f : Option ℕ). owned_handles (sessions_unless held.sessions.items handle f)) none;
@@ -260,8 +263,8 @@ flushed_so seen client handle old new held new_held table new_table named reply 
     })
 
 -- it is refused
-pub refused_so : {D : Type 0} (seen : D → Seen) (tables : Tables) (device : D) (held : Held) (table : List (Option ℕ)) (named : Result ℕ ℕ) (code : ℕ) (reply : List ℕ)
-    → IsUnflushed tables named code → reply ≡ error_reply code → Flushed seen tables device device held held table table named reply
+pub refused_so : {contexts : ContextLimits} {D : Type 0} (seen : D → Seen) (tables : Tables) (device : D) (held : Held) (table : List (Option ℕ)) (named : Result ℕ ℕ) (code : ℕ) (reply : List ℕ)
+    → IsUnflushed tables named code → reply ≡ error_reply code → Flushed contexts seen tables device device held held table table named reply
 refused_so seen tables device held table (Err other) code reply refused reply_is = record {
   reply_is = reply_is ∙ ap error_reply (sym refused);
   sent_is = refl;
@@ -270,11 +273,11 @@ refused_so seen tables device held table (Err other) code reply refused reply_is
   owners = refl;
   left = refl;
 }
-refused_so seen tables device held table (Ok handle) code reply refused reply_is =
+refused_so {contexts = contexts} seen tables device held table (Ok handle) code reply refused reply_is =
     let fault = sym refused in
     record {
       reply_is = reply_is ∙ ap reply_unless fault;
-      sent_is = subst (λ (f : Option ℕ). IsFlushSent seen (orphan_count held) (flush_sent_unless table held.objects.items handle f) device device) fault refl;
+      sent_is = subst (λ (f : Option ℕ). IsFlushSent contexts seen (orphan_count held) (flush_sent_unless table held.objects.items handle f) device device) fault refl;
       nobodys = λ some.
           let none : false ≡ true = ap (λ (f : Option ℕ). is_some (flush_sent_unless table held.objects.items handle f)) fault ∙ some in absurd cc;
       table_is = ap (table_unless table handle) fault;

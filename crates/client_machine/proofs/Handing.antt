@@ -15,6 +15,7 @@ use Rattle.tab_spec.specs.Frame.{code_of, is_frame, is_size, size_of}
 use Rattle.tab_spec.specs.Reply.{with_response_handle}
 use Rattle.tab_spec.specs.Shape.{handle_bytes}
 use Rattle.tab_spec.specs.Values.{AreBytes}
+use Rattle.tab_spec.specs.declared.contexts.ContextLimits.{ContextLimits}
 use Rattle.tab_laws.proofs.OneSpelling.{bytes_back, bytes_front}
 use Rattle.device_spec.specs.Answers.{takes}
 use Rattle.client_laws.specs.Ready.{ends_session, sent_for, starts_session, tells_object, tells_session}
@@ -121,8 +122,8 @@ handed_twice reply one other long =
 
 -- ---- a response that is taken
 
-pub taken_frame : (is_kept is_taken : Bool) (asked last : List ℕ) → takes is_kept is_taken asked last ≡ true → is_frame last ≡ true
-taken_frame is_kept is_taken asked last taken = (and_parts (is_frame last) _ taken).0
+pub taken_frame : (contexts : ContextLimits) (is_kept is_taken : Bool) (asked last : List ℕ) → takes contexts is_kept is_taken asked last ≡ true → is_frame last ≡ true
+taken_frame contexts is_kept is_taken asked last taken = (and_parts (is_frame last) _ taken).0
 
 -- ---- what is sent are bytes
 

@@ -1,7 +1,9 @@
 -- What calls keep of a device, and of the objects and the sessions of clients, they keep one after another.
 use Rattle.std.proofs.Common.{◌≡◌, ◌⊎◌, ◌+◌, ◌≤◌, inl, inr, ℕ, Bool, true, false, List, length, refl, ap, sym, ◌∙◌, subst, arith}
-use Rattle.std.specs.Prelude.{Option, Some, None, is_some}
+use Rattle.std.specs.Prelude.{Option, Some, None, IfSome, is_some}
 use Rattle.tab_spec.specs.Count.{Rose, largest_count}
+use Rattle.tab_spec.specs.declared.contexts.ContextLimits.{ContextLimits}
+use Rattle.tab_spec.specs.declared.contexts.TheConstants.{PROFILE_CONTEXTS}
 use Rattle.device_spec.specs.Answers.{IsRight}
 use Rattle.device_spec.specs.Slots.{SlotState}
 use Rattle.device_port.specs.Device.{Seen, asked_of, last_of}
@@ -15,7 +17,7 @@ use Rattle.session_swap.specs.Items as sessions
 use Rattle.world_spec.specs.World.{closed_sessions}
 use Rattle.client_machine.specs.declared.held.Held.{Held}
 use Rattle.client_machine.specs.Dropping.{AreLeftByFaults}
-use Rattle.client_machine.specs.Moves.{CountsOnBy, GainsNone, Keeps, KeepsObjectsOf, KeepsOwners, KeepsPersist, other_than}
+use Rattle.client_machine.specs.Moves.{CountsOnBy, GainsNone, Keeps, KeepsObjectsOf, KeepsOwners, KeepsPersist, StaysFor, other_than}
 use Rattle.client_machine.specs.Settled.{Settled, orphan_count, sessions_in}
 use Rattle.client_machine.specs.Tables.{AreOpenOwners}
 
@@ -32,6 +34,23 @@ told_between : {X : Type 0} (old middle : Option SlotState) (slots : SlotState) 
 told_between old None slots tells is_old next =
     let none : false ≡ true = tells ∙ ap (λ (s : Option SlotState). is_some s) is_old in absurd cc
 told_between old (Some between) slots tells is_old next = next between refl
+
+-- ---- what contexts it is for
+
+-- a device that tells its state is one of the profile
+abbrev pub IsProfile : ContextLimits → Option SlotState → Type 0
+IsProfile contexts state = IfSome state (λ slots. contexts ≡ PROFILE_CONTEXTS)
+
+pub profile_at : (contexts : ContextLimits) (state : Option SlotState) (slots : SlotState) → IsProfile contexts state → state ≡ Some slots → contexts ≡ PROFILE_CONTEXTS
+profile_at contexts None slots profile is = absurd cc
+profile_at contexts (Some other) slots profile is = profile
+
+pub same_for : (held : Held) → StaysFor held held
+same_for held = record { objects = refl; sessions = refl }
+
+pub for_then : (held between new_held : Held) → StaysFor held between → StaysFor between new_held → StaysFor held new_held
+for_then held between new_held first second =
+    record { objects = second.objects ∙ first.objects; sessions = second.sessions ∙ first.sessions }
 
 -- ---- the objects of some clients
 
@@ -80,6 +99,7 @@ pub record Forgets {D : Type 0} (seen : D → Seen) (client : ℕ) (old new : D)
   pub owners : (present : List ℕ) → AreOpenOwners present held.sessions.items → AreOpenOwners present new_held.sessions.items
   pub persist : KeepsPersist (seen old).state (seen new).state
   pub orphans : orphan_count new_held ≡ orphan_count held
+  pub made_for : StaysFor held new_held
   pub slots : new_held.objects.slots ≡ held.objects.slots
   pub numbers : new_held.sessions.numbers ≡ held.sessions.numbers
   pub left : length new_held.sessions.left ≤ length held.sessions.left
@@ -87,25 +107,25 @@ pub record Forgets {D : Type 0} (seen : D → Seen) (client : ℕ) (old new : D)
 
 -- ---- the last response
 
-pub right_of : (asked : List ℕ) (last : Option (List ℕ)) → IsAnswered asked last → IsRight asked last
-right_of asked None answered = tt
-right_of asked (Some response) answered = takes_more true true asked response answered.1
+pub right_of : (contexts : ContextLimits) (asked : List ℕ) (last : Option (List ℕ)) → IsAnswered contexts asked last → IsRight contexts asked last
+right_of contexts asked None answered = tt
+right_of contexts asked (Some response) answered = takes_more contexts true true asked response answered.1
 
-pub right_none : (asked : List ℕ) (last : Option (List ℕ)) → last ≡ None → IsRight asked last
-right_none asked None none = tt
-right_none asked (Some response) none = absurd cc
+pub right_none : (contexts : ContextLimits) (asked : List ℕ) (last : Option (List ℕ)) → last ≡ None → IsRight contexts asked last
+right_none contexts asked None none = tt
+right_none contexts asked (Some response) none = absurd cc
 
-pub rightly : {D : Type 0} (seen : D → Seen) (old new : D) → (new ≡ old) ⊎ IsAnswered (asked_of (seen new)) (last_of (seen new))
-    → (new ≡ old) ⊎ IsRight (asked_of (seen new)) (last_of (seen new))
-rightly seen old new (inl same) = inl same
-rightly seen old new (inr answered) = inr (right_of (asked_of (seen new)) (last_of (seen new)) answered)
+pub rightly : (contexts : ContextLimits) {D : Type 0} (seen : D → Seen) (old new : D) → (new ≡ old) ⊎ IsAnswered contexts (asked_of (seen new)) (last_of (seen new))
+    → (new ≡ old) ⊎ IsRight contexts (asked_of (seen new)) (last_of (seen new))
+rightly contexts seen old new (inl same) = inl same
+rightly contexts seen old new (inr answered) = inr (right_of contexts (asked_of (seen new)) (last_of (seen new)) answered)
 
 -- ---- failed transmissions
 
-pub failed_cause : {D : Type 0} (seen : D → Seen) (e : SwapError)
-    (failed : DeviceFailed) (old new : D) → e ≡ Failed failed → HasCause seen e old new
+pub failed_cause : (contexts : ContextLimits) {D : Type 0} (seen : D → Seen) (e : SwapError)
+    (failed : DeviceFailed) (old new : D) → e ≡ Failed failed → HasCause contexts seen e old new
     → (Rose (seen old).faults (seen new).faults) × (last_of (seen new) ≡ None)
-failed_cause seen e failed old new is cause = subst (λ (x : SwapError). HasCause seen x old new) is cause
+failed_cause contexts seen e failed old new is cause = subst (λ (x : SwapError). HasCause contexts seen x old new) is cause
 
 pub counted_once : (old new : ℕ) → Rose old new → (1 + old ≤ new) ⊎ (largest_count ≤ new)
 counted_once old new (inl more) = inl (omega (arith, more))

@@ -7,7 +7,7 @@ use Rattle.std.proofs.lemmas.Bool.{eq-eqb, or_parts}
 use Rattle.std.proofs.lemmas.List.{length-map, map-set}
 use Rattle.tab_spec.specs.Session.{Session}
 use Rattle.tab_spec.specs.Shape.{number_of_session, octet_of}
-use Rattle.tab_spec.specs.Numbers.{left_most}
+use Rattle.tab_spec.specs.Numbers.{leave_limit}
 use Rattle.device_spec.specs.Slots.{SlotState}
 use Rattle.device_port.specs.Use.{without_one}
 use Rattle.session_swap.specs.Items.{Item, ItemStands, ListsThose, Names, SessionsStand, SessionsView, flag, is_left, is_orphan, is_owned, is_owner, is_saved_for_owner, item_at, item_session, left_behind, owner_by, owner_in, owner_of_item}
@@ -58,7 +58,7 @@ used_goes : (client most n : ℕ) (sessions : List (Option Owned)) (left : List 
 used_goes client most n sessions left unsaved goes =
     let saved : saved_numbers client 0 (set sessions n None) ≡ saved_numbers client 0 sessions = saved_set client 0 n sessions None (sym unsaved) in
     let places : map (left_place client) (set sessions n None) ≡ map (left_place client) sessions = left_set client n sessions None (sym goes) in
-    λ i. closed_with (left_most most) (left ++ saved i) (places i)
+    λ i. closed_with (leave_limit most) (left ++ saved i) (places i)
 
 -- the first number that the client saved, where its session is another one then
 saved_first : (client first n number : ℕ) (sessions : List (Option Owned)) (place : Option Owned) → number ≡ first + n → n < length sessions
@@ -87,7 +87,7 @@ saved_leaves client most n sessions left place inside lower here none same =
     let all : (left ++ n ∷ []) ++ after ≡ left ++ saved_numbers client 0 sessions =
     append_assoc left (n ∷ []) after ∙ ap (λ (l : List ℕ). left ++ l) (sym saved) in
     let places : map (left_place client) (set sessions n place) ≡ map (left_place client) sessions = left_set client n sessions place same in
-    λ i. closed_with (left_most most) (all i) (places i)
+    λ i. closed_with (leave_limit most) (all i) (places i)
 
 -- the first of more than may be left goes
 past_goes : (most first : ℕ) (all : List ℕ) (sessions : List (Option Owned)) → most ≤ length all
@@ -99,7 +99,7 @@ past_goes most first all sessions many =
 without_first_one : (n one : ℕ) (more : List ℕ) → one ≡ n → without_one n (one ∷ more) ≡ more
 without_first_one n one more is = ap (λ (here : Bool). if here then more else one ∷ without_one n more) (eq-eqb one n is)
 
-first_goes : (client most n : ℕ) (sessions : List (Option Owned)) (left : List ℕ) → left_most most < length left → slice_get left 0 ≡ Some n
+first_goes : (client most n : ℕ) (sessions : List (Option Owned)) (left : List ℕ) → leave_limit most < length left → slice_get left 0 ≡ Some n
     → is_saved_by client (place_of sessions n) ≡ false
     → closed_sessions client most (set sessions n None) (without_one n left) ≡ closed_sessions client most sessions left
 first_goes client most n sessions [] many first unsaved = absurd cc
@@ -108,9 +108,9 @@ first_goes client most n sessions (one ∷ more) many first unsaved =
     let rest = saved_numbers client 0 sessions in
     let saved : saved_numbers client 0 (set sessions n None) ≡ rest = saved_set client 0 n sessions None (sym unsaved) in
     ap (λ (l : List ℕ). closed_sessions client most (set sessions n None) l) (without_first_one n one more is)
-    ∙ (λ i. closed_with (left_most most) (more ++ saved i) (map-set (left_place client) sessions n None i))
-    ∙ past_goes (left_most most) n (more ++ rest) (map (left_place client) sessions) (omega (arith, many, length-append more rest))
-    ∙ ap (λ (k : ℕ). closed_with (left_most most) (k ∷ more ++ rest) (map (left_place client) sessions)) (sym is)
+    ∙ (λ i. closed_with (leave_limit most) (more ++ saved i) (map-set (left_place client) sessions n None i))
+    ∙ past_goes (leave_limit most) n (more ++ rest) (map (left_place client) sessions) (omega (arith, many, length-append more rest))
+    ∙ ap (λ (k : ℕ). closed_with (leave_limit most) (k ∷ more ++ rest) (map (left_place client) sessions)) (sym is)
 
 -- ---- an item as the world has it
 
@@ -213,13 +213,13 @@ few_stay most left sessions few =
 
 -- the close of a client that has no session leaves all as it is, where no more are left than may be
 pub closed_already : (client most : ℕ) (slots : SlotState) (items : List (Option Item)) (left : List ℕ) → list_any (is_owned client) items ≡ false
-    → length left ≤ left_most most → closed_sessions client most (sessions_in slots items) left ≡ (sessions_in slots items, left)
+    → length left ≤ leave_limit most → closed_sessions client most (sessions_in slots items) left ≡ (sessions_in slots items, left)
 closed_already client most slots items left none few =
     let saved = none_saved client 0 slots items none in
     let places = none_goes client slots items none in
-    (λ i. closed_with (left_most most) (left ++ saved i) (places i))
-    ∙ ap (λ (l : List ℕ). closed_with (left_most most) l (sessions_in slots items)) (append-nil left)
-    ∙ few_stay (left_most most) left (sessions_in slots items) few
+    (λ i. closed_with (leave_limit most) (left ++ saved i) (places i))
+    ∙ ap (λ (l : List ℕ). closed_with (leave_limit most) l (sessions_in slots items)) (append-nil left)
+    ∙ few_stay (leave_limit most) left (sessions_in slots items) few
 
 -- ---- the list of the left ones
 
@@ -343,7 +343,7 @@ used_going client view n inside listed own used =
     }
 
 first_going : (client : ℕ) (view : SessionsView) (n : ℕ) → n < length view.items → ListsThose is_left view.left view.items
-    → left_most view.numbers.active < length view.left → slice_get view.left 0 ≡ Some n → IsGoing client view n
+    → leave_limit view.numbers.active < length view.left → slice_get view.left 0 ≡ Some n → IsGoing client view n
 first_going client view n inside listed many first =
     let left = first_left view.items view.left n listed first in
     record {

@@ -126,6 +126,7 @@ sessions_moved seen most old new held view moved room counter settled =
         sessions = λ number none. none_kept held.sessions.items view.items number holders none;
       };
       orphans = omega (arith, orphans_same held.sessions.items view.items holders);
+      made_for = record { objects = refl; sessions = moved.contexts };
       slots = refl;
       numbers = moved.numbers;
       left = moved.left;

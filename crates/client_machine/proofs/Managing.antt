@@ -11,10 +11,11 @@ use Rattle.tab_spec.specs.Commands.{all_commands}
 use Rattle.tab_spec.specs.Frame.{code_of}
 use Rattle.tab_spec.specs.Object.{Object}
 use Rattle.tab_spec.specs.Reply.{error_reply, response}
+use Rattle.tab_spec.specs.declared.contexts.TheConstants.{PROFILE_CONTEXTS}
 use Rattle.effect_spec.specs.Contexts.{Context, opened_object}
 use Rattle.effect_spec.specs.Operands.{command_auth, new_object, nothing}
 use Rattle.effect_spec.specs.SessionAuths.{continues}
-use Rattle.device_spec.specs.Answers.{takes}
+use Rattle.device_spec.specs.Answers.{profile_takes as takes}
 use Rattle.device_spec.specs.Slots.{IsSlots, SlotState, Step, object_loaded, placed, slot_step, step_by}
 use Rattle.device_laws.specs.Effects.{is_managed}
 use Rattle.device_laws.proofs.Answering.{found_has}
@@ -163,7 +164,7 @@ did_list slots held client table a bytes may is =
     let here = admitted_here slots held client table no_sequences a bytes may in
     let ready = ready_here slots held client table no_sequences a bytes may in
     let told = list_told slots client (state_here slots held table) bytes a first here is may.sort ready.started ready.persist in
-    let one = managed (tables_seen client table held.sessions.items) bytes a may.admitted (managed_by a.shape.row.code CC_GET_CAPABILITY is refl) in
+    let one = managed (tables_seen PROFILE_CONTEXTS client table held.sessions.items) bytes a may.admitted (managed_by a.shape.row.code CC_GET_CAPABILITY is refl) in
     let unstarted = another_code a.shape.row.code CC_GET_CAPABILITY CC_START_AUTH_SESSION is refl in
     did_still slots held client table a bytes told.0 may told.1.0
     (no_object (starts_session a) a.shape.row.response_handle (code_of told.0 == RC_SUCCESS) (one.unhandled is) unstarted)
@@ -187,7 +188,7 @@ did_refused : (slots : SlotState) (held : Held) (client : ℕ) (table : List (Op
     ≡ refused_step (client_state slots held table least) code)
     → DidSo slots held client table a bytes
 did_refused slots held client table a bytes code may is step_is steps =
-    let tables = tables_seen client table held.sessions.items in
+    let tables = tables_seen PROFILE_CONTEXTS client table held.sessions.items in
     let first = device_handle table held.objects.items (first_handle a) in
     let sent = sent_over bytes a table held.objects.items in
     let one = managed tables bytes a may.admitted (managed_by a.shape.row.code CC_CONTEXT_LOAD is refl) in
@@ -198,7 +199,7 @@ did_refused slots held client table a bytes code may is step_is steps =
     (ready_here slots held client table no_sequences a bytes may) in
     did_still slots held client table a bytes (error_reply code) may step_is
     (not_told (tells_object a (error_reply code)) (starts_session a) (code_of (error_reply code) == RC_SUCCESS)
-    (λ tells. let long : 14 ≤ 10 = (command_object false tables bytes a first (error_reply code) may.admitted may.sort taken tells).0 in omega (arith, long)) unstarted)
+    (λ tells. let long : 14 ≤ 10 = (command_object PROFILE_CONTEXTS false tables bytes a first (error_reply code) may.admitted may.sort taken tells).0 in omega (arith, long)) unstarted)
     (one.ends (error_reply code)) unstarted (another_code a.shape.row.code CC_CONTEXT_LOAD CC_CONTEXT_SAVE is refl)
     (λ least pick.
     let state = client_state slots held table least in
@@ -220,7 +221,7 @@ left_loaded : (slots : SlotState) (held : Held) (client : ℕ) (table : List (Op
     → let step = placed slots o loaded_reply in Left slots step.0 held client table a bytes (new_object o) loaded_reply step.1
 unfolding no_operands
 left_loaded slots held client table a bytes o may is sound steps =
-    let one = managed (tables_seen client table held.sessions.items) bytes a may.admitted (managed_by a.shape.row.code CC_CONTEXT_LOAD is refl) in
+    let one = managed (tables_seen PROFILE_CONTEXTS client table held.sessions.items) bytes a may.admitted (managed_by a.shape.row.code CC_CONTEXT_LOAD is refl) in
     let unstarted = another_code a.shape.row.code CC_CONTEXT_LOAD CC_START_AUTH_SESSION is refl in
     record {
       operands = no_operands;
@@ -237,7 +238,7 @@ left_loaded slots held client table a bytes o may is sound steps =
       tells = (
         made_one (starts_session a) a.shape.row.response_handle (code_of loaded_reply == RC_SUCCESS) unstarted (one.handled is) refl,
         omega arith,
-        loads_one _ (a.shape.row.code == CC_CONTEXT_LOAD) _ is (sent_load a bytes may.sort is),
+        loads_one _ (a.shape.row.code == CC_CONTEXT_LOAD) _ is (sent_load PROFILE_CONTEXTS a bytes may.sort is),
       );
       few = tt;
       ended_is = sym (one.ends loaded_reply);

@@ -1,9 +1,10 @@
 -- What is moved before a client's command, and what was used then, where there are no orphans and no renewal is due.
 use mir.Val.{bool_byte}
 use Rattle.std.proofs.Common.{◌≡◌, ◌+◌, ◌≤◌, ℕ, Bool, List, ap, ◌∙◌, subst, arith}
-use Rattle.std.specs.Prelude.{Option, Ok}
+use Rattle.std.specs.Prelude.{Option}
 use Rattle.tab_spec.specs.declared.Admitted.{Admitted}
-use Rattle.tab_spec.specs.Shape.{makes_object_by}
+use Rattle.tab_spec.specs.Shape.{needs_slot}
+use Rattle.tab_spec.specs.declared.contexts.ContextLimits.{ContextLimits}
 use Rattle.device_port.specs.Device.{Seen, sent_of}
 use Rattle.device_port.specs.Use.{all_used, without_first}
 use Rattle.client_laws.specs.Ready.{named_sessions}
@@ -47,26 +48,26 @@ sessions_moved_from seen old between new held cleared a still sent =
     (subst (λ d. SendsUpTo seen (session_moves a cleared.sessions) d new) still.0 sent)
 
 -- so many slots are asked for as it needs
-pub slots_are : (a : Admitted) (bytes : List ℕ) (makes : Bool) (slots : ℕ) → slots ≡ bool_byte makes → makes ≡ makes_object_by (Ok a.shape) bytes
-    → slots ≡ slots_of a bytes
-slots_are a bytes makes slots is made = is ∙ ap bool_byte made ∙ byte_is (makes_object_by (Ok a.shape) bytes)
+pub slots_are : (contexts : ContextLimits) (a : Admitted) (bytes : List ℕ) (needs : Bool) (slots : ℕ) → slots ≡ bool_byte needs → needs ≡ needs_slot contexts a.shape bytes
+    → slots ≡ slots_of contexts a bytes
+slots_are contexts a bytes needs slots is so = is ∙ ap bool_byte so ∙ byte_is (needs_slot contexts a.shape bytes)
 
 -- and as many objects
-pub objects_moved_from : {D : Type 0} (seen : D → Seen) (old new : D) (held cleared loaded : Held) (table : List (Option ℕ)) (a : Admitted) (bytes : List ℕ)
-    (named : Option ℕ) (slots : ℕ) → cleared ≡ held → loaded.objects ≡ cleared.objects → named ≡ named_by table (first_handle a) → slots ≡ slots_of a bytes
+pub objects_moved_from : (contexts : ContextLimits) {D : Type 0} (seen : D → Seen) (old new : D) (held cleared loaded : Held) (table : List (Option ℕ)) (a : Admitted) (bytes : List ℕ)
+    (named : Option ℕ) (slots : ℕ) → cleared ≡ held → loaded.objects ≡ cleared.objects → named ≡ named_by table (first_handle a) → slots ≡ slots_of contexts a bytes
     → SendsUpTo seen (objects.moves_of (listed named) slots loaded.objects) old new
-    → SendsUpTo seen (objects.moves_of (named_objects table a) (slots_of a bytes) held.objects) old new
-objects_moved_from seen old new held cleared loaded table a bytes named slots cleared_is objects_are named_is slots_is sent =
+    → SendsUpTo seen (objects.moves_of (named_objects table a) (slots_of contexts a bytes) held.objects) old new
+objects_moved_from contexts seen old new held cleared loaded table a bytes named slots cleared_is objects_are named_is slots_is sent =
     let from : loaded.objects ≡ held.objects = objects_are ∙ ap (λ (h : Held). h.objects) cleared_is in
     subst (λ (n : ℕ). SendsUpTo seen n old new) (λ i. objects.moves_of (listed (named_is i)) (slots_is i) (from i)) sent
 
 -- both
-pub moved_from : {D : Type 0} (seen : D → Seen) (old mid new : D) (held : Held) (table : List (Option ℕ)) (a : Admitted) (bytes : List ℕ)
+pub moved_from : (contexts : ContextLimits) {D : Type 0} (seen : D → Seen) (old mid new : D) (held : Held) (table : List (Option ℕ)) (a : Admitted) (bytes : List ℕ)
     → SendsUpTo seen (session_moves a held.sessions) old mid
-    → SendsUpTo seen (objects.moves_of (named_objects table a) (slots_of a bytes) held.objects) mid new
-    → SendsUpTo seen (moves_for held table a bytes) old new
-moved_from seen old mid new held table a bytes first second =
-    sent_both seen (session_moves a held.sessions) (objects.moves_of (named_objects table a) (slots_of a bytes) held.objects) old mid new first second
+    → SendsUpTo seen (objects.moves_of (named_objects table a) (slots_of contexts a bytes) held.objects) mid new
+    → SendsUpTo seen (moves_for contexts held table a bytes) old new
+moved_from contexts seen old mid new held table a bytes first second =
+    sent_both seen (session_moves a held.sessions) (objects.moves_of (named_objects table a) (slots_of contexts a bytes) held.objects) old mid new first second
 
 -- ---- what is used
 
@@ -78,10 +79,10 @@ sessions_used a view = all_used
 abbrev objects_used : List ℕ → ℕ → ObjectsView → List ℕ
 objects_used needed slots view = all_used (without_first (objects.evictions needed slots view) needed view.order) needed
 
-pub used_from : (held cleared loaded new_held : Held) (table : List (Option ℕ)) (a : Admitted) (bytes : List ℕ) (named : Option ℕ) (slots : ℕ)
+pub used_from : {contexts : ContextLimits} (held cleared loaded new_held : Held) (table : List (Option ℕ)) (a : Admitted) (bytes : List ℕ) (named : Option ℕ) (slots : ℕ)
     → cleared ≡ held → loaded.objects ≡ cleared.objects → new_held.sessions ≡ loaded.sessions → named ≡ named_by table (first_handle a)
-    → slots ≡ slots_of a bytes → loaded.sessions.order ≡ sessions_used a cleared.sessions
-    → new_held.objects.order ≡ objects_used (listed named) slots loaded.objects → UsesNamed held new_held table a bytes
+    → slots ≡ slots_of contexts a bytes → loaded.sessions.order ≡ sessions_used a cleared.sessions
+    → new_held.objects.order ≡ objects_used (listed named) slots loaded.objects → UsesNamed contexts held new_held table a bytes
 used_from held cleared loaded new_held table a bytes named slots cleared_is objects_are sessions_are named_is slots_is loaded_order brought_order =
     let from : loaded.objects ≡ held.objects = objects_are ∙ ap (λ (h : Held). h.objects) cleared_is in
     record {

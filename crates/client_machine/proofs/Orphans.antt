@@ -24,6 +24,7 @@ use Rattle.client_machine.proofs.Bringing.{item_told, objects_told}
 use Rattle.client_machine.proofs.Prepared.{counts_same, counts_then}
 use Rattle.client_machine.proofs.Staying.{gap_without, gone_then, loses_gone, loses_left, loses_none, loses_session, loses_then}
 use Rattle.client_machine.proofs.Settling.{counter_over_objects, owned_same, keeps_over_objects, keeps_over_sessions, object_counter_over_sessions, objects_over_sessions, persist_over_objects, persist_over_sessions, rest_over_objects, sessions_over_objects, sessions_same, settled_over_objects, settled_over_sessions, some_same}
+use Rattle.client_machine.proofs.Keeping.{for_then, same_for}
 
 -- ---- one step after another
 
@@ -98,6 +99,7 @@ prepares_still seen old new held keeps same settled = record {
   vacant = λ some. some;
   gone = loses_gone held held (loses_none held);
   orphans = omega arith;
+  made_for = same_for held;
   slots = refl;
   numbers = refl;
   left = refl;
@@ -128,6 +130,7 @@ prepares_then {n = n} {m = m} {most = most} seen old middle new held between new
   vacant = λ some. second.vacant (first.vacant some);
   gone = gone_then held between new_held first.gone second.gone;
   orphans = omega (arith, first.orphans, second.orphans);
+  made_for = for_then held between new_held first.made_for second.made_for;
   slots = second.slots ∙ first.slots;
   numbers = second.numbers ∙ first.numbers;
   left = second.left ∙ first.left;
@@ -285,13 +288,14 @@ not_here items n m is other = λ same.
 pub clears_session : {D : Type 0} (seen : D → Seen) (old new : D)
     (held : Held) (new_view : SessionsView) (handle : ℕ)
     → sessions.is_orphan (sessions.item_at held.sessions.items (number_of_session handle)) ≡ true
-    → new_view.numbers ≡ held.sessions.numbers → new_view.items ≡ set held.sessions.items (number_of_session handle) None
+    → new_view.numbers ≡ held.sessions.numbers → new_view.contexts ≡ held.sessions.contexts
+    → new_view.items ≡ set held.sessions.items (number_of_session handle) None
     → new_view.next ≡ held.sessions.next → new_view.left ≡ held.sessions.left
     → sessions_of (seen new).state new_view.items ≡ without_session (number_of_session handle) (sessions_of (seen old).state held.sessions.items)
     → sessions.Stand (seen new).state new_view [] → sessions.counter_of (seen new).state ≡ sessions.counter_of (seen old).state
     → HasGapRoom (seen new).state → sessions.KeepsRest seen old new → Settled (seen old).state held
     → Clears seen old new held (record { objects = held.objects; sessions = new_view })
-clears_session seen old new held new_view handle orphan numbers items_are next_is left_is same stand counter room keeps settled =
+clears_session seen old new held new_view handle orphan numbers room_is items_are next_is left_is same stand counter room keeps settled =
     let n = number_of_session handle in
     let items = held.sessions.items in
     let loses = loses_session held new_view n items_are in
@@ -321,6 +325,7 @@ clears_session seen old new held new_view handle orphan numbers items_are next_i
         vacant = λ some. some;
         gone = loses_gone held (record { objects = held.objects; sessions = new_view }) loses;
         orphans = omega (arith, fewer);
+        made_for = record { objects = refl; sessions = room_is };
         slots = refl;
         numbers = numbers;
         left = left_is;
@@ -366,6 +371,7 @@ clears_orphan seen old new held new_view lost keeps settled =
         vacant = λ some. ap (λ (l : List Item). list_any is_vacant l) items_are ∙ some;
         gone = loses_gone held (record { objects = new_view; sessions = held.sessions }) loses;
         orphans = omega (arith, fewer);
+        made_for = record { objects = ap (λ (v : ObjectsView). v.contexts) lost.same; sessions = refl };
         slots = ap (λ (v : ObjectsView). v.slots) lost.same;
         numbers = refl;
         left = refl;

@@ -3,6 +3,7 @@ use Rattle.std.proofs.Common.{◌≡◌, ◌+◌, ◌≤◌, ℕ, ap, sym, ◌�
 use Rattle.std.specs.Prelude.{Option}
 use Rattle.tab_spec.specs.declared.numbers.Numbers.{Numbers}
 use Rattle.tab_spec.specs.Numbers.{AreInRange}
+use Rattle.tab_spec.specs.declared.contexts.ContextLimits.{ContextLimits}
 use Rattle.device_spec.specs.Slots.{SlotState}
 use Rattle.device_port.specs.Device.{Seen}
 use Rattle.object_swap.specs.Items as objects
@@ -28,9 +29,10 @@ counts_then n m most old mid new few first second = record {
 }
 
 -- over which the next call may begin
-pub may_then : {D : Type 0} (seen : D → Seen) (n left most : ℕ) (old new : D) (held new_held : Held)
-    → n + left ≤ most → MayMove most seen old held → Prepares n seen old new held new_held → MayMove left seen new new_held
+pub may_then : {contexts : ContextLimits} {D : Type 0} (seen : D → Seen) (n left most : ℕ) (old new : D) (held new_held : Held)
+    → n + left ≤ most → MayMove most contexts seen old held → Prepares n seen old new held new_held → MayMove left contexts seen new new_held
 may_then seen n left most old new held new_held few may prepares = record {
+  made_for = record { objects = prepares.made_for.objects ∙ may.made_for.objects; sessions = prepares.made_for.sessions ∙ may.made_for.sessions };
   slots = prepares.slots ∙ may.slots ∙ sym (ap (λ (n : Numbers). n.slots) prepares.numbers);
   range = subst AreInRange (sym prepares.numbers) may.range;
   settled = prepares.settled;

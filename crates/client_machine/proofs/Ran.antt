@@ -1,19 +1,21 @@
 -- What a client's command did, from before all was made ready for it to after what it made has an owner.
 use Rattle.std.proofs.Common.{◌≡◌, ◌⊎◌, ◌+◌, ◌-◌, ◌<◌, ◌≤◌, ℕ, zero, suc, Bool, true, false, List, [], ◌∷◌, ◌++◌, length, drop, get_or, set, Fits, w8, refl, ap, sym, ◌∙◌, subst, arith, inl, inr}
 use Rattle.std.proofs.lemmas.Bool.{and_parts, true≢false}
-use Rattle.std.specs.Prelude.{◌==◌, ◌&&◌, not, Option, Some, None, is_some, IfSome, Result, Ok, Err, if◌then◌else◌}
+use Rattle.std.specs.Prelude.{◌==◌, ◌&&◌, ◌||◌, not, Option, Some, None, is_some, IfSome, Result, Ok, Err, if◌then◌else◌}
 use Rattle.std.specs.List.{AllByRecursion, count_by, filter}
-use Rattle.tab_spec.specs.declared.TheConstants.{CONTEXT_LIMIT, HEADER_BYTES, HT_TRANSIENT, RC_OBJECT_MEMORY, RC_SUCCESS, ST_SESSIONS, TRANSIENT_FIRST}
+use Rattle.tab_spec.specs.declared.TheConstants.{CC_CREATE, CONTEXT_LIMIT, HEADER_BYTES, HT_TRANSIENT, RC_OBJECT_MEMORY, RC_SUCCESS, ST_SESSIONS, TRANSIENT_FIRST}
 use Rattle.tab_spec.specs.declared.Admitted.{Admitted}
 use Rattle.tab_spec.specs.declared.numbers.Numbers.{Numbers}
 use Rattle.tab_spec.specs.Admission.{client_admitted, is_session_handle, object_too_many}
 use Rattle.tab_spec.specs.Frame.{code_of, is_frame}
 use Rattle.tab_spec.specs.Reply.{with_response_handle}
-use Rattle.tab_spec.specs.Shape.{makes_object_by, number_of_session, octet_of}
+use Rattle.tab_spec.specs.Shape.{makes_object_by, needs_slot, number_of_session, octet_of}
+use Rattle.tab_spec.specs.declared.contexts.ContextLimits.{ContextLimits}
+use Rattle.tab_spec.specs.declared.contexts.TheConstants.{PROFILE_CONTEXTS}
 use Rattle.tab_laws.proofs.Handled.{client_is, passed}
 use Rattle.effect_spec.specs.Operands.{command_auth}
 use Rattle.effect_spec.specs.SessionAuths.{continues}
-use Rattle.device_spec.specs.Answers.{IsRight, takes}
+use Rattle.device_spec.specs.Answers.{IsRight, profile_takes, takes}
 use Rattle.device_spec.specs.Slots.{SlotState, Step, slot_step}
 use Rattle.device_port.specs.Device.{Answered, Seen, asked_of, last_of}
 use Rattle.device_port.specs.Own.{HasCause}
@@ -50,6 +52,7 @@ use Rattle.client_machine.proofs.PreparedSessions.{owner_kept}
 use Rattle.client_machine.proofs.Sending.{taken_more, taken_right}
 use Rattle.client_machine.proofs.Started.{none_told}
 use Rattle.client_machine.proofs.Staying.{KeepsLoaded, KeepsResidents, loaded_after, residents_same, residents_with, stays_over}
+use Rattle.client_machine.proofs.Keeping.{IsProfile}
 
 some_of : {A : Type 0} (x : Option A) → is_some x ≡ true → (y : A) × (x ≡ Some y)
 some_of None there = absurd cc
@@ -58,11 +61,11 @@ some_of (Some y) there = (y, refl)
 -- ---- whose sessions are
 
 -- what a client may name depends on whose the sessions are
-pub admitted_over : (client : ℕ) (table : List (Option ℕ)) (items new_items : List (Option sessions.Item)) (bytes : List ℕ) → owned_handles new_items ≡ owned_handles items
-    → client_admitted (tables_seen client table new_items) bytes ≡ client_admitted (tables_seen client table items) bytes
-admitted_over client table items new_items bytes same =
-    looked_up (tables_seen client table new_items) (tables_seen client table items) bytes (λ handle. refl)
-    (λ handle. ap (is_user client) (owner_kept items new_items handle same)) refl
+pub admitted_over : (contexts : ContextLimits) (client : ℕ) (table : List (Option ℕ)) (items new_items : List (Option sessions.Item)) (bytes : List ℕ) → owned_handles new_items ≡ owned_handles items
+    → client_admitted (tables_seen contexts client table new_items) bytes ≡ client_admitted (tables_seen contexts client table items) bytes
+admitted_over contexts client table items new_items bytes same =
+    looked_up (tables_seen contexts client table new_items) (tables_seen contexts client table items) bytes (λ handle. refl)
+    (λ handle. ap (is_user client) (owner_kept items new_items handle same)) refl refl
 
 abbrev IsOpenHandle : List ℕ → Option OwnedHandle → Type 0
 IsOpenHandle present handle = IfSome handle (λ o. IfSome o.0 (λ client. is_open client present ≡ true))
@@ -174,8 +177,8 @@ place_stays : (slots after : SlotState) (items new_items : List Item) (client : 
 place_stays slots after items new_items client keeps None is = refl
 place_stays slots after items new_items client keeps (Some index) is = keeps index is.0 is.1
 
-pub prepares_table : {D : Type 0} {contexts : ℕ} {seen : D → Seen} {old new : D} {held new_held : Held}
-    (client : ℕ) (table : List (Option ℕ)) → Prepares contexts seen old new held new_held → IsTable held.objects.items client table
+pub prepares_table : {D : Type 0} {most : ℕ} {seen : D → Seen} {old new : D} {held new_held : Held}
+    (client : ℕ) (table : List (Option ℕ)) → Prepares most seen old new held new_held → IsTable held.objects.items client table
     → IsTable new_held.objects.items client table
 prepares_table {held = held} {new_held = new_held} client table prepares is = record {
   named = each-weaker (λ place. IsPlaceOf client held.objects.items place) (λ place. IsPlaceOf client new_held.objects.items place) table
@@ -186,8 +189,8 @@ prepares_table {held = held} {new_held = new_held} client table prepares is = re
   short = is.short;
 }
 
-pub prepares_moves : {D : Type 0} {contexts : ℕ} {seen : D → Seen} {old new : D} {held new_held : Held}
-    (client : ℕ) (table : List (Option ℕ)) → contexts ≤ 100 → Prepares contexts seen old new held new_held
+pub prepares_moves : {D : Type 0} {most : ℕ} {seen : D → Seen} {old new : D} {held new_held : Held}
+    (client : ℕ) (table : List (Option ℕ)) → most ≤ 100 → Prepares most seen old new held new_held
     → IsTable held.objects.items client table → Moves seen client old new held new_held table
 prepares_moves {held = held} {new_held = new_held} client table few prepares is = record {
   keeps = prepares.keeps;
@@ -205,14 +208,15 @@ prepares_moves {held = held} {new_held = new_held} client table few prepares is 
   lists = prepares.lists;
   owners = λ present open_here all. open_same present held.sessions.items new_held.sessions.items prepares.session_owners all;
   orphans = prepares.orphans;
+  made_for = prepares.made_for;
   slots = prepares.slots;
   numbers = prepares.numbers;
   left = omega (arith, ap length prepares.left);
   length_is = prepares.length_is;
 }
 
-pub prepares_stays : {D : Type 0} {contexts : ℕ} {seen : D → Seen} {old new : D} {held new_held : Held}
-    (client : ℕ) (table : List (Option ℕ)) → Prepares contexts seen old new held new_held → IsTable held.objects.items client table
+pub prepares_stays : {D : Type 0} {most : ℕ} {seen : D → Seen} {old new : D} {held new_held : Held}
+    (client : ℕ) (table : List (Option ℕ)) → Prepares most seen old new held new_held → IsTable held.objects.items client table
     → StaysAs (seen old).state (seen new).state held new_held table
 prepares_stays {seen = seen} {old = old} {new = new} {held = held} {new_held = new_held} client table prepares is =
     λ slots after least was now.
@@ -233,13 +237,13 @@ prepares_stays {seen = seen} {old = old} {new = new} {held = held} {new_held = n
     }
 
 -- a call that failed, after no more than such steps
-pub serves_failed : {D B : Type 0} {contexts : ℕ} {seen : D → Seen} {old new : D} {held new_held : Held} {e : SwapError}
-    (client : ℕ) (table : List (Option ℕ)) (result : Result B SwapError) → (f : SwapError) × (result ≡ Err f) × (f ≡ e) → contexts ≤ 100
-    → Prepares contexts seen old new held new_held → IsTable held.objects.items client table → HasCause seen e old new
-    → SendsUpTo seen (new_bound (orphan_count held) (gap_kept held.sessions) held.sessions.numbers) old new → FailsAtLast seen old new
-    → Serves seen client old new held new_held table table result
-serves_failed {B = B} {seen = seen} {old = old} {new = new} {held = held} {new_held = new_held} client table result (f, result_is, same) few prepares is cause costs fails =
-    subst (λ (r : Result B SwapError). Serves seen client old new held new_held table table r) (sym result_is)
+pub serves_failed : {contexts : ContextLimits} {D B : Type 0} {most : ℕ} {seen : D → Seen} {old new : D} {held new_held : Held} {e : SwapError}
+    (client : ℕ) (table : List (Option ℕ)) (result : Result B SwapError) → (f : SwapError) × (result ≡ Err f) × (f ≡ e) → most ≤ 100
+    → Prepares most seen old new held new_held → IsTable held.objects.items client table → HasCause contexts seen e old new
+    → SendsUpTo seen (new_bound (orphan_count held) (gap_kept held.sessions) held.sessions.numbers) old new → FailsAtLast contexts seen old new
+    → Serves contexts seen client old new held new_held table table result
+serves_failed {contexts = contexts} {B = B} {seen = seen} {old = old} {new = new} {held = held} {new_held = new_held} client table result (f, result_is, same) few prepares is cause costs fails =
+    subst (λ (r : Result B SwapError). Serves contexts seen client old new held new_held table table r) (sym result_is)
     (record {
       moves = prepares_moves client table few prepares is;
       right = tt;
@@ -251,21 +255,21 @@ serves_failed {B = B} {seen = seen} {old = old} {new = new} {held = held} {new_h
         objects = prepares.owners;
       };
       costs = costs;
-      cause = subst (λ (e : SwapError). HasCause seen e old new) (sym same) cause;
+      cause = subst (λ (e : SwapError). HasCause contexts seen e old new) (sym same) cause;
       fails = fails;
     })
 
 -- a call that returned where the last one failed
-pub serves_again : {D A B : Type 0} {seen : D → Seen} {client : ℕ} {old new : D} {held new_held : Held} {table new_table : List (Option ℕ)} {e : SwapError}
+pub serves_again : {contexts : ContextLimits} {D A B : Type 0} {seen : D → Seen} {client : ℕ} {old new : D} {held new_held : Held} {table new_table : List (Option ℕ)} {e : SwapError}
     (result : Result B SwapError) → (f : SwapError) × (result ≡ Err f) × (f ≡ e)
-    → Serves {A = A} seen client old new held new_held table new_table (Err e) → Serves seen client old new held new_held table new_table result
-serves_again {B = B} {seen = seen} {client = client} {old = old} {new = new} {held = held} {new_held = new_held} {table = table} {new_table = new_table} result (f, result_is, same) serves =
-    subst (λ (r : Result B SwapError). Serves seen client old new held new_held table new_table r) (sym result_is) (record {
+    → Serves {A = A} contexts seen client old new held new_held table new_table (Err e) → Serves contexts seen client old new held new_held table new_table result
+serves_again {contexts = contexts} {B = B} {seen = seen} {client = client} {old = old} {new = new} {held = held} {new_held = new_held} {table = table} {new_table = new_table} result (f, result_is, same) serves =
+    subst (λ (r : Result B SwapError). Serves contexts seen client old new held new_held table new_table r) (sym result_is) (record {
       moves = serves.moves;
       right = tt;
       stays = serves.stays;
       costs = serves.costs;
-      cause = subst (λ (e : SwapError). HasCause seen e old new) (sym same) serves.cause;
+      cause = subst (λ (e : SwapError). HasCause contexts seen e old new) (sym same) serves.cause;
       fails = serves.fails;
     })
 
@@ -277,12 +281,20 @@ full_by true false code e makes = refl
 full_by false full code e makes = absurd cc
 
 -- a command that makes an object is admitted where the client may have another
-pub not_full : (client : ℕ) (table : List (Option ℕ)) (items : List (Option sessions.Item)) (bytes : List ℕ) (a : Admitted)
-    → client_admitted (tables_seen client table items) bytes ≡ Ok a → makes_object_by (Ok a.shape) bytes ≡ true → is_full table ≡ false
-not_full client table items bytes a e makes =
-    let tables = tables_seen client table items in
+pub not_full : (contexts : ContextLimits) (client : ℕ) (table : List (Option ℕ)) (items : List (Option sessions.Item)) (bytes : List ℕ) (a : Admitted)
+    → client_admitted (tables_seen contexts client table items) bytes ≡ Ok a → makes_object_by contexts (Ok a.shape) bytes ≡ true → is_full table ≡ false
+not_full contexts client table items bytes a e makes =
+    let tables = tables_seen contexts client table items in
     let room : object_too_many tables a.shape bytes ≡ None = (passed tables bytes a (client_is tables bytes a e).whole).given.room in
-    full_by (makes_object_by (Ok a.shape) bytes) (is_full table) RC_OBJECT_MEMORY room makes
+    full_by (makes_object_by contexts (Ok a.shape) bytes) (is_full table) RC_OBJECT_MEMORY room makes
+
+either_so : (one other : Bool) → other ≡ true → (one || other) ≡ true
+either_so true other is = refl
+either_so false other is = is
+
+-- and needs a slot
+made_needs : (contexts : ContextLimits) (a : Admitted) (bytes : List ℕ) → makes_object_by contexts (Ok a.shape) bytes ≡ true → needs_slot contexts a.shape bytes ≡ true
+made_needs contexts a bytes makes = either_so (contexts.create_takes_slot && a.shape.row.code == CC_CREATE) (makes_object_by contexts (Ok a.shape) bytes) makes
 
 -- ---- what is told
 
@@ -332,22 +344,23 @@ place_or_full : (Free : Type 0) (view : SessionsView) → (Free × (loaded_items
 place_or_full Free view (inl free) = inl free.0
 place_or_full Free view (inr taken) = inr taken.full
 
-may_run : (state : Option SlotState) (held : Held) (client : ℕ) (table : List (Option ℕ)) (a : Admitted) (bytes : List ℕ) {command : List ℕ} → Settled state held
-    → IsTable held.objects.items client table → client_admitted (tables_seen client table held.sessions.items) bytes ≡ Ok a
-    → is_sent a bytes ≡ true → ((i : ℕ) → Fits w8 (get_or bytes i 0)) → IsPrepared state held table a bytes command
-    → objects.counter_of state < CONTEXT_LIMIT → sessions.counter_of state < CONTEXT_LIMIT
+may_run : {contexts : ContextLimits} (state : Option SlotState) (held : Held) (client : ℕ) (table : List (Option ℕ)) (a : Admitted) (bytes : List ℕ) {command : List ℕ} → Settled state held
+    → IsTable held.objects.items client table → client_admitted (tables_seen contexts client table held.sessions.items) bytes ≡ Ok a
+    → is_sent contexts a bytes ≡ true → ((i : ℕ) → Fits w8 (get_or bytes i 0)) → IsPrepared contexts state held table a bytes command
+    → IsProfile contexts state → objects.counter_of state < CONTEXT_LIMIT → sessions.counter_of state < CONTEXT_LIMIT
     → IfSome state (λ slots. MayRun slots held client table a bytes)
-may_run None held client table a bytes settled is e sort all ready of_objects of_sessions = tt
-may_run (Some slots) held client table a bytes settled is e sort all ready of_objects of_sessions = record {
+may_run None held client table a bytes settled is e sort all ready profile of_objects of_sessions = tt
+may_run {contexts = contexts} (Some slots) held client table a bytes settled is e sort all ready profile of_objects of_sessions = record {
   settled = settled;
   is = is;
-  admitted = e;
-  sort = sort;
+  admitted = subst (λ (c : ContextLimits). client_admitted (tables_seen c client table held.sessions.items) bytes ≡ Ok a) profile e;
+  sort = subst (λ (c : ContextLimits). is_sent c a bytes ≡ true) profile sort;
   all = slice_bytes bytes all;
   placed = ready.placed;
   loaded_all = ready.sessions.loaded;
   nobodys = omega (arith, ready.nobodys);
-  room = λ makes. (ready.free makes).0;
+  room = λ makes.
+      (ready.free (made_needs contexts a bytes (subst (λ (c : ContextLimits). makes_object_by c (Ok a.shape) bytes ≡ true) (sym profile) makes))).0;
   place = λ starts. place_or_full (sessions.AreFree (Some slots) 1) held.sessions (ready.sessions.room starts);
   gap = ready.gap;
   object_numbers = of_objects;
@@ -478,80 +491,80 @@ done_then {new_items = new_items} {new_table = new_table} (Some slots) new held 
 
 state_taken : (state : Option SlotState) (held : Held) (client : ℕ) (table : List (Option ℕ)) (a : Admitted) (bytes command : List ℕ)
     → IfSome state (λ slots. MayRun slots held client table a bytes) → saves_one a ≡ false → command ≡ sent_over bytes a table held.objects.items
-    → IfSome state (λ slots. takes (loads_kept held.objects.items command) (number_taken held.sessions (slot_step slots command).1) command (slot_step slots command).1 ≡ true)
+    → IfSome state (λ slots. profile_takes (loads_kept held.objects.items command) (number_taken held.sessions (slot_step slots command).1) command (slot_step slots command).1 ≡ true)
 state_taken None held client table a bytes command may alone is = tt
 state_taken (Some slots) held client table a bytes command may alone is =
     subst (λ (command : List ℕ).
-    takes (loads_kept held.objects.items command) (number_taken held.sessions (slot_step slots command).1) command (slot_step slots command).1 ≡ true) (sym is)
+    profile_takes (loads_kept held.objects.items command) (number_taken held.sessions (slot_step slots command).1) command (slot_step slots command).1 ≡ true) (sym is)
     (all_taken slots held client table a bytes may alone)
 
 -- ---- a command that is ready to be sent
 
 -- what is known when it is sent, over the device and what is held before and after all was made ready
-pub record Prepared {D : Type 0} (seen : D → Seen) (old between : D)
+pub record Prepared (contexts : ContextLimits) {D : Type 0} (seen : D → Seen) (old between : D)
     (held mid : Held) (client : ℕ) (table : List (Option ℕ)) (a : Admitted) (bytes command : List ℕ) : Type 0 where
   pub prepares : Prepares 100 seen old between held mid
-  pub ready : IsPrepared (seen between).state mid table a bytes command
+  pub ready : IsPrepared contexts (seen between).state mid table a bytes command
   pub is : IsTable held.objects.items client table
   pub here : IsTable mid.objects.items client table
-  pub admitted : client_admitted (tables_seen client table mid.sessions.items) bytes ≡ Ok a
-  pub sort : is_sent a bytes ≡ true
+  pub admitted : client_admitted (tables_seen contexts client table mid.sessions.items) bytes ≡ Ok a
+  pub sort : is_sent contexts a bytes ≡ true
   pub may : IfSome (seen between).state (λ slots. MayRun slots mid client table a bytes)
   pub costs : SendsUpTo seen (11 + orphan_count held + renewal_bound (gap_kept held.sessions) held.sessions.numbers) old between
   pub stays : gap_kept held.sessions < renewal_gap held.sessions.numbers → StaysIn 1 (places_of a) None held mid
-  pub used : IsCalm held → UsesNamed held mid table a bytes
+  pub used : IsCalm held → UsesNamed contexts held mid table a bytes
 
-pub prepared : {D : Type 0} {seen : D → Seen} {old between : D} {held mid : Held}
+pub prepared : {contexts : ContextLimits} {D : Type 0} {seen : D → Seen} {old between : D} {held mid : Held}
     (client : ℕ) (table : List (Option ℕ)) (a : Admitted) (bytes : List ℕ) {translated command : List ℕ} → Prepares 100 seen old between held mid
-    → IsTable held.objects.items client table → client_admitted (tables_seen client table held.sessions.items) bytes ≡ Ok a → is_sent a bytes ≡ true
-    → MayMove call_contexts seen old held → ((i : ℕ) → Fits w8 (get_or bytes i 0)) → IsPrepared (seen between).state mid table a bytes translated
+    → IsTable held.objects.items client table → client_admitted (tables_seen contexts client table held.sessions.items) bytes ≡ Ok a → is_sent contexts a bytes ≡ true
+    → MayMove call_contexts contexts seen old held → IsProfile contexts (seen between).state → ((i : ℕ) → Fits w8 (get_or bytes i 0)) → IsPrepared contexts (seen between).state mid table a bytes translated
     → SendsUpTo seen (11 + orphan_count held + renewal_bound (gap_kept held.sessions) held.sessions.numbers) old between
-    → (gap_kept held.sessions < renewal_gap held.sessions.numbers → StaysIn 1 (places_of a) None held mid) → (IsCalm held → UsesNamed held mid table a bytes)
-    → command ≡ translated → Prepared seen old between held mid client table a bytes command
-prepared {seen = seen} {between = between} {held = held} {mid = mid} client table a bytes prepares is e sort may all ready costs stays used same =
+    → (gap_kept held.sessions < renewal_gap held.sessions.numbers → StaysIn 1 (places_of a) None held mid) → (IsCalm held → UsesNamed contexts held mid table a bytes)
+    → command ≡ translated → Prepared contexts seen old between held mid client table a bytes command
+prepared {contexts = contexts} {seen = seen} {between = between} {held = held} {mid = mid} client table a bytes prepares is e sort may profile all ready costs stays used same =
     let here = prepares_table client table prepares is in
-    let admitted = admitted_over client table held.sessions.items mid.sessions.items bytes prepares.session_owners ∙ e in
+    let admitted = admitted_over _ client table held.sessions.items mid.sessions.items bytes prepares.session_owners ∙ e in
     record {
       prepares = prepares;
-      ready = subst (λ (command : List ℕ). IsPrepared (seen between).state mid table a bytes command) (sym same) ready;
+      ready = subst (λ (command : List ℕ). IsPrepared contexts (seen between).state mid table a bytes command) (sym same) ready;
       is = is;
       here = here;
       admitted = admitted;
       sort = sort;
-      may = may_run (seen between).state mid client table a bytes prepares.settled here admitted sort all ready
+      may = may_run (seen between).state mid client table a bytes prepares.settled here admitted sort all ready profile
           (omega (arith, may.object_counter, prepares.counts.objects_on)) (omega (arith, may.counter, prepares.counts.sessions_on));
       costs = costs;
       stays = stays;
       used = used;
     }
 
-pub prepared_frame : {D : Type 0} {seen : D → Seen} {old between : D} {held mid : Held}
+pub prepared_frame : {contexts : ContextLimits} {D : Type 0} {seen : D → Seen} {old between : D} {held mid : Held}
     {client : ℕ} {table : List (Option ℕ)} {a : Admitted} {bytes command : List ℕ}
-    → Prepared seen old between held mid client table a bytes command → is_frame command ≡ true
-prepared_frame {mid = mid} {client = client} {table = table} {a = a} {bytes = bytes} p =
+    → Prepared contexts seen old between held mid client table a bytes command → is_frame command ≡ true
+prepared_frame {contexts = contexts} {mid = mid} {client = client} {table = table} {a = a} {bytes = bytes} p =
     ap (λ (sent : List ℕ). is_frame sent) p.ready.written
-    ∙ command_frame (tables_seen client table mid.sessions.items) bytes a (device_handle table mid.objects.items (first_handle a)) p.admitted
+    ∙ command_frame (tables_seen contexts client table mid.sessions.items) bytes a (device_handle table mid.objects.items (first_handle a)) p.admitted
 
-pub prepared_taken : {D : Type 0} {seen : D → Seen} {old between : D} {held mid : Held}
+pub prepared_taken : {contexts : ContextLimits} {D : Type 0} {seen : D → Seen} {old between : D} {held mid : Held}
     {client : ℕ} {table : List (Option ℕ)} {a : Admitted} {bytes command : List ℕ}
-    → Prepared seen old between held mid client table a bytes command → saves_one a ≡ false
+    → Prepared contexts seen old between held mid client table a bytes command → saves_one a ≡ false
     → IfSome (seen between).state (λ slots.
-    takes (loads_kept mid.objects.items command) (number_taken mid.sessions (slot_step slots command).1) command (slot_step slots command).1 ≡ true)
+    profile_takes (loads_kept mid.objects.items command) (number_taken mid.sessions (slot_step slots command).1) command (slot_step slots command).1 ≡ true)
 prepared_taken {seen = seen} {between = between} {mid = mid} {client = client} {table = table} {a = a} {bytes = bytes} {command = command} p alone =
     state_taken (seen between).state mid client table a bytes command p.may alone p.ready.written
 
-pub sent_right : {D : Type 0} {seen : D → Seen} {between new : D} {mid : Held} {command reply : List ℕ} → IsTaken seen between new mid command reply
-    → IsRight (asked_of (seen new)) (last_of (seen new))
-sent_right {seen = seen} {new = new} {mid = mid} {command = command} {reply = reply} sent =
-    taken_right (loads_kept mid.objects.items command) (number_taken mid.sessions reply) command (asked_of (seen new)) reply (last_of (seen new)) sent.taken
+pub sent_right : {contexts : ContextLimits} {D : Type 0} {seen : D → Seen} {between new : D} {mid : Held} {command reply : List ℕ} → IsTaken contexts seen between new mid command reply
+    → IsRight contexts (asked_of (seen new)) (last_of (seen new))
+sent_right {contexts = contexts} {seen = seen} {new = new} {mid = mid} {command = command} {reply = reply} sent =
+    taken_right contexts (loads_kept mid.objects.items command) (number_taken mid.sessions reply) command (asked_of (seen new)) reply (last_of (seen new)) sent.taken
     sent.sent.asked_is sent.last_is
 
 -- a broker that keeps no contexts takes it too
-taken_unkept : {D : Type 0} {seen : D → Seen} {between new : D} {mid : Held} {command reply : List ℕ}
-    → IsTaken seen between new mid command reply → takes false (number_taken mid.sessions reply) command reply ≡ true
-taken_unkept {mid = mid} {command = command} {reply = reply} sent =
+taken_unkept : {contexts : ContextLimits} {D : Type 0} {seen : D → Seen} {between new : D} {mid : Held} {command reply : List ℕ}
+    → IsTaken contexts seen between new mid command reply → takes contexts false (number_taken mid.sessions reply) command reply ≡ true
+taken_unkept {contexts = contexts} {mid = mid} {command = command} {reply = reply} sent =
     let is_taken = number_taken mid.sessions reply in
-    taken_more (loads_kept mid.objects.items command) false is_taken is_taken command reply (λ so. absurd (true≢false (sym so))) (λ so. so) sent.taken
+    taken_more contexts (loads_kept mid.objects.items command) false is_taken is_taken command reply (λ so. absurd (true≢false (sym so))) (λ so. so) sent.taken
 
 -- ---- the session that it started, or that ended
 
@@ -561,14 +574,14 @@ place_for : (Free : Type 0) (view : SessionsView) → count_by is_held view.item
 place_for Free view few none (inl free) = free.1
 place_for Free view few none (inr taken) = absurd (omega (arith, taken.full, few, none, held_and_orphans view.items))
 
-pub may_start : {D : Type 0} {seen : D → Seen} {old between new : D} {held mid : Held}
+pub may_start : {contexts : ContextLimits} {D : Type 0} {seen : D → Seen} {old between new : D} {held mid : Held}
     {client : ℕ} {table : List (Option ℕ)} {a : Admitted} {bytes command reply : List ℕ}
-    → Prepared seen old between held mid client table a bytes command → IsTaken seen between new mid command reply
+    → Prepared contexts seen old between held mid client table a bytes command → IsTaken contexts seen between new mid command reply
     → tells_session a reply ≡ true → MayStart reply mid.sessions
-may_start {mid = mid} {client = client} {table = table} {a = a} {bytes = bytes} {reply = reply} p sent tells =
+may_start {contexts = contexts} {mid = mid} {client = client} {table = table} {a = a} {bytes = bytes} {reply = reply} p sent tells =
     let is_taken = number_taken mid.sessions reply in
-    let told = command_session is_taken (tables_seen client table mid.sessions.items) bytes a (device_handle table mid.objects.items (first_handle a)) reply p.admitted
-    (ap (λ (command : List ℕ). takes false is_taken command reply) (sym p.ready.written) ∙ taken_unkept sent) tells in
+    let told = command_session contexts is_taken (tables_seen contexts client table mid.sessions.items) bytes a (device_handle table mid.objects.items (first_handle a)) reply p.admitted
+    (ap (λ (command : List ℕ). takes contexts false is_taken command reply) (sym p.ready.written) ∙ taken_unkept sent) tells in
     let free = none_told mid.sessions reply told.1 told.0 in
     let nobodys : count_by sessions.is_orphan mid.sessions.items ≡ 0 = omega (arith, p.ready.nobodys) in
     record {
@@ -612,15 +625,15 @@ user_owner client None is = absurd cc
 user_owner client (Some owner) is = (and_parts (owner.0 == client) owner.1 is).0
 
 -- which is the client's
-pub ends_own : {D : Type 0} {seen : D → Seen} {old between : D} {held mid : Held}
+pub ends_own : {contexts : ContextLimits} {D : Type 0} {seen : D → Seen} {old between : D} {held mid : Held}
     {client : ℕ} {table : List (Option ℕ)} {a : Admitted} {bytes command : List ℕ} (reply : List ℕ)
-    → Prepared seen old between held mid client table a bytes command
+    → Prepared contexts seen old between held mid client table a bytes command
     → ends_session a reply ≡ true → is_owner client (owner_in mid.sessions.items (command_auth a.auths).session) ≡ true
-ends_own {mid = mid} {client = client} {table = table} {a = a} {bytes = bytes} reply p ends =
+ends_own {contexts = contexts} {mid = mid} {client = client} {table = table} {a = a} {bytes = bytes} reply p ends =
     let auth = (command_auth a.auths).session in
     user_owner client (owner_in mid.sessions.items auth)
     (auth_named (λ handle. is_user client (owner_in mid.sessions.items handle) ≡ true) a
-    (named_own (tables_seen client table mid.sessions.items) bytes a p.admitted)
+    (named_own (tables_seen contexts client table mid.sessions.items) bytes a p.admitted)
     (ends_by (code_of reply == RC_SUCCESS) (a.shape.tag == ST_SESSIONS) (is_session_handle auth) (not (continues (command_auth a.auths))) ends))
 
 -- ---- what stays in the device
@@ -637,20 +650,20 @@ pub places_few : (a : Admitted) → places_of a ≤ 1
 places_few a = places_by (starts_session a)
 
 -- a command whose session ends starts none
-ends_apart : {D : Type 0} {seen : D → Seen} {old between : D} {held mid : Held}
+ends_apart : {contexts : ContextLimits} {D : Type 0} {seen : D → Seen} {old between : D} {held mid : Held}
     {client : ℕ} {table : List (Option ℕ)} {a : Admitted} {bytes command : List ℕ} (reply : List ℕ)
-    → Prepared seen old between held mid client table a bytes command → ends_session a reply ≡ true → places_of a ≡ 0
-ends_apart {mid = mid} {client = client} {table = table} {a = a} {bytes = bytes} reply p ends =
+    → Prepared contexts seen old between held mid client table a bytes command → ends_session a reply ≡ true → places_of a ≡ 0
+ends_apart {contexts = contexts} {mid = mid} {client = client} {table = table} {a = a} {bytes = bytes} reply p ends =
     let auth = (command_auth a.auths).session in
     starts_none (starts_session a)
     (λ starts.
     auth_named (λ handle. ⊥) a
-    (subst (AllByRecursion (λ handle. ⊥)) (sym (named_none (tables_seen client table mid.sessions.items) bytes a p.admitted starts)) tt)
+    (subst (AllByRecursion (λ handle. ⊥)) (sym (named_none (tables_seen contexts client table mid.sessions.items) bytes a p.admitted starts)) tt)
     (ends_by (code_of reply == RC_SUCCESS) (a.shape.tag == ST_SESSIONS) (is_session_handle auth) (not (continues (command_auth a.auths))) ends))
 
-pub stays_after : {D : Type 0} {seen : D → Seen} {old between : D} {held mid : Held}
+pub stays_after : {contexts : ContextLimits} {D : Type 0} {seen : D → Seen} {old between : D} {held mid : Held}
     {client : ℕ} {table : List (Option ℕ)} {a : Admitted} {bytes command : List ℕ} (new_held : Held) (reply : List ℕ)
-    → Prepared seen old between held mid client table a bytes command → saves_session a reply ≡ false
+    → Prepared contexts seen old between held mid client table a bytes command → saves_session a reply ≡ false
     → KeepsResidents mid.objects.items new_held.objects.items → new_held.objects.slots ≡ mid.objects.slots
     → new_held.sessions.numbers ≡ mid.sessions.numbers → new_held.sessions.items ≡ sessions_held_after client a reply mid.sessions.items
     → gap_kept held.sessions < renewal_gap held.sessions.numbers → StaysIn 1 1 (saved_number a) held new_held
@@ -661,21 +674,21 @@ stays_after {held = held} {mid = mid} {client = client} {a = a} new_held reply p
 
 -- ---- what the command did
 
-pub record Outcome {D : Type 0} (seen : D → Seen) (old new : D) (client : ℕ)
+pub record Outcome (contexts : ContextLimits) {D : Type 0} (seen : D → Seen) (old new : D) (client : ℕ)
     (held new_held : Held) (table new_table : List (Option ℕ)) (a : Admitted) (bytes reply : List ℕ) : Type 0 where
-  pub serves : Serves {A = Unit {0}} seen client old new held new_held table new_table (Ok tt)
-  pub carries : CarriesOut seen client old new held new_held table new_table a bytes reply
+  pub serves : Serves {A = Unit {0}} contexts seen client old new held new_held table new_table (Ok tt)
+  pub carries : CarriesOut contexts seen client old new held new_held table new_table a bytes reply
 
-pub ran_moves : {D : Type 0} {seen : D → Seen} {old between : D} {held mid : Held}
+pub ran_moves : {contexts : ContextLimits} {D : Type 0} {seen : D → Seen} {old between : D} {held mid : Held}
     {client : ℕ} {table : List (Option ℕ)} {a : Admitted} {bytes command : List ℕ} (new : D) (new_items : List Item) (new_view : SessionsView) (new_table : List (Option ℕ))
-    (used : List ℕ) (answer reply : List ℕ) → Prepared seen old between held mid client table a bytes command → (seen new).base ≡ (seen between).base → (seen between).faults ≤ (seen new).faults
+    (used : List ℕ) (answer reply : List ℕ) → Prepared contexts seen old between held mid client table a bytes command → (seen new).base ≡ (seen between).base → (seen between).faults ≤ (seen new).faults
     → new_view.items ≡ sessions_held_after client a answer mid.sessions.items → new_view.numbers ≡ mid.sessions.numbers
-    → new_view.left ≡ mid.sessions.left
+    → new_view.contexts ≡ mid.sessions.contexts → new_view.left ≡ mid.sessions.left
     → let new_held : Held = record { objects = record mid.objects { items = new_items; order = used }; sessions = new_view } in
     Done (seen between).state (seen new).state mid new_held client table new_table a bytes reply
     → KeepsOwners (other_than client) mid.objects.items new_items → GainsNone (other_than client) mid.objects.items new_items
     → IsTable new_items client new_table → length new_items ≡ length mid.objects.items → Moves seen client old new held new_held new_table
-ran_moves {seen = seen} {old = old} {between = between} {held = held} {mid = mid} {client = client} {table = table} {a = a} {bytes = bytes} new new_items new_view new_table used answer reply p base_is count view_is numbers left_is done others gained is long =
+ran_moves {seen = seen} {old = old} {between = between} {held = held} {mid = mid} {client = client} {table = table} {a = a} {bytes = bytes} new new_items new_view new_table used answer reply p base_is count view_is numbers room left_is done others gained is long =
     let prepares = p.prepares in
     let none_left : count_by sessions.is_orphan new_view.items ≡ 0 =
     ap (count_by sessions.is_orphan) view_is ∙ none_after client a answer mid.sessions.items (omega (arith, p.ready.nobodys)) in
@@ -703,6 +716,7 @@ ran_moves {seen = seen} {old = old} {between = between} {held = held} {mid = mid
           (open_after present client a answer mid.sessions.items open_here
           (open_same present held.sessions.items mid.sessions.items prepares.session_owners all));
       orphans = omega (arith, none_left, p.ready.nobodys);
+      made_for = record { objects = prepares.made_for.objects; sessions = room ∙ prepares.made_for.sessions };
       slots = prepares.slots;
       numbers = numbers ∙ prepares.numbers;
       left = omega (arith, ap length left_is, ap length prepares.left);
@@ -717,9 +731,9 @@ below_on old new slots after least counts was now below = record {
   of_sessions = omega (arith, below.of_sessions, counts.sessions_rise, ap sessions.counter_of was, ap sessions.counter_of now);
 }
 
-pub ran_steps : {D : Type 0} {seen : D → Seen} {old between : D} {held mid : Held}
+pub ran_steps : {contexts : ContextLimits} {D : Type 0} {seen : D → Seen} {old between : D} {held mid : Held}
     {client : ℕ} {table : List (Option ℕ)} {a : Admitted} {bytes command : List ℕ} (new : D) (new_held : Held) (new_table : List (Option ℕ)) (reply : List ℕ)
-    → Prepared seen old between held mid client table a bytes command
+    → Prepared contexts seen old between held mid client table a bytes command
     → Done (seen between).state (seen new).state mid new_held client table new_table a bytes reply
     → StepsAs (λ s. client_step client s bytes (pick_of a reply)) (seen old).state (seen new).state held new_held table new_table reply
 ran_steps {seen = seen} {old = old} {between = between} {client = client} {table = table} {a = a} {bytes = bytes} new new_held new_table reply p done =
@@ -733,21 +747,21 @@ ran_steps {seen = seen} {old = old} {between = between} {client = client} {table
           ∙ done.2,
     )
 
-pub may_adopt : {D : Type 0} {seen : D → Seen} {old between new : D} {held mid : Held}
+pub may_adopt : {contexts : ContextLimits} {D : Type 0} {seen : D → Seen} {old between new : D} {held mid : Held}
     {client : ℕ} {table : List (Option ℕ)} {a : Admitted} {bytes command reply : List ℕ} (spare : ℕ)
-    → Prepared seen old between held mid client table a bytes command → IsTaken seen between new mid command reply
-    → HasRoomFor a bytes spare held.objects.items → tells_object a reply ≡ true → MayAdopt mid.objects table spare reply
-may_adopt {mid = mid} {client = client} {table = table} {a = a} {bytes = bytes} {reply = reply} spare p sent room tells =
-    let tables = tables_seen client table mid.sessions.items in
+    → Prepared contexts seen old between held mid client table a bytes command → IsTaken contexts seen between new mid command reply
+    → HasRoomFor contexts a bytes spare held.objects.items → tells_object a reply ≡ true → MayAdopt mid.objects table spare reply
+may_adopt {contexts = contexts} {mid = mid} {client = client} {table = table} {a = a} {bytes = bytes} {reply = reply} spare p sent room tells =
+    let tables = tables_seen contexts client table mid.sessions.items in
     let is_taken = number_taken mid.sessions reply in
-    let makes : makes_object_by (Ok a.shape) bytes ≡ true = command_makes tables bytes a reply p.admitted p.sort tells in
-    let told = command_object is_taken tables bytes a (device_handle table mid.objects.items (first_handle a)) reply p.admitted p.sort
-    (ap (λ (command : List ℕ). takes false is_taken command reply) (sym p.ready.written) ∙ taken_unkept sent) tells in
+    let makes : makes_object_by contexts (Ok a.shape) bytes ≡ true = command_makes contexts tables bytes a reply p.admitted p.sort tells in
+    let told = command_object contexts is_taken tables bytes a (device_handle table mid.objects.items (first_handle a)) reply p.admitted p.sort
+    (ap (λ (command : List ℕ). takes contexts false is_taken command reply) (sym p.ready.written) ∙ taken_unkept sent) tells in
     record {
       vacant = p.prepares.vacant (room makes).1;
-      slot = omega (arith, (p.ready.free makes).1, p.ready.nobodys);
+      slot = omega (arith, (p.ready.free (made_needs contexts a bytes makes)).1, p.ready.nobodys);
       room = (room makes).0;
-      few = not_full client table mid.sessions.items bytes a p.admitted makes;
+      few = not_full _ client table mid.sessions.items bytes a p.admitted makes;
       long = told.0;
       transient = told.1;
     }
@@ -762,28 +776,28 @@ order_plain true item order is = absurd cc
 order_plain false item order is = refl
 
 -- the response is taken by the numbers of the device, which stay
-taken_held : {D : Type 0} {seen : D → Seen} {old between new : D} {held mid : Held}
+taken_held : {contexts : ContextLimits} {D : Type 0} {seen : D → Seen} {old between new : D} {held mid : Held}
     {client : ℕ} {table : List (Option ℕ)} {a : Admitted} {bytes command reply : List ℕ}
-    → Prepared seen old between held mid client table a bytes command → IsTaken seen between new mid command reply
-    → takes (loads_kept mid.objects.items command) (number_taken (record held.sessions { items = mid.sessions.items }) reply) command reply ≡ true
-taken_held {held = held} {mid = mid} {command = command} {reply = reply} p sent =
+    → Prepared contexts seen old between held mid client table a bytes command → IsTaken contexts seen between new mid command reply
+    → takes contexts (loads_kept mid.objects.items command) (number_taken (record held.sessions { items = mid.sessions.items }) reply) command reply ≡ true
+taken_held {contexts = contexts} {held = held} {mid = mid} {command = command} {reply = reply} p sent =
     ap
     (λ (n : Numbers).
-    takes (loads_kept mid.objects.items command) (number_taken (record held.sessions { numbers = n; items = mid.sessions.items }) reply) command reply)
+    takes contexts (loads_kept mid.objects.items command) (number_taken (record held.sessions { numbers = n; items = mid.sessions.items }) reply) command reply)
     (sym p.prepares.numbers)
     ∙ sent.taken
 
 -- what became of the command, where it made an object
-pub ran_then : {D : Type 0} {old between new : D} {held mid : Held}
+pub ran_then : {contexts : ContextLimits} {D : Type 0} {old between new : D} {held mid : Held}
     {client : ℕ} {new_items : List Item} {table new_table : List (Option ℕ)} {a : Admitted} {bytes command reply new_reply : List ℕ}
     (seen : D → Seen) (used : List ℕ)
-    → Prepared seen old between held mid client table a bytes command → IsTaken seen between new mid command reply
-    → SentBefore seen (orphan_count held) old between → tells_object a reply ≡ true
+    → Prepared contexts seen old between held mid client table a bytes command → IsTaken contexts seen between new mid command reply
+    → SentBefore contexts seen (orphan_count held) old between → tells_object a reply ≡ true
     → (adopts : Adopts client (told_handle reply) mid.objects.items new_items table new_table) → used ≡ mid.objects.order ++ adopts.item ∷ []
-    → new_reply ≡ with_response_handle reply (next_handle table) → (IsAtHand held table a bytes → between ≡ old)
-    → Ran seen client old new held (in_orders (held_after mid new_items client a reply) used (order_after a reply mid.sessions.order)
+    → new_reply ≡ with_response_handle reply (next_handle table) → (IsAtHand contexts held table a bytes → between ≡ old)
+    → Ran contexts seen client old new held (in_orders (held_after mid new_items client a reply) used (order_after a reply mid.sessions.order)
     (saved_list_after a reply mid.sessions.saved)) table new_table a bytes new_reply
-ran_then {between = between} {new = new} {held = held} {mid = mid} {client = client} {new_items = new_items} {table = table} {a = a} {bytes = bytes} {command = command} {reply = reply} seen used p sent own tells adopts used_is reply_is still =
+ran_then {contexts = contexts} {between = between} {new = new} {held = held} {mid = mid} {client = client} {new_items = new_items} {table = table} {a = a} {bytes = bytes} {command = command} {reply = reply} seen used p sent own tells adopts used_is reply_is still =
     let command_is = p.ready.written ∙ ap (λ (handle : ℕ). sent_for bytes a handle) (adopted_device (first_handle a) adopts p.here) in
     record {
       sort = p.sort;
@@ -802,9 +816,9 @@ ran_then {between = between} {new = new} {held = held} {mid = mid} {client = cli
       table_is = adopts.table_is ∙ table_told table adopts.item a reply tells;
       object_is = λ told. adopted_new adopts;
       taken = subst
-          (λ (command : List ℕ). takes (loads_kept new_items command) (number_taken (record held.sessions { items = mid.sessions.items }) reply) command reply ≡ true)
+          (λ (command : List ℕ). takes contexts (loads_kept new_items command) (number_taken (record held.sessions { items = mid.sessions.items }) reply) command reply ≡ true)
           (sym sent.sent.asked_is)
-          (ap (λ (kept : Bool). takes kept (number_taken (record held.sessions { items = mid.sessions.items }) reply) command reply) (adopted_loads command adopts)
+          (ap (λ (kept : Bool). takes contexts kept (number_taken (record held.sessions { items = mid.sessions.items }) reply) command reply) (adopted_loads command adopts)
           ∙ taken_held p sent);
       sessions_are = refl;
       left = p.prepares.left;
@@ -818,14 +832,14 @@ ran_then {between = between} {new = new} {held = held} {mid = mid} {client = cli
     }
 
 -- the same where no object was made
-pub ran_else : {D : Type 0} {old between new : D} {held mid : Held}
+pub ran_else : {contexts : ContextLimits} {D : Type 0} {old between new : D} {held mid : Held}
     {client : ℕ} {table : List (Option ℕ)} {a : Admitted} {bytes command reply : List ℕ}
     (seen : D → Seen)
-    → Prepared seen old between held mid client table a bytes command → IsTaken seen between new mid command reply
-    → SentBefore seen (orphan_count held) old between → tells_object a reply ≡ false → (IsAtHand held table a bytes → between ≡ old)
-    → Ran seen client old new held (in_orders (held_after mid mid.objects.items client a reply) mid.objects.order (order_after a reply mid.sessions.order)
+    → Prepared contexts seen old between held mid client table a bytes command → IsTaken contexts seen between new mid command reply
+    → SentBefore contexts seen (orphan_count held) old between → tells_object a reply ≡ false → (IsAtHand contexts held table a bytes → between ≡ old)
+    → Ran contexts seen client old new held (in_orders (held_after mid mid.objects.items client a reply) mid.objects.order (order_after a reply mid.sessions.order)
     (saved_list_after a reply mid.sessions.saved)) table table a bytes reply
-ran_else {between = between} {new = new} {held = held} {mid = mid} {client = client} {table = table} {a = a} {bytes = bytes} {reply = reply} seen p sent own plain still = record {
+ran_else {contexts = contexts} {between = between} {new = new} {held = held} {mid = mid} {client = client} {table = table} {a = a} {bytes = bytes} {reply = reply} seen p sent own plain still = record {
   sort = p.sort;
   before = between;
   own_before = own;
@@ -843,7 +857,7 @@ ran_else {between = between} {new = new} {held = held} {mid = mid} {client = cli
   object_is = λ told. absurd (true≢false (sym told ∙ plain));
   taken = subst
       (λ (command : List ℕ).
-      takes (loads_kept mid.objects.items command) (number_taken (record held.sessions { items = mid.sessions.items }) reply) command reply ≡ true)
+      takes contexts (loads_kept mid.objects.items command) (number_taken (record held.sessions { items = mid.sessions.items }) reply) command reply ≡ true)
       (sym sent.sent.asked_is) (taken_held p sent);
   sessions_are = refl;
   left = p.prepares.left;
@@ -890,23 +904,23 @@ held_then mid new_objects new_sessions client a shown reply is same rest =
 
 -- ---- the outcome
 
-pub outcome_else : {D : Type 0} {seen : D → Seen} {old between new : D} {held mid : Held}
+pub outcome_else : {contexts : ContextLimits} {D : Type 0} {seen : D → Seen} {old between new : D} {held mid : Held}
     {client : ℕ} {table : List (Option ℕ)} {a : Admitted} {bytes command shown reply : List ℕ} (new_sessions : SessionsView)
-    → Prepared seen old between held mid client table a bytes command → IsTaken seen between new mid command reply
-    → SentBefore seen (orphan_count held) old between → (IsAtHand held table a bytes → between ≡ old)
+    → Prepared contexts seen old between held mid client table a bytes command → IsTaken contexts seen between new mid command reply
+    → SentBefore contexts seen (orphan_count held) old between → (IsAtHand contexts held table a bytes → between ≡ old)
     → saves_one a ≡ false → tells_object a reply ≡ false
     → new_sessions ≡ sessions_kept mid.sessions client a shown → shown ≡ reply
-    → Outcome seen old new client held (record { objects = mid.objects; sessions = new_sessions }) table table a bytes reply
-outcome_else {seen = seen} {old = old} {between = between} {new = new} {held = held} {mid = mid} {client = client} {table = table} {a = a} {bytes = bytes} {command = command} {shown = shown} {reply = reply} new_sessions p sent own still alone plain is same =
+    → Outcome contexts seen old new client held (record { objects = mid.objects; sessions = new_sessions }) table table a bytes reply
+outcome_else {contexts = contexts} {seen = seen} {old = old} {between = between} {new = new} {held = held} {mid = mid} {client = client} {table = table} {a = a} {bytes = bytes} {command = command} {shown = shown} {reply = reply} new_sessions p sent own still alone plain is same =
     let new_held = in_orders (held_after mid mid.objects.items client a reply) mid.objects.order (order_after a reply mid.sessions.order) (saved_list_after a reply mid.sessions.saved) in
     let done : Done (seen between).state (seen new).state mid new_held client table table a bytes reply =
     done_in mid.objects.order (order_after a reply mid.sessions.order) (saved_list_after a reply mid.sessions.saved)
     (rise_after a reply mid.sessions.saved alone)
     (done_else (seen between).state (seen new).state mid client table a bytes command reply p.may alone p.ready.written sent.answered plain) in
-    subst (λ (h : Held). Outcome seen old new client held h table table a bytes reply) (held_else mid new_sessions client a shown reply is same)
+    subst (λ (h : Held). Outcome contexts seen old new client held h table table a bytes reply) (held_else mid new_sessions client a shown reply is same)
     (record {
       serves = record {
-        moves = ran_moves new mid.objects.items new_held.sessions table mid.objects.order reply reply p sent.base_is sent.count refl refl refl done
+        moves = ran_moves new mid.objects.items new_held.sessions table mid.objects.order reply reply p sent.base_is sent.count refl refl refl refl done
             (λ index owner names own mine. (names, own)) (λ index owner own mine. own) p.here refl;
         right = inr (sent_right sent);
         stays = tt;
@@ -917,32 +931,32 @@ outcome_else {seen = seen} {old = old} {between = between} {new = new} {held = h
       carries = record {
         did = inr (inr (ran_else seen p sent own plain still));
         steps = ran_steps new new_held table reply p done;
-        whole = taken_frame (loads_kept mid.objects.items command) (number_taken mid.sessions reply) command reply sent.taken;
+        whole = taken_frame contexts (loads_kept mid.objects.items command) (number_taken mid.sessions reply) command reply sent.taken;
         stays = stays_after new_held reply p (unsaved (saves_one a) (code_of reply == RC_SUCCESS) alone) (residents_same mid.objects.items) refl refl refl;
       };
     })
 
-pub outcome_then : {D : Type 0} {seen : D → Seen} {old between new : D} {held mid : Held}
+pub outcome_then : {contexts : ContextLimits} {D : Type 0} {seen : D → Seen} {old between new : D} {held mid : Held}
     {client spare : ℕ} {table new_table : List (Option ℕ)} {a : Admitted} {bytes command shown reply new_reply : List ℕ} (new_objects : ObjectsView) (new_sessions : SessionsView)
-    → Prepared seen old between held mid client table a bytes command → IsTaken seen between new mid command reply
-    → SentBefore seen (orphan_count held) old between → (IsAtHand held table a bytes → between ≡ old)
+    → Prepared contexts seen old between held mid client table a bytes command → IsTaken contexts seen between new mid command reply
+    → SentBefore contexts seen (orphan_count held) old between → (IsAtHand contexts held table a bytes → between ≡ old)
     → saves_one a ≡ false → MayAdopt mid.objects table spare reply → tells_object a reply ≡ true
     → (adopts : Adopts client (told_handle reply) mid.objects.items new_objects.items table new_table)
     → new_objects.order ≡ mid.objects.order ++ adopts.item ∷ []
     → new_objects ≡ record mid.objects { items = new_objects.items; order = new_objects.order }
     → new_reply ≡ with_response_handle reply (next_handle table)
     → new_sessions ≡ sessions_kept mid.sessions client a shown → shown ≡ reply
-    → Outcome seen old new client held (record { objects = new_objects; sessions = new_sessions }) table new_table a bytes new_reply
-outcome_then {seen = seen} {old = old} {between = between} {new = new} {held = held} {mid = mid} {client = client} {table = table} {new_table = new_table} {a = a} {bytes = bytes} {command = command} {shown = shown} {reply = reply} {new_reply = new_reply} new_objects new_sessions p sent own still alone may tells adopts used_is rest reply_is is same =
+    → Outcome contexts seen old new client held (record { objects = new_objects; sessions = new_sessions }) table new_table a bytes new_reply
+outcome_then {contexts = contexts} {seen = seen} {old = old} {between = between} {new = new} {held = held} {mid = mid} {client = client} {table = table} {new_table = new_table} {a = a} {bytes = bytes} {command = command} {shown = shown} {reply = reply} {new_reply = new_reply} new_objects new_sessions p sent own still alone may tells adopts used_is rest reply_is is same =
     let new_held = in_orders (held_after mid new_objects.items client a reply) new_objects.order (order_after a reply mid.sessions.order) (saved_list_after a reply mid.sessions.saved) in
     let done : Done (seen between).state (seen new).state mid new_held client table new_table a bytes new_reply =
     done_in new_objects.order (order_after a reply mid.sessions.order) (saved_list_after a reply mid.sessions.saved)
     (rise_after a reply mid.sessions.saved alone)
     (done_then (seen between).state (seen new).state mid client table a bytes command reply new_reply p.may alone p.ready.written sent.answered tells adopts reply_is) in
-    subst (λ (h : Held). Outcome seen old new client held h table new_table a bytes new_reply) (held_then mid new_objects new_sessions client a shown reply is same rest)
+    subst (λ (h : Held). Outcome contexts seen old new client held h table new_table a bytes new_reply) (held_then mid new_objects new_sessions client a shown reply is same rest)
     (record {
       serves = record {
-        moves = ran_moves new new_objects.items new_held.sessions new_table new_objects.order reply new_reply p sent.base_is sent.count refl refl refl done
+        moves = ran_moves new new_objects.items new_held.sessions new_table new_objects.order reply new_reply p sent.base_is sent.count refl refl refl refl done
             (adopted_others (other_than client) adopts) (adopted_gained adopts) (adopted_table adopts p.here may.few) (adopted_length adopts);
         right = inr (sent_right sent);
         stays = tt;
@@ -954,7 +968,7 @@ outcome_then {seen = seen} {old = old} {between = between} {new = new} {held = h
         did = inr (inr (ran_then seen new_objects.order p sent own tells adopts used_is reply_is still));
         steps = ran_steps new new_held new_table new_reply p done;
         whole = ap (λ (reply : List ℕ). is_frame reply) reply_is ∙ handed_frame reply (next_handle table) may.long
-            ∙ taken_frame (loads_kept mid.objects.items command) (number_taken mid.sessions reply) command reply sent.taken;
+            ∙ taken_frame contexts (loads_kept mid.objects.items command) (number_taken mid.sessions reply) command reply sent.taken;
         stays = stays_after new_held reply p (unsaved (saves_one a) (code_of reply == RC_SUCCESS) alone)
             (residents_with mid.objects.items new_objects.items adopts.item (new_item client (told_handle reply - TRANSIENT_FIRST)) adopts.items_are refl) refl refl refl;
       };

@@ -11,6 +11,7 @@ use Rattle.tab_spec.specs.Admission.{client_admitted}
 use Rattle.tab_spec.specs.Session.{Session}
 use Rattle.tab_spec.specs.Shape.{makes_object_by, number_of_session, octet_of}
 use Rattle.tab_spec.specs.Values.{AreBytes}
+use Rattle.tab_spec.specs.declared.contexts.TheConstants.{PROFILE_CONTEXTS}
 use Rattle.tab_laws.proofs.Handled.{client_is}
 use Rattle.tab_laws.proofs.OwnHandles.{own_handles}
 use Rattle.device_spec.specs.Slots.{SessionPlace, SlotState, active_count, gap_of, inactive, is_active, is_free, is_loaded, loaded, loaded_count, loaded_in, loaded_session, object_at, place_of, saved, session_in_place}
@@ -224,13 +225,13 @@ active_seen slots view stand nobodys =
 pub record MayRun (slots : SlotState) (held : Held) (client : ℕ) (table : List (Option ℕ)) (a : Admitted) (bytes : List ℕ) : Type 0 where
   pub settled : IsSettled slots held
   pub is : IsTable held.objects.items client table
-  pub admitted : client_admitted (tables_seen client table held.sessions.items) bytes ≡ Ok a
-  pub sort : is_sent a bytes ≡ true
+  pub admitted : client_admitted (tables_seen PROFILE_CONTEXTS client table held.sessions.items) bytes ≡ Ok a
+  pub sort : is_sent PROFILE_CONTEXTS a bytes ≡ true
   pub all : AreBytes bytes
   pub placed : IsPlaced table held.objects.items (first_handle a)
   pub loaded_all : AreLoaded (named_sessions a) held.sessions.items
   pub nobodys : count_by is_orphan held.sessions.items ≡ 0
-  pub room : makes_object_by (Ok a.shape) bytes ≡ true → list_any is_free slots.slots ≡ true
+  pub room : makes_object_by PROFILE_CONTEXTS (Ok a.shape) bytes ≡ true → list_any is_free slots.slots ≡ true
   pub place : starts_session a ≡ true → (loaded_count slots.sessions + 1 ≤ slots.numbers.loaded)
       ⊎ (held.sessions.numbers.active ≤ count_by is_some held.sessions.items)
   pub gap : gap_of slots < renewal_gap slots.numbers + NEEDED_MOST
@@ -249,7 +250,7 @@ admitted_here slots held client table least a bytes may =
 pub own_here : (slots : SlotState) (held : Held) (client : ℕ) (table : List (Option ℕ)) (a : Admitted) (bytes : List ℕ)
     → MayRun slots held client table a bytes → AllByRecursion (λ handle. IsOwn held.sessions.items client handle) (named_sessions a)
 own_here slots held client table a bytes may =
-    own_all held.sessions.items client (named_sessions a) (named_own (tables_seen client table held.sessions.items) bytes a may.admitted) may.loaded_all
+    own_all held.sessions.items client (named_sessions a) (named_own (tables_seen PROFILE_CONTEXTS client table held.sessions.items) bytes a may.admitted) may.loaded_all
 
 place_by : (few known all room most : ℕ) → all ≡ known → (few + 1 ≤ room) ⊎ (most ≤ known) → (few < room) ⊎ (most ≤ all)
 place_by few known all room most same (inl place) = inl (omega (arith, place))
@@ -271,7 +272,7 @@ pub ready_here : (slots : SlotState) (held : Held) (client : ℕ) (table : List 
     → IsReady slots client (client_state slots held table least) a bytes (device_handle table held.objects.items (first_handle a))
 ready_here slots held client table least a bytes may =
     let handle = first_handle a in
-    let own = own_handles (tables_seen client table held.sessions.items) bytes a (client_is (tables_seen client table held.sessions.items) bytes a may.admitted).whole in
+    let own = own_handles (tables_seen PROFILE_CONTEXTS client table held.sessions.items) bytes a (client_is (tables_seen PROFILE_CONTEXTS client table held.sessions.items) bytes a may.admitted).whole in
     let stands = stands_by (octet_of handle == HT_TRANSIENT) slots held table handle (device_handle table held.objects.items handle) may.settled refl may.placed
     (own.are may.all).first_fits refl in
     record {

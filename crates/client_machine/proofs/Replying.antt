@@ -15,6 +15,8 @@ use Rattle.tab_spec.specs.Reply.{error_reply, response}
 use Rattle.tab_spec.specs.Session.{Session}
 use Rattle.tab_spec.specs.Shape.{loads_object, number_of_session, octet_of}
 use Rattle.tab_spec.specs.Values.{Reading, require}
+use Rattle.tab_spec.specs.declared.contexts.ContextLimits.{ContextLimits}
+use Rattle.tab_spec.specs.declared.contexts.TheConstants.{PROFILE_CONTEXTS}
 use Rattle.device_port.specs.Device.{Seen}
 use Rattle.device_port.specs.declared.own.SwapError.{SwapError}
 use Rattle.tab_laws.proofs.Handled.{client_is}
@@ -43,7 +45,7 @@ use Rattle.client_machine.specs.Moves.{CarriesOut, Moves, Serves, StepsAs, clien
 use Rattle.client_machine.specs.Replies.{given_back, handle_told, nothing_told, own_answer, own_capability, reply_of, sessions_given, view_given, with_given, without_given}
 use Rattle.client_machine.specs.Settled.{AreBelow, IsSettled, Sequences, Settled, owned_by_client, owned_in, sessions_in}
 use Rattle.client_machine.specs.Tables.{AreOpenOwners, IsOpenOwner, IsTable, is_open, tables_seen}
-use Rattle.client_machine.proofs.Keeping.{objects_same, owners_same}
+use Rattle.client_machine.proofs.Keeping.{objects_same, owners_same, IsProfile, profile_at}
 use Rattle.client_machine.proofs.Leaving.{shorter}
 use Rattle.client_machine.proofs.Listed.{capability_had}
 use Rattle.client_machine.proofs.Orphans.{keeps_same}
@@ -302,7 +304,7 @@ not_below : (n least : ℕ) (below : Bool) → nat_lt n least ≡ below → leas
 not_below n least true is long = absurd (let few : n < least = ltb-true n least is in omega (arith, few, long))
 not_below n least false is long = refl
 
-handle_other : (bytes params : List ℕ) (c : Context) → loads_object bytes ≡ false → drop 10 bytes ≡ params → load_parameters params ≡ Ok c
+handle_other : (bytes params : List ℕ) (c : Context) → loads_object PROFILE_CONTEXTS bytes ≡ false → drop 10 bytes ≡ params → load_parameters params ≡ Ok c
     → (c.saved_handle == TRANSIENT_FIRST) ≡ false
 handle_other bytes params c loads are e =
     let has : HasHandle params c =
@@ -345,8 +347,8 @@ other_code code known other is apart = ap (λ (c : ℕ). c == other) (eqb-true c
 pub record MayReply (slots : SlotState) (held : Held) (client : ℕ) (table : List (Option ℕ)) (a : Admitted) (bytes : List ℕ) : Type 0 where
   pub settled : IsSettled slots held
   pub is : IsTable held.objects.items client table
-  pub admitted : client_admitted (tables_seen client table held.sessions.items) bytes ≡ Ok a
-  pub sort : is_sent a bytes ≡ false
+  pub admitted : client_admitted (tables_seen PROFILE_CONTEXTS client table held.sessions.items) bytes ≡ Ok a
+  pub sort : is_sent PROFILE_CONTEXTS a bytes ≡ false
   pub other : (a.shape.row.code == CC_FLUSH_CONTEXT) ≡ false
 
 -- and what it answers, and leaves of the sessions
@@ -377,9 +379,9 @@ step_saves slots held new_view client table least a bytes reply may own is =
     let code = a.shape.row.code in
     let items = held.sessions.items in
     let params = drop a.auths.params bytes in
-    let read = nothing_read params (something_follows a bytes may.sort is) in
+    let read = nothing_read params (something_follows PROFILE_CONTEXTS a bytes may.sort is) in
     let not_load = other_code code CC_CONTEXT_SAVE CC_CONTEXT_LOAD is refl in
-    let failed = save_refused client table held.sessions a bytes reply may.sort is own.reply_is in
+    let failed = save_refused PROFILE_CONTEXTS client table held.sessions a bytes reply may.sort is own.reply_is in
     let pick_is : pick_of a reply ≡ picks.Nothing =
     pick_none (tells_session a reply) (tells_context a reply) (number_of_session (told_handle reply)) (told_sequence reply)
     (not_success (starts_session a) (code_of reply == RC_SUCCESS) failed) (not_success (code == CC_CONTEXT_SAVE) (code_of reply == RC_SUCCESS) failed) in
@@ -405,7 +407,7 @@ step_loads slots held new_view client table least a bytes reply may own is =
     let read = load_parameters params in
     let given = given_back client items params read in
     let not_save = other_code code CC_CONTEXT_LOAD CC_CONTEXT_SAVE is refl in
-    let starts_none = ap (λ (start : Bool). start && (code_of reply == RC_SUCCESS)) (unsent_starts a bytes may.sort) in
+    let starts_none = ap (λ (start : Bool). start && (code_of reply == RC_SUCCESS)) (unsent_starts PROFILE_CONTEXTS a bytes may.sort) in
     let pick_is : pick_of a reply ≡ picks.Nothing = picks_none a reply not_save starts_none in
     let items_are : new_view.items ≡ with_given client items given =
     ap (λ (v : SessionsView). v.items) own.view_is ∙ some_given (code == CC_CONTEXT_LOAD) items (with_given client items given) is in
@@ -418,8 +420,8 @@ step_loads slots held new_view client table least a bytes reply may own is =
     ∙ ap (λ (step : ClientStep). Some step)
     (loaded_by slots held client table least params read may.settled
     (λ c read_is.
-    handle_other bytes params c (unsent_loads a bytes may.sort is)
-    (params_here (tables_seen client table items) bytes a may.admitted is) read_is))
+    handle_other bytes params c (unsent_loads PROFILE_CONTEXTS a bytes may.sort is)
+    (params_here (tables_seen PROFILE_CONTEXTS client table items) bytes a may.admitted is) read_is))
     ∙ same_step (state_with slots held table least (with_given client items given) (without_given held.sessions.left given)) (client_state slots (held_with held new_view) table least) (reply_of (handle_told given)) reply
     (state_given slots held new_view table least _ _ (ap (λ (v : SessionsView). v.numbers) own.view_is) items_are left_is) (own.reply_is slots.persist ∙ ap reply_of answer)
 
@@ -441,7 +443,7 @@ step_lists slots held new_view client table least a bytes reply may own is =
     let told = own_capability slots.persist client table held.sessions params in
     let not_save = other_code code CC_GET_CAPABILITY CC_CONTEXT_SAVE is refl in
     let not_load = other_code code CC_GET_CAPABILITY CC_CONTEXT_LOAD is refl in
-    let starts_none = ap (λ (start : Bool). start && (code_of reply == RC_SUCCESS)) (unsent_starts a bytes may.sort) in
+    let starts_none = ap (λ (start : Bool). start && (code_of reply == RC_SUCCESS)) (unsent_starts PROFILE_CONTEXTS a bytes may.sort) in
     let pick_is : pick_of a reply ≡ picks.Nothing = picks_none a reply not_save starts_none in
     let items_are : new_view.items ≡ items = ap (λ (v : SessionsView). v.items) own.view_is ∙ no_given (code == CC_CONTEXT_LOAD) items _ not_load in
     let left_is : new_view.left ≡ held.sessions.left =
@@ -468,14 +470,21 @@ replied_step slots held new_view client table least a bytes reply may own =
 
 -- ---- in every state
 
-replied_steps : (state : Option SlotState) (held : Held) (new_view : SessionsView) (client : ℕ) (table : List (Option ℕ)) (a : Admitted) (bytes reply : List ℕ)
-    → Settled state held → IsTable held.objects.items client table → client_admitted (tables_seen client table held.sessions.items) bytes ≡ Ok a
-    → is_sent a bytes ≡ false → (a.shape.row.code == CC_FLUSH_CONTEXT) ≡ false → IsOwnReply held new_view client table a bytes reply
-    → StepsAs (λ state. client_step client state bytes (pick_of a reply)) state state held (held_with held new_view) table table reply
-replied_steps state held new_view client table a bytes reply settled is e sort other own = λ slots after least was now below.
+replied_steps : (contexts : ContextLimits) (state : Option SlotState) (held : Held) (new_view : SessionsView) (client : ℕ) (table : List (Option ℕ)) (a : Admitted) (bytes reply : List ℕ)
+    → Settled state held → IsTable held.objects.items client table → client_admitted (tables_seen contexts client table held.sessions.items) bytes ≡ Ok a
+    → is_sent contexts a bytes ≡ false → (a.shape.row.code == CC_FLUSH_CONTEXT) ≡ false → IsProfile contexts state
+    → IsOwnReply held new_view client table a bytes reply → StepsAs (λ state. client_step client state bytes (pick_of a reply)) state state held (held_with held new_view) table table reply
+replied_steps contexts state held new_view client table a bytes reply settled is e sort other profile own = λ slots after least was now below.
+    let here = profile_at contexts state slots profile was in
     let same : after ≡ slots = cc in
     let may : MayReply slots held client table a bytes =
-    record { settled = settled_at state slots held settled was; is = is; admitted = e; sort = sort; other = other } in (
+    record {
+      settled = settled_at state slots held settled was;
+      is = is;
+      admitted = subst (λ (c : ContextLimits). client_admitted (tables_seen c client table held.sessions.items) bytes ≡ Ok a) here e;
+      sort = subst (λ (c : ContextLimits). is_sent c a bytes ≡ false) here sort;
+      other = other;
+    } in (
       least,
       subst (AreBelow least) (sym same) below,
       replied_step slots held new_view client table least a bytes reply may own
@@ -560,6 +569,7 @@ replied_moves seen device held new_view client table a bytes reply settled is ow
       own_table = is;
       owners = leaves.open_owners;
       orphans = omega (arith, leaves.orphans);
+      made_for = record { objects = refl; sessions = ap (λ (v : SessionsView). v.contexts) own.view_is };
       slots = refl;
       numbers = ap (λ (v : SessionsView). v.numbers) own.view_is;
       left = leaves.few;
@@ -591,11 +601,11 @@ loaded_given client a bytes items number =
     let params = drop a.auths.params bytes in
     with_loaded client (a.shape.row.code == CC_CONTEXT_LOAD) items (given_back client items params (load_parameters params)) number
 
-pub replied_serves : {D : Type 0} (seen : D → Seen) (device : D) (held : Held) (new_view : SessionsView) (client : ℕ)
+pub replied_serves : {contexts : ContextLimits} {D : Type 0} (seen : D → Seen) (device : D) (held : Held) (new_view : SessionsView) (client : ℕ)
     (table : List (Option ℕ)) (a : Admitted) (bytes reply : List ℕ) → Settled (seen device).state held → IsTable held.objects.items client table
     → IsOwnReply held new_view client table a bytes reply
     → ((slots : SlotState) → SessionsStand slots held.sessions [] → SessionsStand slots new_view [])
-    → Serves {A = Unit {0}} seen client device device held (held_with held new_view) table table (Ok tt)
+    → Serves {A = Unit {0}} contexts seen client device device held (held_with held new_view) table table (Ok tt)
 replied_serves seen device held new_view client table a bytes reply settled is own stand = record {
   moves = replied_moves seen device held new_view client table a bytes reply settled is own stand;
   right = inl refl;
@@ -605,12 +615,12 @@ replied_serves seen device held new_view client table a bytes reply settled is o
   fails = tt;
 }
 
-pub replied_carries : {D : Type 0} (seen : D → Seen) (device : D) (held : Held) (new_view : SessionsView) (client : ℕ)
+pub replied_carries : {contexts : ContextLimits} {D : Type 0} (seen : D → Seen) (device : D) (held : Held) (new_view : SessionsView) (client : ℕ)
     (table : List (Option ℕ)) (a : Admitted) (bytes reply : List ℕ) → Settled (seen device).state held → IsTable held.objects.items client table
-    → client_admitted (tables_seen client table held.sessions.items) bytes ≡ Ok a → is_sent a bytes ≡ false → (a.shape.row.code == CC_FLUSH_CONTEXT) ≡ false
-    → IsOwnReply held new_view client table a bytes reply → is_frame reply ≡ true
-    → CarriesOut seen client device device held (held_with held new_view) table table a bytes reply
-replied_carries seen device held new_view client table a bytes reply settled is admitted sort other own whole = record {
+    → client_admitted (tables_seen contexts client table held.sessions.items) bytes ≡ Ok a → is_sent contexts a bytes ≡ false → (a.shape.row.code == CC_FLUSH_CONTEXT) ≡ false
+    → IsProfile contexts (seen device).state → IsOwnReply held new_view client table a bytes reply → is_frame reply ≡ true
+    → CarriesOut contexts seen client device device held (held_with held new_view) table table a bytes reply
+replied_carries seen device held new_view client table a bytes reply settled is admitted sort other profile own whole = record {
   did = inr (inl (record {
     sort = sort;
     other = other;
@@ -620,7 +630,7 @@ replied_carries seen device held new_view client table a bytes reply settled is 
     sessions_are = own.view_is;
     reply_is = own.reply_is;
   }));
-  steps = replied_steps (seen device).state held new_view client table a bytes reply settled is admitted sort other own;
+  steps = replied_steps _ (seen device).state held new_view client table a bytes reply settled is admitted sort other profile own;
   whole = whole;
   stays = λ narrow. record {
     objects = λ index resident. inl resident;
@@ -634,17 +644,21 @@ pub not_sent : (sent : Bool) → true ≡ not sent → sent ≡ false
 not_sent true is = absurd cc
 not_sent false is = refl
 
+pub is_to_send : (sent : Bool) → false ≡ not sent → sent ≡ true
+is_to_send true is = refl
+is_to_send false is = absurd cc
+
 -- ---- a command that runs, over sessions that stayed
 
-pub serves_over : {D A : Type 0} (r : Result A SwapError) (seen : D → Seen) (client : ℕ) (old new : D) (held : Held)
+pub serves_over : {contexts : ContextLimits} {D A : Type 0} (r : Result A SwapError) (seen : D → Seen) (client : ℕ) (old new : D) (held : Held)
     (view : SessionsView) (new_held : Held) (table new_table : List (Option ℕ)) → view ≡ held.sessions
-    → Serves seen client old new (held_with held view) new_held table new_table r → Serves seen client old new held new_held table new_table r
-serves_over r seen client old new held view new_held table new_table same serves =
-    subst (λ (v : SessionsView). Serves seen client old new (held_with held v) new_held table new_table r) same serves
+    → Serves contexts seen client old new (held_with held view) new_held table new_table r → Serves contexts seen client old new held new_held table new_table r
+serves_over {contexts = contexts} r seen client old new held view new_held table new_table same serves =
+    subst (λ (v : SessionsView). Serves contexts seen client old new (held_with held v) new_held table new_table r) same serves
 
-pub carries_over : {D A E : Type 0} (r : Result A E) (seen : D → Seen) (client : ℕ) (old new : D) (held : Held)
+pub carries_over : (contexts : ContextLimits) {D A E : Type 0} (r : Result A E) (seen : D → Seen) (client : ℕ) (old new : D) (held : Held)
     (view : SessionsView) (new_held : Held) (table new_table : List (Option ℕ)) (a : Admitted) (bytes reply : List ℕ) → view ≡ held.sessions
-    → OnOk r (CarriesOut seen client old new (held_with held view) new_held table new_table a bytes reply)
-    → OnOk r (CarriesOut seen client old new held new_held table new_table a bytes reply)
-carries_over r seen client old new held view new_held table new_table a bytes reply same carries =
-    subst (λ (v : SessionsView). OnOk r (CarriesOut seen client old new (held_with held v) new_held table new_table a bytes reply)) same carries
+    → OnOk r (CarriesOut contexts seen client old new (held_with held view) new_held table new_table a bytes reply)
+    → OnOk r (CarriesOut contexts seen client old new held new_held table new_table a bytes reply)
+carries_over contexts r seen client old new held view new_held table new_table a bytes reply same carries =
+    subst (λ (v : SessionsView). OnOk r (CarriesOut contexts seen client old new (held_with held v) new_held table new_table a bytes reply)) same carries

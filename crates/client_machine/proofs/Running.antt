@@ -12,10 +12,11 @@ use Rattle.tab_spec.specs.Persist.{Persist}
 use Rattle.tab_spec.specs.Reply.{error_reply, with_response_handle}
 use Rattle.tab_spec.specs.Session.{Session, kind_octet}
 use Rattle.tab_spec.specs.Shape.{number_of_session, octet_of}
+use Rattle.tab_spec.specs.declared.contexts.TheConstants.{PROFILE_CONTEXTS}
 use Rattle.effect_spec.specs.Operands.{Created, Operands, command_auth, new_object, new_session, nothing, sessions_after}
 use Rattle.effect_spec.specs.SessionAuths.{continues}
 use Rattle.effect_spec.specs.Sessions.{StartParameters, start_check}
-use Rattle.device_spec.specs.Answers.{takes}
+use Rattle.device_spec.specs.Answers.{profile_takes as takes}
 use Rattle.device_spec.specs.Slots.{IsSlots, SessionPlace, SlotState, Step, free_number, free_slot, inactive, loaded, loaded_under, made_by, sessions_left, slot_step}
 use Rattle.device_laws.specs.Effects.{is_managed}
 use Rattle.device_laws.specs.OtherHandles.{slots_with}
@@ -488,7 +489,7 @@ is_new slots after held client table a bytes s effect_reply answer may left take
     left.answer_is ∙ ap (λ (places : List SessionPlace). with_response_handle effect_reply (octet * 2 ^ 24 + free_number places)) places_are in
     let told_is : told ≡ handle = ap told_handle answer_is ∙ handed_told effect_reply handle left.tells.1 made.fits in
     let tells : tells_session a answer ≡ true = ap (tells_session a) answer_is ∙ handed_tells_session a effect_reply handle left.tells.1 ∙ left.tells.0 in
-    let fits = command_session false (tables_seen client table held.sessions.items) bytes a (device_handle table held.objects.items (first_handle a)) answer may.admitted taken tells in
+    let fits = command_session PROFILE_CONTEXTS false (tables_seen PROFILE_CONTEXTS client table held.sessions.items) bytes a (device_handle table held.objects.items (first_handle a)) answer may.admitted taken tells in
     let number_is : number_of_session told ≡ number = ap number_of_session told_is ∙ made.number_is in
     let octet_is : octet_of told ≡ octet = ap octet_of told_is ∙ made.octet_is in
     let free : sessions.place_at slots (number_of_session told) ≡ inactive = ap (sessions.place_at slots) number_is ∙ free_is slots.sessions in

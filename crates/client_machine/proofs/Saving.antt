@@ -14,6 +14,7 @@ use Rattle.tab_spec.specs.Reply.{response}
 use Rattle.tab_spec.specs.Session.{Session}
 use Rattle.tab_spec.specs.Shape.{number_of_session, octet_of}
 use Rattle.tab_spec.specs.Values.{AreBytes}
+use Rattle.tab_spec.specs.declared.contexts.ContextLimits.{ContextLimits}
 use Rattle.effect_spec.specs.Contexts.{session_context}
 use Rattle.effect_spec.specs.Operands.{command_auth}
 use Rattle.device_port.specs.Device.{Seen, asked_of, last_of}
@@ -68,14 +69,14 @@ owned_by_user client None is = absurd cc
 owned_by_user client (Some owner) is = refl
 
 -- a client owns it
-pub saved_owned : {D : Type 0} {seen : D → Seen} {old between : D} {held mid : Held}
+pub saved_owned : {contexts : ContextLimits} {D : Type 0} {seen : D → Seen} {old between : D} {held mid : Held}
     {client : ℕ} {table : List (Option ℕ)} {a : Admitted} {bytes command : List ℕ}
-    → Prepared seen old between held mid client table a bytes command → saves_one a ≡ true
+    → Prepared contexts seen old between held mid client table a bytes command → saves_one a ≡ true
     → sessions.has_owner (item_of mid.sessions.items (first_handle a)) ≡ true
-saved_owned {mid = mid} {client = client} {table = table} {a = a} {bytes = bytes} p alone =
+saved_owned {contexts = contexts} {mid = mid} {client = client} {table = table} {a = a} {bytes = bytes} p alone =
     owned_by_user client (owner_in mid.sessions.items (first_handle a))
     (saved_named (λ handle. is_user client (owner_in mid.sessions.items handle) ≡ true) a alone
-    (named_own (tables_seen client table mid.sessions.items) bytes a p.admitted))
+    (named_own (tables_seen contexts client table mid.sessions.items) bytes a p.admitted))
 
 -- the handle of a session isn't that of an object
 no_object : (transient hmac policy : Bool) (octet : ℕ) → (octet == HT_TRANSIENT) ≡ transient → (octet == HT_HMAC_SESSION) ≡ hmac → (octet == HT_POLICY_SESSION) ≡ policy
@@ -180,13 +181,14 @@ pub record SavedOver (old new : Option SlotState) (view new_view : SessionsView)
   pub sessions : sessions.sessions_of new new_view.items ≡ sessions.sessions_of old view.items
 
 -- what holds of the response on every device
-pub record SavedReply (view new_view : SessionsView) (handle : ℕ) (reply : List ℕ) : Type 0 where
+pub record SavedReply (contexts : ContextLimits) (view new_view : SessionsView) (handle : ℕ) (reply : List ℕ) : Type 0 where
   pub numbers : new_view.numbers ≡ view.numbers
   pub items_are : new_view.items ≡ sessions_saved handle (drop HEADER_BYTES reply) view.items
   pub left_is : new_view.left ≡ view.left
   pub order_is : new_view.order ≡ without_one (number_of_session handle) view.order
-  pub success : Succeeds (context_save_command handle) reply
+  pub success : Succeeds contexts (context_save_command handle) reply
   pub frame : is_frame reply ≡ true
+  pub made_for : new_view.contexts ≡ view.contexts
 
 -- which of its tests a reply meets
 record Tells (a : Admitted) (reply : List ℕ) : Type 0 where
@@ -196,10 +198,10 @@ record Tells (a : Admitted) (reply : List ℕ) : Type 0 where
   saves : saves_session a reply ≡ true
   context : tells_context a reply ≡ true
 
-tells_by : (client : ℕ) (table : List (Option ℕ)) (items : List (Option sessions.Item)) (a : Admitted) (bytes reply : List ℕ)
-    → client_admitted (tables_seen client table items) bytes ≡ Ok a → saves_one a ≡ true → code_of reply ≡ RC_SUCCESS → Tells a reply
-tells_by client table items a bytes reply e alone success =
-    let tables = tables_seen client table items in
+tells_by : (contexts : ContextLimits) (client : ℕ) (table : List (Option ℕ)) (items : List (Option sessions.Item)) (a : Admitted) (bytes reply : List ℕ)
+    → client_admitted (tables_seen contexts client table items) bytes ≡ Ok a → saves_one a ≡ true → code_of reply ≡ RC_SUCCESS → Tells a reply
+tells_by contexts client table items a bytes reply e alone success =
+    let tables = tables_seen contexts client table items in
     let save = (and_parts (a.shape.row.code == CC_CONTEXT_SAVE) (is_session_handle (first_handle a)) alone).0 in
     let row = row_as a.shape.row save_row CC_CONTEXT_SAVE (clients_command tables bytes a e).row refl save in
     let so : (code_of reply == RC_SUCCESS) ≡ true = eq-eqb (code_of reply) RC_SUCCESS success in
@@ -215,16 +217,16 @@ tells_by client table items a bytes reply e alone success =
 abbrev pub held_with : Held → SessionsView → Held
 held_with held new_view = record { objects = held.objects; sessions = new_view }
 
-one_saved : (slots after : SlotState) (held : Held) (new_view : SessionsView) (client : ℕ) (table : List (Option ℕ)) (a : Admitted) (bytes reply : List ℕ)
+one_saved : {contexts : ContextLimits} (slots after : SlotState) (held : Held) (new_view : SessionsView) (client : ℕ) (table : List (Option ℕ)) (a : Admitted) (bytes reply : List ℕ)
     → MayRun slots held client table a bytes → saves_one a ≡ true → SavedOver (Some slots) (Some after) held.sessions new_view (first_handle a) reply
-    → SavedReply held.sessions new_view (first_handle a) reply → Runs slots after held (held_with held new_view) client table table a bytes reply
+    → SavedReply contexts held.sessions new_view (first_handle a) reply → Runs slots after held (held_with held new_view) client table table a bytes reply
 one_saved slots after held new_view client table a bytes reply may alone over given =
     let handle = first_handle a in
     let n = number_of_session handle in
     let items = held.objects.items in
     let old = held.sessions.items in
     let both = and_parts (a.shape.row.code == CC_CONTEXT_SAVE) (is_session_handle handle) alone in
-    let tells = tells_by client table old a bytes reply may.admitted alone given.success.code in
+    let tells = tells_by _ client table old a bytes reply may.admitted alone given.success.code in
     let same : without_sessions after ≡ without_sessions slots = some_same over.rest in
     let sessions_are : map (λ item. item_session after item) new_view.items ≡ map (λ item. item_session slots item) old = some_same over.sessions in
     let is = is_saved slots held.sessions client handle reply may.settled.sessions
@@ -276,9 +278,9 @@ none_after_none : (new : Option SlotState) → is_some new ≡ false → new ≡
 none_after_none None is = refl
 none_after_none (Some slots) is = absurd cc
 
-done_saved : (old new : Option SlotState) (held : Held) (new_view : SessionsView) (client : ℕ) (table : List (Option ℕ)) (a : Admitted) (bytes reply : List ℕ)
+done_saved : {contexts : ContextLimits} (old new : Option SlotState) (held : Held) (new_view : SessionsView) (client : ℕ) (table : List (Option ℕ)) (a : Admitted) (bytes reply : List ℕ)
     → IfSome old (λ slots. MayRun slots held client table a bytes) → saves_one a ≡ true → SavedOver old new held.sessions new_view (first_handle a) reply
-    → SavedReply held.sessions new_view (first_handle a) reply → Done old new held (held_with held new_view) client table table a bytes reply
+    → SavedReply contexts held.sessions new_view (first_handle a) reply → Done old new held (held_with held new_view) client table table a bytes reply
 done_saved None new held new_view client table a bytes reply may alone over given =
     done_none new held (held_with held new_view) client table table a bytes reply (none_after_none new (tells_over_sessions None new over.rest))
 done_saved (Some slots) None held new_view client table a bytes reply may alone over given = absurd (let none = over.rest in cc)
@@ -287,20 +289,20 @@ done_saved (Some slots) (Some after) held new_view client table a bytes reply ma
     (one_saved slots after held new_view client table a bytes reply may alone over given)
 
 -- the call that saved it
-pub record SavedOne {D : Type 0} (seen : D → Seen) (between new : D) (mid : Held) (new_view : SessionsView)
+pub record SavedOne (contexts : ContextLimits) {D : Type 0} (seen : D → Seen) (between new : D) (mid : Held) (new_view : SessionsView)
     (handle : ℕ) (reply : List ℕ) : Type 0 where
   pub over : SavedOver (seen between).state (seen new).state mid.sessions new_view handle reply
-  pub given : SavedReply mid.sessions new_view handle reply
+  pub given : SavedReply contexts mid.sessions new_view handle reply
   pub keeps : KeepsRest seen between new
 
 -- what the call leaves, clause by clause
-pub saved_now : {D : Type 0} {seen : D → Seen} {last : Option (List ℕ)} {between new : D}
+pub saved_now : {contexts : ContextLimits} {D : Type 0} {seen : D → Seen} {last : Option (List ℕ)} {between new : D}
     {mid : Held} {new_view : SessionsView} {handle : ℕ} {reply : List ℕ} → KeepsRest seen between new
     → sessions.sessions_of (seen new).state new_view.items ≡ sessions.sessions_of (seen between).state mid.sessions.items
     → Stand (seen between).state mid.sessions [] → ((others : List ℕ) → Stand (seen between).state mid.sessions others → Stand (seen new).state new_view others)
-    → HasGapRoom (seen new).state → SavesForClient last reply handle mid.sessions new_view
+    → HasGapRoom (seen new).state → SavesForClient contexts last reply handle mid.sessions new_view
     → SavesTold (seen between).state (seen new).state reply handle mid.sessions.items
-    → SavedOne seen between new mid new_view handle reply
+    → SavedOne contexts seen between new mid new_view handle reply
 saved_now keeps same stood stands room saves told = record {
   over = record {
     rest = keeps.rest;
@@ -318,27 +320,28 @@ saved_now keeps same stood stands room saves told = record {
     order_is = ap (λ (v : SessionsView). v.order) saves.view_is;
     success = saves.success;
     frame = saves.frame;
+    made_for = ap (λ (v : SessionsView). v.contexts) saves.view_is;
   };
   keeps = keeps;
 }
 
 -- whose sessions they are afterwards, by what the reply tells
-pub saved_after : {D : Type 0} {seen : D → Seen} {old between : D} {held mid : Held}
+pub saved_after : {contexts : ContextLimits} {D : Type 0} {seen : D → Seen} {old between : D} {held mid : Held}
     {client : ℕ} {table : List (Option ℕ)} {a : Admitted} {bytes command : List ℕ} (new_view : SessionsView) (reply : List ℕ)
-    → Prepared seen old between held mid client table a bytes command → saves_one a ≡ true
-    → SavedReply mid.sessions new_view (first_handle a) reply → new_view.items ≡ sessions_held_after client a reply mid.sessions.items
+    → Prepared contexts seen old between held mid client table a bytes command → saves_one a ≡ true
+    → SavedReply contexts mid.sessions new_view (first_handle a) reply → new_view.items ≡ sessions_held_after client a reply mid.sessions.items
 saved_after {mid = mid} {client = client} {table = table} {a = a} {bytes = bytes} new_view reply p alone given =
-    let tells = tells_by client table mid.sessions.items a bytes reply p.admitted alone given.success.code in
+    let tells = tells_by _ client table mid.sessions.items a bytes reply p.admitted alone given.success.code in
     given.items_are
     ∙ sym (saved_by (tells_session a reply) (ends_session a reply) (saves_session a reply) mid.sessions.items _ _ _ tells.starts tells.ends tells.saves)
 
 -- and in which order they were used
-order_saved : {D : Type 0} {seen : D → Seen} {old between : D} {held mid : Held}
+order_saved : {contexts : ContextLimits} {D : Type 0} {seen : D → Seen} {old between : D} {held mid : Held}
     {client : ℕ} {table : List (Option ℕ)} {a : Admitted} {bytes command : List ℕ} (new_view : SessionsView) (reply : List ℕ)
-    → Prepared seen old between held mid client table a bytes command → saves_one a ≡ true
-    → SavedReply mid.sessions new_view (first_handle a) reply → new_view.order ≡ order_after a reply mid.sessions.order
+    → Prepared contexts seen old between held mid client table a bytes command → saves_one a ≡ true
+    → SavedReply contexts mid.sessions new_view (first_handle a) reply → new_view.order ≡ order_after a reply mid.sessions.order
 order_saved {mid = mid} {client = client} {table = table} {a = a} {bytes = bytes} new_view reply p alone given =
-    let tells = tells_by client table mid.sessions.items a bytes reply p.admitted alone given.success.code in
+    let tells = tells_by _ client table mid.sessions.items a bytes reply p.admitted alone given.success.code in
     given.order_is
     ∙ sym (saved_by (tells_session a reply) (ends_session a reply) (saves_session a reply) mid.sessions.order _ _ _ tells.starts tells.ends tells.saves)
 
@@ -346,31 +349,31 @@ taken_by : (frame success form other : Bool) → frame ≡ true → success ≡ 
 taken_by frame success form other whole is so = rw (whole, is, so) refl
 
 -- a context that was made is taken, whatever the broker holds
-pub save_taken : (is_kept is_taken : Bool) (handle : ℕ) (reply : List ℕ) → Succeeds (context_save_command handle) reply → is_frame reply ≡ true
-    → takes is_kept is_taken (context_save_command handle) reply ≡ true
-save_taken is_kept is_taken handle reply success frame =
+pub save_taken : {contexts : ContextLimits} (is_kept is_taken : Bool) (handle : ℕ) (reply : List ℕ) → Succeeds contexts (context_save_command handle) reply → is_frame reply ≡ true
+    → takes contexts is_kept is_taken (context_save_command handle) reply ≡ true
+save_taken {contexts = contexts} is_kept is_taken handle reply success frame =
     let command = context_save_command handle in
-    takes_same is_kept is_taken command reply refl refl
-    ∙ taken_by (is_frame reply) (code_of reply == RC_SUCCESS) (is_success_form true command reply) _ frame
+    takes_same contexts is_kept is_taken command reply refl refl
+    ∙ taken_by (is_frame reply) (code_of reply == RC_SUCCESS) (is_success_form contexts true command reply) _ frame
     (eq-eqb (code_of reply) RC_SUCCESS success.code) success.form
 
 -- what became of the command
-pub ran_saved : {D : Type 0} {old between new : D} {held mid : Held}
+pub ran_saved : {contexts : ContextLimits} {D : Type 0} {old between new : D} {held mid : Held}
     {client : ℕ} {table : List (Option ℕ)} {a : Admitted} {bytes command reply : List ℕ}
     (seen : D → Seen) (new_view : SessionsView)
-    → Prepared seen old between held mid client table a bytes command → saves_one a ≡ true → AreBytes bytes
-    → SavedOne seen between new mid new_view (first_handle a) reply
-    → SentBefore seen (orphan_count held) old between
-    → Asks {A = Unit {0}} seen between new (context_save_command (first_handle a)) (Ok tt)
-    → last_of (seen new) ≡ Some reply → (IsAtHand held table a bytes → between ≡ old)
-    → Ran seen client old new held (held_with mid new_view) table table a bytes reply
-ran_saved {between = between} {new = new} {held = held} {mid = mid} {client = client} {table = table} {a = a} {bytes = bytes} {reply = reply} seen new_view p alone all saved own asks last_is still =
+    → Prepared contexts seen old between held mid client table a bytes command → saves_one a ≡ true → AreBytes bytes
+    → SavedOne contexts seen between new mid new_view (first_handle a) reply
+    → SentBefore contexts seen (orphan_count held) old between
+    → Asks {A = Unit {0}} contexts seen between new (context_save_command (first_handle a)) (Ok tt)
+    → last_of (seen new) ≡ Some reply → (IsAtHand contexts held table a bytes → between ≡ old)
+    → Ran contexts seen client old new held (held_with mid new_view) table table a bytes reply
+ran_saved {contexts = contexts} {between = between} {new = new} {held = held} {mid = mid} {client = client} {table = table} {a = a} {bytes = bytes} {reply = reply} seen new_view p alone all saved own asks last_is still =
     let handle = first_handle a in
     let both = and_parts (a.shape.row.code == CC_CONTEXT_SAVE) (is_session_handle handle) alone in
-    let tells = tells_by client table mid.sessions.items a bytes reply p.admitted alone saved.given.success.code in
+    let tells = tells_by _ client table mid.sessions.items a bytes reply p.admitted alone saved.given.success.code in
     let device_is : device_handle table mid.objects.items handle ≡ handle = same_else (octet_of handle == HT_TRANSIENT) _ handle (session_apart handle both.1) in
     let items_are = saved_after new_view reply p alone saved.given in
-    let command_is = sym (save_sent (tables_seen client table mid.sessions.items) bytes a handle p.admitted both.0 p.sort all) ∙ ap (sent_for bytes a) (sym device_is) in
+    let command_is = sym (save_sent contexts (tables_seen contexts client table mid.sessions.items) bytes a handle p.admitted both.0 p.sort all) ∙ ap (sent_for bytes a) (sym device_is) in
     record {
       sort = p.sort;
       before = between;
@@ -394,7 +397,7 @@ ran_saved {between = between} {new = new} {held = held} {mid = mid} {client = cl
       object_is = λ told. absurd (true≢false (sym told ∙ tells.object));
       taken = subst
           (λ (command : List ℕ).
-          takes (loads_kept mid.objects.items command) (number_taken (record held.sessions { items = mid.sessions.items }) reply) command reply ≡ true)
+          takes contexts (loads_kept mid.objects.items command) (number_taken (record held.sessions { items = mid.sessions.items }) reply) command reply ≡ true)
           (sym asks.asked)
           (save_taken (loads_kept mid.objects.items (context_save_command handle)) (number_taken (record held.sessions { items = mid.sessions.items }) reply)
           handle reply saved.given.success saved.given.frame);
@@ -423,22 +426,23 @@ saves_loaded items new_items a reply alone are =
     subst (λ (saves : Option ℕ). KeepsLoaded (places_of a) saves items new_items) (sym (saves_by (saves_one a) n alone))
     (loaded_saved (places_of a) items new_items n (drop HEADER_BYTES reply) (ap {B = ℕ} (λ (test : Bool). if test then 1 else 0) starts) are)
 
-pub outcome_saved : {D : Type 0} {seen : D → Seen} {old between new : D} {held mid : Held}
+pub outcome_saved : {contexts : ContextLimits} {D : Type 0} {seen : D → Seen} {old between new : D} {held mid : Held}
     {client : ℕ} {table : List (Option ℕ)} {a : Admitted} {bytes command reply : List ℕ} (new_view : SessionsView)
-    → Prepared seen old between held mid client table a bytes command → saves_one a ≡ true → AreBytes bytes
-    → SavedOne seen between new mid new_view (first_handle a) reply
-    → SentBefore seen (orphan_count held) old between → (IsAtHand held table a bytes → between ≡ old)
-    → Asks {A = Unit {0}} seen between new (context_save_command (first_handle a)) (Ok tt) → last_of (seen new) ≡ Some reply
-    → Outcome seen old new client held (held_with mid new_view) table table a bytes reply
-outcome_saved {seen = seen} {between = between} {new = new} {held = held} {mid = mid} {client = client} {table = table} {a = a} {bytes = bytes} {reply = reply} new_view p alone all saved own still asks last_is =
+    → Prepared contexts seen old between held mid client table a bytes command → saves_one a ≡ true → AreBytes bytes
+    → SavedOne contexts seen between new mid new_view (first_handle a) reply
+    → SentBefore contexts seen (orphan_count held) old between → (IsAtHand contexts held table a bytes → between ≡ old)
+    → Asks {A = Unit {0}} contexts seen between new (context_save_command (first_handle a)) (Ok tt) → last_of (seen new) ≡ Some reply
+    → Outcome contexts seen old new client held (held_with mid new_view) table table a bytes reply
+outcome_saved {contexts = contexts} {seen = seen} {between = between} {new = new} {held = held} {mid = mid} {client = client} {table = table} {a = a} {bytes = bytes} {reply = reply} new_view p alone all saved own still asks last_is =
     let handle = first_handle a in
     let done : Done (seen between).state (seen new).state mid (held_with mid new_view) client table table a bytes reply =
     done_saved (seen between).state (seen new).state mid new_view client table a bytes reply p.may alone saved.over saved.given in
     record {
       serves = record {
         moves = ran_moves new mid.objects.items new_view table mid.objects.order reply reply p saved.keeps.base_is saved.keeps.count
-            (saved_after new_view reply p alone saved.given) saved.given.numbers saved.given.left_is done (λ index owner names own mine. (names, own)) (λ index owner own mine. own) p.here refl;
-        right = inr (taken_right false false (context_save_command handle) (asked_of (seen new)) reply (last_of (seen new))
+            (saved_after new_view reply p alone saved.given) saved.given.numbers saved.given.made_for saved.given.left_is done
+            (λ index owner names own mine. (names, own)) (λ index owner own mine. own) p.here refl;
+        right = inr (taken_right contexts false false (context_save_command handle) (asked_of (seen new)) reply (last_of (seen new))
             (save_taken false false handle reply saved.given.success saved.given.frame) asks.asked last_is);
         stays = tt;
         costs = omega (arith, p.costs, asks.once);

@@ -8,6 +8,7 @@ use Rattle.tab_spec.specs.Admission.{client_admitted}
 use Rattle.tab_spec.specs.Object.{Object}
 use Rattle.tab_spec.specs.Session.{Session}
 use Rattle.tab_spec.specs.Shape.{number_of_session, octet_of}
+use Rattle.tab_spec.specs.declared.contexts.TheConstants.{PROFILE_CONTEXTS}
 use Rattle.device_spec.specs.Slots.{SlotState}
 use Rattle.object_swap.specs.Items.{Item, ItemStands, ObjectsStand, item_at, no_item}
 use Rattle.session_swap.specs.Items as sessions
@@ -150,13 +151,13 @@ session_had slots view others client handle stand = (seen_under slots view other
 pub admitted_seen : {others : List ℕ} (slots : SlotState) (client : ℕ) (table : List (Option ℕ)) (held : Held) (least : Sequences) (bytes : List ℕ)
     → ObjectsStand slots held.objects.items others
     → SessionsStand slots held.sessions [] → IsTable held.objects.items client table
-    → client_admitted (tables_seen client table held.sessions.items) bytes ≡ client_admitted (tables_of client (client_state slots held table least)) bytes
+    → client_admitted (tables_seen PROFILE_CONTEXTS client table held.sessions.items) bytes ≡ client_admitted (tables_of client (client_state slots held table least)) bytes
 admitted_seen slots client table held least bytes stand sessions is =
     let items = held.objects.items in
     let f : Option ℕ → Option Object = λ place. place_object slots items place in
     let all = seen_places slots items client table stand is in
-    looked_up (tables_seen client table held.sessions.items) (tables_of client (client_state slots held table least)) bytes
+    looked_up (tables_seen PROFILE_CONTEXTS client table held.sessions.items) (tables_of client (client_state slots held table least)) bytes
     (λ handle.
     sym (held_all (λ place. is_some (f place) ≡ is_some place) table handle all refl)
     ∙ ap (λ (o : Option Object). is_some o) (sym (tables.held f table handle refl)))
-    (λ handle. session_seen slots held.sessions [] client handle sessions) (sym (full f table all))
+    (λ handle. session_seen slots held.sessions [] client handle sessions) (sym (full f table all)) refl

@@ -100,7 +100,7 @@ pub without_stand : (slots : SlotState) (view : SessionsView) (others : List ℕ
     → SessionsStand (moved slots (number_of_session handle) inactive slots.counter) (record view { items = set view.items (number_of_session handle) None }) others
 without_stand slots view others client handle stand own =
     let n = number_of_session handle in
-    stands_moved slots view others n inactive slots.counter None view.next view.order view.saved view.left stand (ending slots view others n (new_item client handle) stand own)
+    stands_moved slots view others n inactive slots.counter None view.next view.order view.saved view.left view.contexts stand (ending slots view others n (new_item client handle) stand own)
     (λ some. stand.next (any_set is_saved_item view.items n None refl some)) (rise_gone view.items n None view.saved refl stand.rise)
 
 stand_by : (slots after : SlotState) (view : SessionsView) (others : List ℕ) (client handle : ℕ) (ended : Bool) (session : Option (ℕ × Session)) (places : List SessionPlace)

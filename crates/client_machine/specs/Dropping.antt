@@ -6,15 +6,16 @@ use Rattle.device_spec.specs.Slots.{SlotState}
 use Rattle.std.specs.List.{AllByRecursion}
 use Rattle.tab_spec.specs.declared.TheConstants.{CC_FLUSH_CONTEXT}
 use Rattle.tab_spec.specs.Frame.{code_of}
+use Rattle.tab_spec.specs.declared.contexts.ContextLimits.{ContextLimits}
 use Rattle.device_port.specs.Device.{Seen, Transmission, asked_of, last_of, sent_of}
 use Rattle.device_port.specs.Own.{WasTaken}
 use Rattle.tab_spec.specs.Shape.{number_of_session}
-use Rattle.tab_spec.specs.Numbers.{left_most}
+use Rattle.tab_spec.specs.Numbers.{leave_limit}
 use Rattle.session_swap.specs.Items.{Item, SessionsView, has_owner, is_owned, is_owner, item_at, owner_in}
 use Rattle.world_spec.specs.World.{closed_sessions}
 use Rattle.client_machine.specs.declared.held.Held.{Held}
 use Rattle.client_machine.specs.Costs.{own_objects, own_residents}
-use Rattle.client_machine.specs.Moves.{CountsOnBy, GainsNone, Keeps, KeepsObjectsOf, KeepsOwners, KeepsPersist, other_than}
+use Rattle.client_machine.specs.Moves.{CountsOnBy, GainsNone, Keeps, KeepsObjectsOf, KeepsOwners, KeepsPersist, StaysFor, other_than}
 use Rattle.client_machine.specs.Settled.{Settled, orphan_count, sessions_in}
 use Rattle.client_machine.specs.Tables.{AreOpenOwners}
 
@@ -38,36 +39,37 @@ is_used (Some owner) = owner.1
 abbrev pub IsDropped : ℕ → SessionsView → ℕ → Type 0
 IsDropped client view handle =
     ((is_owner client (owner_in view.items handle) ≡ true) × (is_used (owner_in view.items handle) ≡ true))
-    ⊎ ((left_most view.numbers.active < length view.left) × (slice_get view.left 0 ≡ Some (number_of_session handle)))
+    ⊎ ((leave_limit view.numbers.active < length view.left) × (slice_get view.left 0 ≡ Some (number_of_session handle)))
 
 -- a flush that was answered, or whose transmission failed
-abbrev pub WasTried : Transmission → Type 0
-WasTried one = (code_of one.command ≡ CC_FLUSH_CONTEXT) × ((one.response ≡ None) ⊎ WasTaken one)
+abbrev pub WasTried : ContextLimits → Transmission → Type 0
+WasTried contexts one = (code_of one.command ≡ CC_FLUSH_CONTEXT) × ((one.response ≡ None) ⊎ WasTaken contexts one)
 
 -- each of these was; or each but the newest, which is a flush that met a wrong answer
-abbrev pub WereTried : (wrong : Bool) → List Transmission → Type 0
-WereTried false sent = AllByRecursion WasTried sent
-WereTried true [] = Unit {0}
-WereTried true (newest ∷ earlier) = (code_of newest.command ≡ CC_FLUSH_CONTEXT) × AllByRecursion WasTried earlier
+abbrev pub WereTried : ContextLimits → (wrong : Bool) → List Transmission → Type 0
+WereTried contexts false sent = AllByRecursion (WasTried contexts) sent
+WereTried contexts true [] = Unit {0}
+WereTried contexts true (newest ∷ earlier) = (code_of newest.command ≡ CC_FLUSH_CONTEXT) × AllByRecursion (WasTried contexts) earlier
 
 -- nothing was sent but flushes, the newest first, and each was answered or failed, unless the newest met a wrong answer
-pub record SendsFlushes {D : Type 0} (seen : D → Seen) (old new : D) (wrong : Bool) : Type 0 where
+pub record SendsFlushes {D : Type 0} (contexts : ContextLimits) (seen : D → Seen) (old new : D) (wrong : Bool) : Type 0 where
   pub sent : List Transmission
   pub trace_is : (seen new).trace ≡ sent ++ (seen old).trace
-  pub each : WereTried wrong sent
+  pub each : WereTried contexts wrong sent
 
 -- What can't be flushed is an orphan then. This holds of each step, also of one that met a wrong answer: its code is the error, and no
 -- list of objects gets another owner
-pub record Disowns {D A : Type 0} (seen : D → Seen) (old new : D) (held new_held : Held) (result : Result A ℕ) : Type 0 where
+pub record Disowns {D A : Type 0} (contexts : ContextLimits) (seen : D → Seen) (old new : D) (held new_held : Held) (result : Result A ℕ) : Type 0 where
   pub keeps : Keeps seen old new
+  pub made_for : StaysFor held new_held
   pub slots : new_held.objects.slots ≡ held.objects.slots
   pub numbers : new_held.sessions.numbers ≡ held.sessions.numbers
   pub length_is : length new_held.objects.items ≡ length held.objects.items
   pub lists : OnErr result (new_held.objects.owners ≡ held.objects.owners)
   pub left : AreLeftByFaults (orphan_count held) (seen old).faults (orphan_count new_held) (seen new).faults
-  pub err : IfErr result (λ code. IsWrongAnswer (asked_of (seen new)) (last_of (seen new)) code × ((seen new).state ≡ None))
+  pub err : IfErr result (λ code. IsWrongAnswer contexts (asked_of (seen new)) (last_of (seen new)) code × ((seen new).state ≡ None))
   -- no wrong answer is passed over
-  pub sent : SendsFlushes seen old new (is_err result)
+  pub sent : SendsFlushes contexts seen old new (is_err result)
 
 -- the slots of orphans: those before, and so many more at most
 abbrev pub LeavesMore : ℕ → (left new_left : List ℕ) → Type 0
@@ -75,7 +77,7 @@ LeavesMore most left new_left = (more : List ℕ) × (new_left ≡ left ++ more)
 
 -- A client loses objects and sessions, of which so many are orphans since their flush failed, and leaves sessions that it saved. These
 -- are the owners of the lists of objects then.
-pub record Drops {D : Type 0} (seen : D → Seen)
+pub record Drops {D : Type 0} (contexts : ContextLimits) (seen : D → Seen)
     (client : ℕ) (old new : D) (held new_held : Held) (owners_after : List (Option ℕ)) (failed : ℕ) : Type 0 where
   pub keeps : Keeps seen old new
   pub settled : Settled (seen new).state new_held
@@ -89,8 +91,8 @@ pub record Drops {D : Type 0} (seen : D → Seen)
       → closed_sessions client held.sessions.numbers.active (sessions_in after new_held.sessions.items) new_held.sessions.left
       ≡ closed_sessions client held.sessions.numbers.active (sessions_in slots held.sessions.items) held.sessions.left
   -- no more are left than may be
-  pub few_left : length held.sessions.left ≤ left_most held.sessions.numbers.active
-      → length new_held.sessions.left ≤ left_most held.sessions.numbers.active
+  pub few_left : length held.sessions.left ≤ leave_limit held.sessions.numbers.active
+      → length new_held.sessions.left ≤ leave_limit held.sessions.numbers.active
   pub owners : (present : List ℕ) → AreOpenOwners present held.sessions.items → AreOpenOwners present new_held.sessions.items
   pub persist : KeepsPersist (seen old).state (seen new).state
   pub orphans : orphan_count new_held ≡ orphan_count held + failed
@@ -99,15 +101,16 @@ pub record Drops {D : Type 0} (seen : D → Seen)
   -- no more than transmissions failed
   pub failures : (failed + (seen old).faults ≤ (seen new).faults) ⊎ (largest_count ≤ (seen new).faults)
   -- nothing was sent, or the last response was taken
-  pub right : (new ≡ old) ⊎ IsRight (asked_of (seen new)) (last_of (seen new))
+  pub right : (new ≡ old) ⊎ IsRight contexts (asked_of (seen new)) (last_of (seen new))
+  pub made_for : StaysFor held new_held
   pub slots : new_held.objects.slots ≡ held.objects.slots
   pub numbers : new_held.sessions.numbers ≡ held.sessions.numbers
   pub length_is : length new_held.objects.items ≡ length held.objects.items
 
 -- one object of the client's
-pub record DropsOne {D : Type 0} (seen : D → Seen) (client : ℕ) (old new : D) (held new_held : Held) : Type 0 where
+pub record DropsOne {D : Type 0} (contexts : ContextLimits) (seen : D → Seen) (client : ℕ) (old new : D) (held new_held : Held) : Type 0 where
   pub failed : ℕ
-  pub drops : Drops seen client old new held new_held held.objects.owners failed
+  pub drops : Drops contexts seen client old new held new_held held.objects.owners failed
   pub fewer : own_objects client new_held.objects.items + 1 ≡ own_objects client held.objects.items
   -- a command is sent only where one fewer of them is in a slot then
   pub costs : sent_of (seen new) + own_residents client new_held.objects.items

@@ -10,7 +10,8 @@ use Rattle.tab_spec.specs.Frame.{code_of, is_frame}
 use Rattle.tab_spec.specs.Numbers.{AreInRange}
 use Rattle.tab_spec.specs.Persist.{Persist}
 use Rattle.tab_spec.specs.Reply.{error_reply, response, with_response_handle}
-use Rattle.tab_spec.specs.Shape.{makes_object_by, number_of_session, octet_of}
+use Rattle.tab_spec.specs.Shape.{makes_object_by, needs_slot, number_of_session, octet_of}
+use Rattle.tab_spec.specs.declared.contexts.ContextLimits.{ContextLimits}
 use Rattle.effect_spec.specs.Operands.{command_auth}
 use Rattle.device_port.specs.Device.{Answered, Seen, Transmission, asked_of, last_of, sent_of}
 use Rattle.device_port.specs.Own.{AsksSome, HasCause, IsAnswered, IsOwn, SendsOwn, WasTaken}
@@ -50,12 +51,12 @@ pub record IsSent {D : Type 0} (seen : D → Seen) (old new : D) (command : List
 
 -- What came to the trace of a call that failed: the last command that was sent wasn't answered, or its response isn't taken, and
 -- nothing was sent after it. Those before it are the broker's own, and each of them was answered.
-pub record FailsAtLast {D : Type 0} (seen : D → Seen) (old new : D) : Type 0 where
+pub record FailsAtLast {D : Type 0} (contexts : ContextLimits) (seen : D → Seen) (old new : D) : Type 0 where
   pub last : Transmission
   pub before : List Transmission
   pub trace_is : (seen new).trace ≡ last ∷ before ++ (seen old).trace
-  pub own : AllByRecursion (λ one. IsOwn one.command) before
-  pub all : AllByRecursion WasTaken before
+  pub own : AllByRecursion (λ one. IsOwn contexts one.command) before
+  pub all : AllByRecursion (WasTaken contexts) before
 
 -- ---- what a client's call is over
 
@@ -72,18 +73,29 @@ client_state slots held table least = record {
   session_sequence = least.session;
 }
 
+-- what is held is for a device with these contexts
+pub record IsFor (contexts : ContextLimits) (held : Held) : Type 0 where
+  pub objects : held.objects.contexts ≡ contexts
+  pub sessions : held.sessions.contexts ≡ contexts
+
+-- for the same ones as before
+pub record StaysFor (held new_held : Held) : Type 0 where
+  pub objects : new_held.objects.contexts ≡ held.objects.contexts
+  pub sessions : new_held.sessions.contexts ≡ held.sessions.contexts
+
 -- the device, over which the next call may begin: there are numbers for so many more contexts of either sort
-pub record MayMove {D : Type 0} (contexts : ℕ) (seen : D → Seen) (device : D) (held : Held) : Type 0 where
+pub record MayMove {D : Type 0} (more : ℕ) (contexts : ContextLimits) (seen : D → Seen) (device : D) (held : Held) : Type 0 where
+  pub made_for : IsFor contexts held
   pub slots : held.objects.slots ≡ held.sessions.numbers.slots
   pub range : AreInRange held.sessions.numbers
   pub settled : Settled (seen device).state held
-  pub object_counter : objects.counter_of (seen device).state + contexts ≤ CONTEXT_LIMIT
-  pub counter : sessions.counter_of (seen device).state + contexts ≤ CONTEXT_LIMIT
+  pub object_counter : objects.counter_of (seen device).state + more ≤ CONTEXT_LIMIT
+  pub counter : sessions.counter_of (seen device).state + more ≤ CONTEXT_LIMIT
 
 -- there is room for an object that a command may make: a place in the client's table, and a vacant item
-abbrev pub HasRoomFor : Admitted → List ℕ → ℕ → List Item → Type 0
-HasRoomFor a bytes spare items =
-    makes_object_by (Ok a.shape) bytes ≡ true → (1 ≤ spare) × (list_any is_vacant items ≡ true)
+abbrev pub HasRoomFor : ContextLimits → Admitted → List ℕ → ℕ → List Item → Type 0
+HasRoomFor contexts a bytes spare items =
+    makes_object_by contexts (Ok a.shape) bytes ≡ true → (1 ≤ spare) × (list_any is_vacant items ≡ true)
 
 -- ---- what a call leaves
 
@@ -141,6 +153,7 @@ pub record Moves {D : Type 0} (seen : D → Seen) (client : ℕ) (old new : D) (
   pub owners : (present : List ℕ) → is_open client present ≡ true → AreOpenOwners present held.sessions.items
       → AreOpenOwners present new_held.sessions.items
   pub orphans : orphan_count new_held ≤ orphan_count held
+  pub made_for : StaysFor held new_held
   pub slots : new_held.objects.slots ≡ held.objects.slots
   pub numbers : new_held.sessions.numbers ≡ held.sessions.numbers
   -- a session that was left may be the client's then, and no more are left
@@ -181,9 +194,9 @@ pub record Loses (held new_held : Held) : Type 0 where
 
 -- Before a client's command: objects and sessions were moved, sessions renewed, and orphans flushed. What clients have and left
 -- stands as before, and whose it is. At most so many contexts of either sort were made
-pub record Prepares {D : Type 0} (contexts : ℕ) (seen : D → Seen) (old new : D) (held new_held : Held) : Type 0 where
+pub record Prepares {D : Type 0} (most : ℕ) (seen : D → Seen) (old new : D) (held new_held : Held) : Type 0 where
   pub keeps : Keeps seen old new
-  pub counts : CountsOnBy contexts (seen old).state (seen new).state
+  pub counts : CountsOnBy most (seen old).state (seen new).state
   pub owners : KeepsOwners any_client held.objects.items new_held.objects.items
   pub gained : GainsNone any_client held.objects.items new_held.objects.items
   pub lists : new_held.objects.owners ≡ held.objects.owners
@@ -196,6 +209,7 @@ pub record Prepares {D : Type 0} (contexts : ℕ) (seen : D → Seen) (old new :
   pub vacant : list_any is_vacant held.objects.items ≡ true → list_any is_vacant new_held.objects.items ≡ true
   pub gone : StaysGone held new_held
   pub orphans : orphan_count new_held ≤ orphan_count held
+  pub made_for : StaysFor held new_held
   pub slots : new_held.objects.slots ≡ held.objects.slots
   pub numbers : new_held.sessions.numbers ≡ held.sessions.numbers
   pub left : new_held.sessions.left ≡ held.sessions.left
@@ -226,15 +240,15 @@ pub record Stays (old_state new_state : Option SlotState) (held new_held : Held)
   pub objects : KeepsOwners any_client held.objects.items new_held.objects.items
 
 -- a call for one client that ends with this result
-pub record Serves {D A : Type 0} (seen : D → Seen) (client : ℕ) (old new : D)
+pub record Serves {D A : Type 0} (contexts : ContextLimits) (seen : D → Seen) (client : ℕ) (old new : D)
     (held new_held : Held) (table new_table : List (Option ℕ)) (result : Result A SwapError) : Type 0 where
   pub moves : Moves seen client old new held new_held new_table
   -- nothing was sent, or the last response was taken
-  pub right : OnOk result ((new ≡ old) ⊎ IsRight (asked_of (seen new)) (last_of (seen new)))
+  pub right : OnOk result ((new ≡ old) ⊎ IsRight contexts (asked_of (seen new)) (last_of (seen new)))
   pub stays : OnErr result (Stays (seen old).state (seen new).state held new_held table new_table)
   pub costs : SendsUpTo seen (new_bound (orphan_count held) (gap_kept held.sessions) held.sessions.numbers) old new
-  pub cause : IfErr result (λ e. HasCause seen e old new)
-  pub fails : OnErr result (FailsAtLast seen old new)
+  pub cause : IfErr result (λ e. HasCause contexts seen e old new)
+  pub fails : OnErr result (FailsAtLast contexts seen old new)
 
 -- ---- a command
 
@@ -306,18 +320,18 @@ loads_kept items command = code_of command == CC_CONTEXT_LOAD && keeps_context i
 
 -- the command was sent once, and the response to it is taken, by what is held: whether a context that the command loads is kept, and
 -- whether no new session can have the response's handle
-pub record IsTaken {D : Type 0} (seen : D → Seen) (old new : D) (held : Held) (command reply : List ℕ) : Type 0 where
+pub record IsTaken {D : Type 0} (contexts : ContextLimits) (seen : D → Seen) (old new : D) (held : Held) (command reply : List ℕ) : Type 0 where
   pub sent : IsSent seen old new command
   pub answered : Answered (seen old).state command (seen new).state reply
   pub last_is : last_of (seen new) ≡ Some reply
-  pub taken : takes (loads_kept held.objects.items command) (number_taken held.sessions reply) command reply ≡ true
+  pub taken : takes contexts (loads_kept held.objects.items command) (number_taken held.sessions reply) command reply ≡ true
   pub base_is : (seen new).base ≡ (seen old).base
   pub count : (seen old).faults ≤ (seen new).faults
 
 -- the command was sent once, and there is no response, or it isn't taken. The device is in its state
-pub record IsUntaken {D : Type 0} (seen : D → Seen) (old new : D) (command : List ℕ) (e : SwapError) : Type 0 where
+pub record IsUntaken {D : Type 0} (contexts : ContextLimits) (seen : D → Seen) (old new : D) (command : List ℕ) (e : SwapError) : Type 0 where
   pub sent : IsSent seen old new command
-  pub cause : HasCause seen e old new
+  pub cause : HasCause contexts seen e old new
   pub state_is : (seen new).state ≡ (seen old).state
   pub base_is : (seen new).base ≡ (seen old).base
   pub count : (seen old).faults ≤ (seen new).faults
@@ -348,14 +362,14 @@ sessions_held_after client a answer items =
     else if saves_session a answer then sessions_saved (first_handle a) (drop HEADER_BYTES answer) items
     else items
 
--- nothing has to be moved for a command: there are no orphans, no renewal is due, what it names is in the device, and it makes
--- nothing
-pub record IsAtHand (held : Held) (table : List (Option ℕ)) (a : Admitted) (bytes : List ℕ) : Type 0 where
+-- nothing has to be moved for a command: there are no orphans, no renewal is due, what it names is in the device, and it needs no
+-- slot and starts nothing
+pub record IsAtHand (contexts : ContextLimits) (held : Held) (table : List (Option ℕ)) (a : Admitted) (bytes : List ℕ) : Type 0 where
   pub nobodys : orphan_count held ≡ 0
   pub narrow : gap_kept held.sessions < renewal_gap held.sessions.numbers
   pub placed : IsPlaced table held.objects.items (first_handle a)
   pub loaded : AreLoaded (named_sessions a) held.sessions.items
-  pub makes_none : makes_object_by (Ok a.shape) bytes ≡ false
+  pub makes_none : needs_slot contexts a.shape bytes ≡ false
   pub starts_none : starts_session a ≡ false
 
 -- as many sessions are active as may be
@@ -377,7 +391,7 @@ NeedsNoSession view a =
     ⊎ ((starts_session a ≡ true) × (view.numbers.active ≤ count_by is_held view.items))
 
 -- all is ready for a client's command, and it is written over the device's handles
-pub record IsPrepared (state : Option SlotState) (held : Held) (table : List (Option ℕ)) (a : Admitted) (bytes command : List ℕ) : Type 0 where
+pub record IsPrepared (contexts : ContextLimits) (state : Option SlotState) (held : Held) (table : List (Option ℕ)) (a : Admitted) (bytes command : List ℕ) : Type 0 where
   pub nobodys : orphan_count held ≡ 0
   -- a session that starts in the last place leaves room below the device's gap
   pub gap : IfSome state (λ slots. gap_of slots < renewal_gap slots.numbers + NEEDED_MOST)
@@ -385,7 +399,7 @@ pub record IsPrepared (state : Option SlotState) (held : Held) (table : List (Op
   pub narrow : named_sessions a ≡ [] → starts_session a ≡ false → IsNarrow state
   pub placed : IsPlaced table held.objects.items (first_handle a)
   pub sessions : HasSessions state held.sessions a
-  pub free : makes_object_by (Ok a.shape) bytes ≡ true
+  pub free : needs_slot contexts a.shape bytes ≡ true
       → IfSome state (λ slots. list_any is_free slots.slots ≡ true) × (objects.residents held.objects.items < held.objects.slots)
   pub written : command ≡ sent_for bytes a (device_handle table held.objects.items (first_handle a))
 
@@ -404,18 +418,18 @@ listed (Some index) = index ∷ []
 abbrev pub named_objects : List (Option ℕ) → Admitted → List ℕ
 named_objects table a = listed (named_by table (first_handle a))
 
--- how many slots, and how many places, it needs for what it may make. Where as many sessions as may be active are clients' or were
--- left, none starts
-abbrev pub slots_of : Admitted → List ℕ → ℕ
-slots_of a bytes = if makes_object_by (Ok a.shape) bytes then 1 else 0
+-- how many slots, and how many places, it needs for what it may make, and for what it builds. Where as many sessions as may be active
+-- are clients' or were left, none starts
+abbrev pub slots_of : ContextLimits → Admitted → List ℕ → ℕ
+slots_of contexts a bytes = if needs_slot contexts a.shape bytes then 1 else 0
 
 abbrev pub places_needed : sessions.SessionsView → Admitted → ℕ
 places_needed view a = if starts_session a && nat_lt (count_by is_held view.items) view.numbers.active then 1 else 0
 
 -- how many commands move what it needs
-abbrev pub moves_for : Held → List (Option ℕ) → Admitted → List ℕ → ℕ
-moves_for held table a bytes = sessions.moves_of (named_sessions a) (places_needed held.sessions a) held.sessions
-    + objects.moves_of (named_objects table a) (slots_of a bytes) held.objects
+abbrev pub moves_for : ContextLimits → Held → List (Option ℕ) → Admitted → List ℕ → ℕ
+moves_for contexts held table a bytes = sessions.moves_of (named_sessions a) (places_needed held.sessions a) held.sessions
+    + objects.moves_of (named_objects table a) (slots_of contexts a bytes) held.objects
 
 -- the sessions that a command names are loaded, by no more commands than that takes, and used
 pub record MovesSessions {D A : Type 0} (seen : D → Seen) (old new : D) (held new_held : Held) (a : Admitted) (result : Result A SwapError) : Type 0 where
@@ -437,9 +451,9 @@ pub record MovesObjects {D A : Type 0} (seen : D → Seen) (old new : D) (held n
       ≡ all_used (without_first (objects.evictions needed slots held.objects) needed held.objects.order) needed)
 
 -- the orders of use once it is ready: those left that had to, and what it names was used
-pub record UsesNamed (held new_held : Held) (table : List (Option ℕ)) (a : Admitted) (bytes : List ℕ) : Type 0 where
+pub record UsesNamed (contexts : ContextLimits) (held new_held : Held) (table : List (Option ℕ)) (a : Admitted) (bytes : List ℕ) : Type 0 where
   pub objects : new_held.objects.order ≡ all_used
-      (without_first (objects.evictions (named_objects table a) (slots_of a bytes) held.objects) (named_objects table a) held.objects.order)
+      (without_first (objects.evictions (named_objects table a) (slots_of contexts a bytes) held.objects) (named_objects table a) held.objects.order)
       (named_objects table a)
   pub sessions : new_held.sessions.order ≡ all_used
       (without_first (sessions.evictions (named_sessions a) (places_needed held.sessions a) held.sessions)
@@ -465,47 +479,47 @@ saved_list_after a answer numbers =
     else if saves_session a answer then numbers ++ number_of_session (first_handle a) ∷ []
     else numbers
 
-pub record UsedLast (held new_held : Held) (table : List (Option ℕ)) (a : Admitted) (bytes answer : List ℕ) (item : ℕ) : Type 0 where
+pub record UsedLast (contexts : ContextLimits) (held new_held : Held) (table : List (Option ℕ)) (a : Admitted) (bytes answer : List ℕ) (item : ℕ) : Type 0 where
   pub ready : Held
-  pub named : UsesNamed held ready table a bytes
+  pub named : UsesNamed contexts held ready table a bytes
   pub objects : new_held.objects.order ≡ order_made (tells_object a answer) item ready.objects.order
   pub sessions : new_held.sessions.order ≡ order_after a answer ready.sessions.order
 
 -- a flush that was answered
-abbrev pub WasFlushed : Transmission → Type 0
-WasFlushed one = (code_of one.command ≡ CC_FLUSH_CONTEXT) × WasTaken one
+abbrev pub WasFlushed : ContextLimits → Transmission → Type 0
+WasFlushed contexts one = (code_of one.command ≡ CC_FLUSH_CONTEXT) × WasTaken contexts one
 
 -- so many flushes were sent, and nothing else: these came to the trace, the newest first
-pub record FlushesSome {D : Type 0} (seen : D → Seen) (count : ℕ) (old new : D) : Type 0 where
+pub record FlushesSome {D : Type 0} (contexts : ContextLimits) (seen : D → Seen) (count : ℕ) (old new : D) : Type 0 where
   pub sent : List Transmission
   pub trace_is : (seen new).trace ≡ sent ++ (seen old).trace
-  pub each : AllByRecursion WasFlushed sent
+  pub each : AllByRecursion (WasFlushed contexts) sent
   pub count_is : length sent ≡ count
 
 -- Before a client's own command so many orphans were flushed, and then commands of the broker's own were sent. Each was
 -- answered.
-pub record SentBefore {D : Type 0} (seen : D → Seen) (nobodys : ℕ) (old new : D) : Type 0 where
+pub record SentBefore {D : Type 0} (contexts : ContextLimits) (seen : D → Seen) (nobodys : ℕ) (old new : D) : Type 0 where
   pub cleared : D
-  pub flushed : FlushesSome seen nobodys old cleared
-  pub own : SendsOwn seen cleared new
-  pub all : AllByRecursion WasTaken own.sent
-  pub answered : (new ≡ old) ⊎ IsAnswered (asked_of (seen new)) (last_of (seen new))
+  pub flushed : FlushesSome contexts seen nobodys old cleared
+  pub own : SendsOwn contexts seen cleared new
+  pub all : AllByRecursion (WasTaken contexts) own.sent
+  pub answered : (new ≡ old) ⊎ IsAnswered contexts (asked_of (seen new)) (last_of (seen new))
 
 -- what a call sends that makes ready for a client's own command
-pub record MakesReady {D A : Type 0} (seen : D → Seen) (nobodys : ℕ) (old new : D) (result : Result A SwapError) : Type 0 where
-  pub asks : AsksSome seen old new result
-  pub before : OnOk result (SentBefore seen nobodys old new)
+pub record MakesReady {D A : Type 0} (contexts : ContextLimits) (seen : D → Seen) (nobodys : ℕ) (old new : D) (result : Result A SwapError) : Type 0 where
+  pub asks : AsksSome contexts seen old new result
+  pub before : OnOk result (SentBefore contexts seen nobodys old new)
 
 -- The command was the last that was sent, and once, over the slot of its object and the handles of its sessions, which were loaded.
 -- What came back is the reply, and the client has a new object or session where that tells one, or a saved session where that has its
 -- context. What was sent before it are commands of the broker's own: first the flushes of orphans. Each was answered. Whose
 -- each other session is stays
-pub record Ran {D : Type 0} (seen : D → Seen) (client : ℕ) (old new : D)
+pub record Ran {D : Type 0} (contexts : ContextLimits) (seen : D → Seen) (client : ℕ) (old new : D)
     (held new_held : Held) (table new_table : List (Option ℕ)) (a : Admitted) (bytes reply : List ℕ) : Type 0 where
-  pub sort : is_sent a bytes ≡ true
+  pub sort : is_sent contexts a bytes ≡ true
   pub before : D
-  pub own_before : SentBefore seen (orphan_count held) old before
-  pub unmoved : IsAtHand held table a bytes → before ≡ old
+  pub own_before : SentBefore contexts seen (orphan_count held) old before
+  pub unmoved : IsAtHand contexts held table a bytes → before ≡ old
   pub placed : IsPlaced table new_held.objects.items (first_handle a)
   pub mid : List (Option sessions.Item)
   pub loaded : AreLoaded (named_sessions a) mid
@@ -520,20 +534,20 @@ pub record Ran {D : Type 0} (seen : D → Seen) (client : ℕ) (old new : D)
   pub object_is : tells_object a answer ≡ true
       → item_at new_held.objects.items item ≡ new_item client (told_handle answer - TRANSIENT_FIRST)
   -- the broker takes it, by what it held: whether a context that the command loads is kept, and whether no new session can have the handle
-  pub taken : takes (loads_kept new_held.objects.items (asked_of (seen new))) (number_taken (record held.sessions { items = mid }) answer) (asked_of (seen new)) answer ≡ true
+  pub taken : takes contexts (loads_kept new_held.objects.items (asked_of (seen new))) (number_taken (record held.sessions { items = mid }) answer) (asked_of (seen new)) answer ≡ true
   pub sessions_are : new_held.sessions.items ≡ sessions_held_after client a answer mid
   pub left : new_held.sessions.left ≡ held.sessions.left
   pub nobodys : orphan_count new_held ≡ 0
-  pub used : IsCalm held → UsedLast held new_held table a bytes answer item
+  pub used : IsCalm held → UsedLast contexts held new_held table a bytes answer item
 
 -- ---- FlushContext
 
 -- what is sent for FlushContext: the flush of the session, or of the slot that the object is in, as the last command and once, and
 -- before it what flushes so many orphans; and else nothing
-abbrev pub IsFlushSent : {D : Type 0} (seen : D → Seen) → ℕ → Option ℕ → (old new : D) → Type 0
-IsFlushSent seen nobodys None old new = new ≡ old
-IsFlushSent seen nobodys (Some handle) old new =
-    (before : _) × FlushesSome seen nobodys old before × (nobodys ≡ 0 → before ≡ old)
+abbrev pub IsFlushSent : {D : Type 0} (contexts : ContextLimits) (seen : D → Seen) → ℕ → Option ℕ → (old new : D) → Type 0
+IsFlushSent contexts seen nobodys None old new = new ≡ old
+IsFlushSent contexts seen nobodys (Some handle) old new =
+    (before : _) × FlushesSome contexts seen nobodys old before × (nobodys ≡ 0 → before ≡ old)
     × (asked_of (seen new) ≡ flush_context_command handle) × (sent_of (seen new) ≡ one_more (sent_of (seen before))) × IsSome (last_of (seen new))
 
 -- FlushContext is refused with this code, whatever the machine keeps
@@ -560,10 +574,10 @@ pub record MayFlush (client handle : ℕ) (held : Held) (table : List (Option �
   pub there : flush_fault_of (tables_had client table held.sessions.items) handle ≡ None
 
 -- FlushContext is answered over what the client has, and the client loses what it names. It is flushed where it is in the device
-pub record Flushed {D : Type 0} (seen : D → Seen) (tables : Tables) (old new : D)
+pub record Flushed {D : Type 0} (contexts : ContextLimits) (seen : D → Seen) (tables : Tables) (old new : D)
     (held new_held : Held) (table new_table : List (Option ℕ)) (named : Result ℕ ℕ) (reply : List ℕ) : Type 0 where
   pub reply_is : reply ≡ flush_reply tables named
-  pub sent_is : IsFlushSent seen (orphan_count held) (flush_sent tables table held.objects.items named) old new
+  pub sent_is : IsFlushSent contexts seen (orphan_count held) (flush_sent tables table held.objects.items named) old new
   -- where anything was sent, there are no orphans
   pub nobodys : is_some (flush_sent tables table held.objects.items named) ≡ true → orphan_count new_held ≡ 0
   pub table_is : new_table ≡ flushed_table tables table named
@@ -571,9 +585,9 @@ pub record Flushed {D : Type 0} (seen : D → Seen) (tables : Tables) (old new :
   pub left : new_held.sessions.left ≡ held.sessions.left
 
 -- the same of a handle that the client may flush
-pub record Flushes {D : Type 0} (seen : D → Seen) (handle : ℕ) (old new : D)
+pub record Flushes {D : Type 0} (contexts : ContextLimits) (seen : D → Seen) (handle : ℕ) (old new : D)
     (held new_held : Held) (table new_table : List (Option ℕ)) : Type 0 where
-  pub sent_is : IsFlushSent seen (orphan_count held) (flushed_handle table held.objects.items handle) old new
+  pub sent_is : IsFlushSent contexts seen (orphan_count held) (flushed_handle table held.objects.items handle) old new
   pub nobodys : is_some (flushed_handle table held.objects.items handle) ≡ true → orphan_count new_held ≡ 0
   pub table_is : new_table ≡ table_without table handle
   pub owners : owned_handles new_held.sessions.items ≡ owned_handles (sessions_without held.sessions.items handle)
@@ -585,8 +599,8 @@ pub record Flushes {D : Type 0} (seen : D → Seen) (handle : ℕ) (old new : D)
 
 -- A command that isn't sent, and not FlushContext, is answered over what the client has, whatever the device keeps. Nothing else
 -- changes but that a session is in use again, and the client's, whose context was given back
-pub record Replied {D : Type 0} (client : ℕ) (old new : D) (held new_held : Held) (table new_table : List (Option ℕ)) (a : Admitted) (bytes reply : List ℕ) : Type 0 where
-  pub sort : is_sent a bytes ≡ false
+pub record Replied {D : Type 0} (contexts : ContextLimits) (client : ℕ) (old new : D) (held new_held : Held) (table new_table : List (Option ℕ)) (a : Admitted) (bytes reply : List ℕ) : Type 0 where
+  pub sort : is_sent contexts a bytes ≡ false
   pub other : (a.shape.row.code == CC_FLUSH_CONTEXT) ≡ false
   pub device_is : new ≡ old
   pub table_is : new_table ≡ table
@@ -595,18 +609,18 @@ pub record Replied {D : Type 0} (client : ℕ) (old new : D) (held new_held : He
   pub reply_is : (persist : Persist) → reply ≡ reply_of (own_answer persist client table held.sessions a bytes)
 
 -- what a client's command does: it is FlushContext, or is answered by the broker itself, or runs on the device
-abbrev pub Executes : {D : Type 0} (seen : D → Seen) (client : ℕ) (old new : D)
+abbrev pub Executes : {D : Type 0} (contexts : ContextLimits) (seen : D → Seen) (client : ℕ) (old new : D)
     (held new_held : Held) (table new_table : List (Option ℕ)) (a : Admitted) (bytes reply : List ℕ) → Type 0
-Executes seen client old new held new_held table new_table a bytes reply =
+Executes contexts seen client old new held new_held table new_table a bytes reply =
     (((a.shape.row.code == CC_FLUSH_CONTEXT) ≡ true)
-    × Flushed seen (tables_had client table held.sessions.items) old new held new_held table new_table (flush_of a bytes) reply)
-    ⊎ (Replied client old new held new_held table new_table a bytes reply
-    ⊎ Ran seen client old new held new_held table new_table a bytes reply)
+    × Flushed contexts seen (tables_had client table held.sessions.items) old new held new_held table new_table (flush_of a bytes) reply)
+    ⊎ (Replied contexts client old new held new_held table new_table a bytes reply
+    ⊎ Ran contexts seen client old new held new_held table new_table a bytes reply)
 
 -- a client's command was carried out: what it did, and where the device tells its state, the step of the plain machine that it is
-pub record CarriesOut {D : Type 0} (seen : D → Seen) (client : ℕ) (old new : D)
+pub record CarriesOut {D : Type 0} (contexts : ContextLimits) (seen : D → Seen) (client : ℕ) (old new : D)
     (held new_held : Held) (table new_table : List (Option ℕ)) (a : Admitted) (bytes reply : List ℕ) : Type 0 where
-  pub did : Executes seen client old new held new_held table new_table a bytes reply
+  pub did : Executes contexts seen client old new held new_held table new_table a bytes reply
   pub steps : StepsAs (λ state. client_step client state bytes (pick_of a reply)) (seen old).state (seen new).state held new_held table new_table reply
   pub whole : is_frame reply ≡ true
   -- where no renewal was due

@@ -5,6 +5,8 @@ use Rattle.tab_spec.specs.declared.TheConstants.{HT_TRANSIENT}
 use Rattle.tab_spec.specs.Admission.{Tables}
 use Rattle.tab_spec.specs.Object.{Object}
 use Rattle.tab_spec.specs.Shape.{number_of_session, octet_of}
+use Rattle.tab_spec.specs.declared.contexts.ContextLimits.{ContextLimits}
+use Rattle.tab_spec.specs.declared.contexts.TheConstants.{PROFILE_CONTEXTS}
 use Rattle.device_spec.specs.Slots.{SlotState}
 use Rattle.session_swap.specs.Items as sessions
 use Rattle.session_swap.specs.Items.{is_owner, is_user, owner_in}
@@ -13,18 +15,19 @@ use Rattle.history_spec.specs.declared.TheConstants.{CLIENT_OBJECTS}
 use Rattle.history_spec.specs.Table.{count_held, held_under, is_full, put_least, without_handle}
 use Rattle.world_spec.specs.World.{flush_fault}
 
--- what a client with this table may name: its own objects, and its sessions in use
-abbrev pub tables_seen : ℕ → List (Option ℕ) → List (Option sessions.Item) → Tables
-tables_seen client table sessions = record {
+-- what a client with this table may name over a device with these contexts: its own objects, and its sessions in use
+abbrev pub tables_seen : ContextLimits → ℕ → List (Option ℕ) → List (Option sessions.Item) → Tables
+tables_seen contexts client table sessions = record {
   has_object = λ handle. is_some (held_under table handle);
   has_session = λ handle. is_user client (owner_in sessions handle);
   is_full = is_full table;
+  contexts = contexts;
 }
 
--- what it has: also the sessions that it saved
+-- what it has: also the sessions that it saved. No context is loaded by it
 abbrev pub tables_had : ℕ → List (Option ℕ) → List (Option sessions.Item) → Tables
 tables_had client table sessions =
-    record (tables_seen client table sessions) { has_session = λ handle. is_owner client (owner_in sessions handle) }
+    record (tables_seen PROFILE_CONTEXTS client table sessions) { has_session = λ handle. is_owner client (owner_in sessions handle) }
 
 -- ---- which items are named
 

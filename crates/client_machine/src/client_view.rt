@@ -8,7 +8,7 @@ ghost use Rattle.client_machine.specs.Tables.{tables_seen};
 
 use fx_capability::{HeldSession, Holdings};
 use session_swap::Sessions;
-use tab_spec::{HT_HMAC_SESSION, HT_POLICY_SESSION};
+use tab_spec::{ContextLimits, HT_HMAC_SESSION, HT_POLICY_SESSION};
 use tab_wire::Tables;
 use virtual_handles::ClientTable;
 
@@ -16,6 +16,8 @@ use virtual_handles::ClientTable;
 #[derive(Clone, Copy)]
 pub struct ClientView<'a> {
     pub client: u32,
+    /// What the contexts of the device may be.
+    pub contexts: ContextLimits,
     pub table: &'a ClientTable,
     /// The sessions of all clients.
     pub sessions: &'a Sessions,
@@ -48,7 +50,7 @@ impl ClientView<'_> {
 
 // What it may name: its objects, and its sessions in use.
 impl Tables for ClientView<'_> {
-    ghost tables = { λ s. tables_seen s.client s.table.now.items s.sessions.now.items };
+    ghost tables = { λ s. tables_seen s.contexts s.client s.table.now.items s.sessions.now.items };
 
     fn has_object(&self, handle: u32) -> bool {
         self.table.find(handle).is_some()
@@ -60,6 +62,10 @@ impl Tables for ClientView<'_> {
 
     fn is_full(&self) -> bool {
         self.table.least().is_none()
+    }
+
+    fn contexts(&self) -> ContextLimits {
+        self.contexts
     }
 }
 

@@ -37,15 +37,16 @@ impl<D: Device> Machine<D> {
     /// couldn't be flushed. An error is the code of a wrong answer.
     pub fn drop_all(&mut self, client: u32, list: u32) -> Result<u32, u32>
         requires list { owner_at self.old.held.objects.owners list ≡ Some client }
-        requires may { MayMove call_contexts D.seen self.old.device self.old.held }
-        ensures ok { IfOk result (λ failed. Drops D.seen client self.old.device self.new.device
-            self.old.held self.new.held (set self.old.held.objects.owners list None) failed) }
+        requires may { MayMove call_contexts D.CONTEXTS D.seen self.old.device self.old.held }
+        ensures ok { IfOk result (λ failed. Drops D.CONTEXTS D.seen client self.old.device
+            self.new.device self.old.held self.new.held (set self.old.held.objects.owners list None)
+            failed) }
         ensures none { OnOk result (HasNone self.new.held.objects.items client
             × (list_any (is_owned client) self.new.held.sessions.items ≡ false)) }
         ensures others { KeepsOthers client self.old.held.sessions.items
             self.new.held.sessions.items }
         // No more orphans are added than transmissions failed, also after a wrong answer.
-        ensures disowns { Disowns D.seen self.old.device self.new.device self.old.held
+        ensures disowns { Disowns D.CONTEXTS D.seen self.old.device self.new.device self.old.held
             self.new.held result }
         ensures costs { SendsUpTo D.seen (close_bound client self.old.held)
             self.old.device self.new.device }
@@ -62,15 +63,16 @@ impl<D: Device> Machine<D> {
         steps: &mut Steps<L>,
     ) -> Result<u32, u32>
         requires list { owner_at self.old.held.objects.owners list ≡ Some client }
-        requires may { MayMove call_contexts D.seen self.old.device self.old.held }
-        ensures ok { IfOk result (λ failed. Drops D.seen client self.old.device self.new.device
-            self.old.held self.new.held (set self.old.held.objects.owners list None) failed) }
+        requires may { MayMove call_contexts D.CONTEXTS D.seen self.old.device self.old.held }
+        ensures ok { IfOk result (λ failed. Drops D.CONTEXTS D.seen client self.old.device
+            self.new.device self.old.held self.new.held (set self.old.held.objects.owners list None)
+            failed) }
         ensures none { OnOk result (HasNone self.new.held.objects.items client
             × (list_any (is_owned client) self.new.held.sessions.items ≡ false)) }
         ensures others { KeepsOthers client self.old.held.sessions.items
             self.new.held.sessions.items }
         // No more orphans are added than transmissions failed, also after a wrong answer.
-        ensures disowns { Disowns D.seen self.old.device self.new.device self.old.held
+        ensures disowns { Disowns D.CONTEXTS D.seen self.old.device self.new.device self.old.held
             self.new.held result }
         ensures costs { SendsUpTo D.seen (close_bound client self.old.held)
             self.old.device self.new.device }
@@ -92,14 +94,15 @@ impl<D: Device> Machine<D> {
         steps: &mut C,
     ) -> Result<u32, u32>
         requires list { owner_at self.old.held.objects.owners list ≡ Some client }
-        requires may { MayMove call_contexts D.seen self.old.device self.old.held }
-        ensures ok { IfOk result (λ failed. Drops D.seen client self.old.device self.new.device
-            self.old.held self.new.held (set self.old.held.objects.owners list None) failed) }
+        requires may { MayMove call_contexts D.CONTEXTS D.seen self.old.device self.old.held }
+        ensures ok { IfOk result (λ failed. Drops D.CONTEXTS D.seen client self.old.device
+            self.new.device self.old.held self.new.held (set self.old.held.objects.owners list None)
+            failed) }
         ensures none { OnOk result (HasNone self.new.held.objects.items client
             × (list_any (is_owned client) self.new.held.sessions.items ≡ false)) }
         ensures others { KeepsOthers client self.old.held.sessions.items
             self.new.held.sessions.items }
-        ensures disowns { Disowns D.seen self.old.device self.new.device self.old.held
+        ensures disowns { Disowns D.CONTEXTS D.seen self.old.device self.new.device self.old.held
             self.new.held result }
         ensures costs { SendsUpTo D.seen (close_bound client self.old.held)
             self.old.device self.new.device }
@@ -117,9 +120,9 @@ impl<D: Device> Machine<D> {
 
     // The sessions of a client.
     fn drop_sessions(&mut self, client: u32) -> Result<u32, u32>
-        requires may { MayMove call_contexts D.seen self.old.device self.old.held }
-        ensures ok { IfOk result (λ failed. Drops D.seen client self.old.device self.new.device
-            self.old.held self.new.held self.old.held.objects.owners failed) }
+        requires may { MayMove call_contexts D.CONTEXTS D.seen self.old.device self.old.held }
+        ensures ok { IfOk result (λ failed. Drops D.CONTEXTS D.seen client self.old.device
+            self.new.device self.old.held self.new.held self.old.held.objects.owners failed) }
         ensures none { OnOk result
             (list_any (is_owned client) self.new.held.sessions.items ≡ false) }
         ensures few { IfOk result (λ failed. failed ≤ SESSION_NUMBERS) }
@@ -127,7 +130,7 @@ impl<D: Device> Machine<D> {
         ensures others { KeepsOthers client self.old.held.sessions.items
             self.new.held.sessions.items }
         // No more orphans are added than transmissions failed, also after a wrong answer.
-        ensures disowns { Disowns D.seen self.old.device self.new.device self.old.held
+        ensures disowns { Disowns D.CONTEXTS D.seen self.old.device self.new.device self.old.held
             self.new.held result }
         ensures costs { SendsUpTo D.seen (count_by (is_owned client) self.old.held.sessions.items)
             self.old.device self.new.device }
@@ -153,8 +156,8 @@ impl<D: Device> Machine<D> {
         requires slots { self.old.held.objects.slots
             ≡ self.old.held.sessions.numbers.slots }
         requires settled { Settled (D.seen self.old.device).state self.old.held }
-        ensures ok { IfOk result (λ failed. Drops D.seen client self.old.device self.new.device
-            self.old.held self.new.held self.old.held.objects.owners failed) }
+        ensures ok { IfOk result (λ failed. Drops D.CONTEXTS D.seen client self.old.device
+            self.new.device self.old.held self.new.held self.old.held.objects.owners failed) }
         ensures count { OnOk result
             (count_by (is_owned client) self.new.held.sessions.items + 1
             ≡ count_by (is_owned client) self.old.held.sessions.items) }
@@ -162,7 +165,7 @@ impl<D: Device> Machine<D> {
         ensures rest { self.new.held.objects ≡ self.old.held.objects }
         ensures others { KeepsOthers client self.old.held.sessions.items
             self.new.held.sessions.items }
-        ensures disowns { Disowns D.seen self.old.device self.new.device self.old.held
+        ensures disowns { Disowns D.CONTEXTS D.seen self.old.device self.new.device self.old.held
             self.new.held result }
         ensures costs { SendsUpTo D.seen 1 self.old.device self.new.device }
     {
@@ -184,8 +187,8 @@ impl<D: Device> Machine<D> {
         requires settled { Settled (D.seen self.old.device).state self.old.held }
         ensures ok { IfOk result (λ failed. (client : ℕ)
             → IsDropped client self.old.held.sessions handle
-            → Drops D.seen client self.old.device self.new.device self.old.held self.new.held
-            self.old.held.objects.owners failed) }
+            → Drops D.CONTEXTS D.seen client self.old.device self.new.device self.old.held
+            self.new.held self.old.held.objects.owners failed) }
         ensures gone { OnOk result (self.new.held.sessions.left
             ≡ without_one (number_of_session handle) self.old.held.sessions.left) }
         ensures count { OnOk result ((client : ℕ)
@@ -202,7 +205,7 @@ impl<D: Device> Machine<D> {
         ensures listed { ListsThose is_left self.old.held.sessions.left
             self.old.held.sessions.items }
         // No more orphans are added than transmissions failed, also after a wrong answer.
-        ensures disowns { Disowns D.seen self.old.device self.new.device self.old.held
+        ensures disowns { Disowns D.CONTEXTS D.seen self.old.device self.new.device self.old.held
             self.new.held result }
         ensures costs { SendsUpTo D.seen 1 self.old.device self.new.device }
     {
@@ -228,15 +231,15 @@ impl<D: Device> Machine<D> {
         requires settled { Settled (D.seen self.old.device).state self.old.held }
         ensures ok { IfOk result (λ failed. (client : ℕ)
             → owner_at self.old.held.objects.owners list ≡ Some client
-            → Drops D.seen client self.old.device self.new.device self.old.held self.new.held
-            self.old.held.objects.owners failed) }
+            → Drops D.CONTEXTS D.seen client self.old.device self.new.device self.old.held
+            self.new.held self.old.held.objects.owners failed) }
         ensures none { OnOk result ((client : ℕ)
             → owner_at self.old.held.objects.owners list ≡ Some client
             → HasNone self.new.held.objects.items client) }
         ensures rest { (self.new.held.sessions ≡ self.old.held.sessions)
             × (self.new.held.objects.owners ≡ self.old.held.objects.owners) }
         // No more orphans are added than transmissions failed, also after a wrong answer.
-        ensures disowns { Disowns D.seen self.old.device self.new.device self.old.held
+        ensures disowns { Disowns D.CONTEXTS D.seen self.old.device self.new.device self.old.held
             self.new.held result }
         ensures costs { (client : ℕ) → owner_at self.old.held.objects.owners list ≡ Some client
             → SendsUpTo D.seen (own_residents client self.old.held.objects.items)
@@ -265,12 +268,12 @@ impl<D: Device> Machine<D> {
         requires settled { Settled (D.seen self.old.device).state self.old.held }
         ensures ok { OnOk result ((client : ℕ)
             → (objects.item_at self.old.held.objects.items item).client ≡ Some client
-            → DropsOne D.seen client self.old.device self.new.device
+            → DropsOne D.CONTEXTS D.seen client self.old.device self.new.device
             self.old.held self.new.held) }
         ensures rest { (self.new.held.sessions ≡ self.old.held.sessions)
             × (self.new.held.objects.owners ≡ self.old.held.objects.owners) }
         // No more orphans are added than transmissions failed, also after a wrong answer.
-        ensures disowns { Disowns D.seen self.old.device self.new.device self.old.held
+        ensures disowns { Disowns D.CONTEXTS D.seen self.old.device self.new.device self.old.held
             self.new.held result }
         ensures costs { (client : ℕ)
             → (objects.item_at self.old.held.objects.items item).client ≡ Some client

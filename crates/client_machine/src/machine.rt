@@ -6,7 +6,8 @@ ghost use Rattle.tab_spec.specs.declared.TheConstants.{CC_FLUSH_CONTEXT};
 ghost use Rattle.tab_spec.specs.Admission.{client_admitted};
 ghost use Rattle.tab_spec.specs.Frame.{is_frame};
 ghost use Rattle.tab_spec.specs.Shape.{makes_object_by, number_of_session};
-ghost use Rattle.device_spec.specs.Answers.{takes};
+ghost use Rattle.tab_spec.specs.declared.contexts.ContextLimits.{ContextLimits};
+ghost use Rattle.device_spec.specs.Answers.{profile_takes, takes};
 ghost use Rattle.device_spec.specs.Slots.{slot_step};
 ghost use Rattle.object_swap.specs.Items as objects;
 ghost use Rattle.object_swap.specs.Items.{is_vacant, no_item, owner_at};
@@ -85,11 +86,13 @@ fn loads_kept(objects: &Objects, command: &[u8]) -> bool
 }
 
 // Whether a command loads a context that is kept for an object, where the response refuses it. A
-// success is taken either way, so that a load that succeeds goes over no objects.
+// success is taken either way, so that a load that succeeds goes over no objects. This is so of any
+// contexts that the device may have.
 fn refuses_kept(objects: &Objects, command: &[u8], reply: &[u8]) -> bool
     requires { 10 ≤ length command.now }
-    ensures { (is_taken : Bool) → takes result is_taken command.now reply.now
-        ≡ takes (moves.loads_kept objects.now.items command.now)
+    ensures { (contexts : ContextLimits) (is_taken : Bool)
+        → takes contexts result is_taken command.now reply.now
+        ≡ takes contexts (moves.loads_kept objects.now.items command.now)
         is_taken command.now reply.now }
 {
     tab_wire::reported_code(reply) != RC_SUCCESS && loads_kept(objects, command)
@@ -105,19 +108,20 @@ fn send<D: Device>(
     requires frame { is_frame command.now ≡ true }
     requires told { IfSome (D.seen device.old).state
         (λ slots. let answer = (slot_step slots command.now).1 in
-        takes (moves.loads_kept held.now.objects.items command.now)
+        profile_takes (moves.loads_kept held.now.objects.items command.now)
         (number_taken held.now.sessions answer) command.now answer ≡ true) }
     ensures ok { OnOk result
-        (IsTaken D.seen device.old device.new held.now command.now reply.new) }
+        (IsTaken D.CONTEXTS D.seen device.old device.new held.now command.now reply.new) }
     ensures whole { OnOk result ((is_frame reply.new ≡ true) × (10 ≤ length reply.new)) }
-    ensures err { IfErr result (λ e. IsUntaken D.seen device.old device.new command.now e) }
+    ensures err { IfErr result
+        (λ e. IsUntaken D.CONTEXTS D.seen device.old device.new command.now e) }
 {
     if device.transmit(command, reply).is_err() {
         return Err(SwapError::Failed(DeviceFailed));
     }
     let is_kept = refuses_kept(&held.objects, command, reply.as_slice());
     let is_taken = is_number_taken(&held.sessions, reply.as_slice());
-    if !takes(command, reply.as_slice(), is_kept, is_taken) {
+    if !takes(D::CONTEXTS, command, reply.as_slice(), is_kept, is_taken) {
         return Err(SwapError::Answer(tab_wire::reported_code(reply.as_slice())));
     }
     Ok(())
@@ -162,16 +166,18 @@ impl<D: Device> Machine<D> {
         ensures most { length self.old.held.objects.items ≤ PLACES_MOST
             → length self.new.held.objects.items ≤ PLACES_MOST }
         ensures room { OnOk result
-            (HasRoomFor admitted.now bytes.now table.new.spare self.new.held.objects.items) }
+            (HasRoomFor D.CONTEXTS admitted.now bytes.now table.new.spare
+            self.new.held.objects.items) }
         ensures items { (self.new.held.objects.items ≡ self.old.held.objects.items)
             ⊎ ((list_any is_vacant self.old.held.objects.items ≡ false)
             × (self.new.held.objects.items ≡ self.old.held.objects.items ++ no_item ∷ [])) }
-        ensures none { makes_object_by (Ok admitted.now.shape) bytes.now ≡ false
+        ensures none { makes_object_by D.CONTEXTS (Ok admitted.now.shape) bytes.now ≡ false
             → self.new.held.objects.items ≡ self.old.held.objects.items }
         ensures err { OnErr result (self.new.held.objects.items ≡ self.old.held.objects.items) }
         // It fails only for a command that may make an object, where its table had to grow or no
         // place is vacant.
-        ensures grows { OnErr result ((makes_object_by (Ok admitted.now.shape) bytes.now ≡ true)
+        ensures grows { OnErr result
+            ((makes_object_by D.CONTEXTS (Ok admitted.now.shape) bytes.now ≡ true)
             × ((table.old.spare ≡ 0) ⊎ (list_any is_vacant self.old.held.objects.items ≡ false))) }
         ensures same { (self.new.device ≡ self.old.device)
             × (self.new.held.objects ≡ record self.old.held.objects
@@ -179,7 +185,7 @@ impl<D: Device> Machine<D> {
             × (self.new.held.sessions ≡ self.old.held.sessions)
             × (table.new.items ≡ table.old.items) }
     {
-        if !tab_wire::makes_object(&admitted.shape, bytes) {
+        if !tab_wire::makes_object(D::CONTEXTS, &admitted.shape, bytes) {
             return Ok(());
         }
         table.reserve()?;
@@ -197,31 +203,32 @@ impl<D: Device> Machine<D> {
         bytes: &[u8],
         reply: &mut Buffer,
     ) -> Result<(), SwapError>
-        requires admitted { client_admitted (tables_seen client table.old.items
+        requires admitted { client_admitted (tables_seen D.CONTEXTS client table.old.items
             self.old.held.sessions.items) bytes.now ≡ Ok admitted.now }
         requires params { admitted.now.auths.params ≤ length bytes.now }
-        requires room { HasRoomFor admitted.now bytes.now
+        requires room { HasRoomFor D.CONTEXTS admitted.now bytes.now
             table.old.spare self.old.held.objects.items }
         requires list { owner_at self.old.held.objects.owners list ≡ Some client }
         requires table { IsTable self.old.held.objects.items client table.old.items }
-        requires may { MayMove call_contexts D.seen self.old.device self.old.held }
-        ensures serves { Serves D.seen client self.old.device self.new.device self.old.held
-            self.new.held table.old.items table.new.items result }
+        requires may { MayMove call_contexts D.CONTEXTS D.seen self.old.device self.old.held }
+        ensures serves { Serves D.CONTEXTS D.seen client self.old.device self.new.device
+            self.old.held self.new.held table.old.items table.new.items result }
         ensures carries { OnOk result
-            (CarriesOut D.seen client self.old.device self.new.device self.old.held self.new.held
-            table.old.items table.new.items admitted.now bytes.now reply.new) }
+            (CarriesOut D.CONTEXTS D.seen client self.old.device self.new.device self.old.held
+            self.new.held table.old.items table.new.items admitted.now bytes.now reply.new) }
         // Where all that it names is at hand, it sends one command at most.
-        ensures at_hand { IsAtHand self.old.held table.old.items admitted.now bytes.now
+        ensures at_hand { IsAtHand D.CONTEXTS self.old.held table.old.items admitted.now bytes.now
             → SendsUpTo D.seen 1 self.old.device self.new.device }
         // Where there are no orphans and no renewal is due, it sends what moves that, and itself.
         ensures few { IsCalm self.old.held → SendsUpTo D.seen
-            (moves_for self.old.held table.old.items admitted.now bytes.now + 1)
+            (moves_for D.CONTEXTS self.old.held table.old.items admitted.now bytes.now + 1)
             self.old.device self.new.device }
     {
         if admitted.shape.row.code == CC_FLUSH_CONTEXT {
             return self.flush_context(table, client, admitted, bytes, reply);
         }
         if answer_alone(
+            D::CONTEXTS,
             &mut self.held.sessions,
             table,
             client,
@@ -245,25 +252,25 @@ impl<D: Device> Machine<D> {
         bytes: &[u8],
         reply: &mut Buffer,
     ) -> Result<(), SwapError>
-        requires admitted { client_admitted (tables_seen client table.old.items
+        requires admitted { client_admitted (tables_seen D.CONTEXTS client table.old.items
             self.old.held.sessions.items) bytes.now ≡ Ok admitted.now }
-        requires sort { is_sent admitted.now bytes.now ≡ true }
-        requires room { HasRoomFor admitted.now bytes.now
+        requires sort { is_sent D.CONTEXTS admitted.now bytes.now ≡ true }
+        requires room { HasRoomFor D.CONTEXTS admitted.now bytes.now
             table.old.spare self.old.held.objects.items }
         requires list { owner_at self.old.held.objects.owners list ≡ Some client }
         requires table { IsTable self.old.held.objects.items client table.old.items }
-        requires may { MayMove call_contexts D.seen self.old.device self.old.held }
-        ensures serves { Serves D.seen client self.old.device self.new.device self.old.held
-            self.new.held table.old.items table.new.items result }
+        requires may { MayMove call_contexts D.CONTEXTS D.seen self.old.device self.old.held }
+        ensures serves { Serves D.CONTEXTS D.seen client self.old.device self.new.device
+            self.old.held self.new.held table.old.items table.new.items result }
         ensures carries { OnOk result
-            (CarriesOut D.seen client self.old.device self.new.device self.old.held self.new.held
-            table.old.items table.new.items admitted.now bytes.now reply.new) }
+            (CarriesOut D.CONTEXTS D.seen client self.old.device self.new.device self.old.held
+            self.new.held table.old.items table.new.items admitted.now bytes.now reply.new) }
         // Where all that it names is at hand, it sends one command at most.
-        ensures at_hand { IsAtHand self.old.held table.old.items admitted.now bytes.now
+        ensures at_hand { IsAtHand D.CONTEXTS self.old.held table.old.items admitted.now bytes.now
             → SendsUpTo D.seen 1 self.old.device self.new.device }
         // Where there are no orphans and no renewal is due, it sends what moves that, and itself.
         ensures few { IsCalm self.old.held → SendsUpTo D.seen
-            (moves_for self.old.held table.old.items admitted.now bytes.now + 1)
+            (moves_for D.CONTEXTS self.old.held table.old.items admitted.now bytes.now + 1)
             self.old.device self.new.device }
     {
         prepare(
@@ -305,27 +312,28 @@ impl<D: Device> Machine<D> {
         bytes: &[u8],
         reply: &mut Buffer,
     ) -> Result<(), SwapError>
-        requires admitted { client_admitted (tables_seen client table.old.items
+        requires admitted { client_admitted (tables_seen D.CONTEXTS client table.old.items
             self.old.held.sessions.items) bytes.now ≡ Ok admitted.now }
         requires code { admitted.now.shape.row.code ≡ CC_FLUSH_CONTEXT }
         requires params { admitted.now.auths.params ≤ length bytes.now }
         requires table { IsTable self.old.held.objects.items client table.old.items }
-        requires may { MayMove call_contexts D.seen self.old.device self.old.held }
-        ensures serves { Serves D.seen client self.old.device self.new.device self.old.held
-            self.new.held table.old.items table.new.items result }
+        requires may { MayMove call_contexts D.CONTEXTS D.seen self.old.device self.old.held }
+        ensures serves { Serves D.CONTEXTS D.seen client self.old.device self.new.device
+            self.old.held self.new.held table.old.items table.new.items result }
         ensures carries { OnOk result
-            (CarriesOut D.seen client self.old.device self.new.device self.old.held self.new.held
-            table.old.items table.new.items admitted.now bytes.now reply.new) }
+            (CarriesOut D.CONTEXTS D.seen client self.old.device self.new.device self.old.held
+            self.new.held table.old.items table.new.items admitted.now bytes.now reply.new) }
         // Where all that it names is at hand, it sends one command at most.
-        ensures at_hand { IsAtHand self.old.held table.old.items admitted.now bytes.now
+        ensures at_hand { IsAtHand D.CONTEXTS self.old.held table.old.items admitted.now bytes.now
             → SendsUpTo D.seen 1 self.old.device self.new.device }
         // Where there are no orphans and no renewal is due, it sends what moves that, and itself.
         ensures few { IsCalm self.old.held → SendsUpTo D.seen
-            (moves_for self.old.held table.old.items admitted.now bytes.now + 1)
+            (moves_for D.CONTEXTS self.old.held table.old.items admitted.now bytes.now + 1)
             self.old.device self.new.device }
     {
         let seen = ClientView {
             client,
+            contexts: D::CONTEXTS,
             table,
             sessions: &self.held.sessions,
         };
@@ -346,12 +354,12 @@ impl<D: Device> Machine<D> {
     // sent.
     fn flush(&mut self, table: &mut ClientTable, handle: u32) -> Result<(), SwapError>
         requires there { (client : ℕ) × MayFlush client handle self.old.held table.old.items }
-        requires may { MayMove call_contexts D.seen self.old.device self.old.held }
+        requires may { MayMove call_contexts D.CONTEXTS D.seen self.old.device self.old.held }
         ensures serves { (client : ℕ) → MayFlush client handle self.old.held table.old.items
-            → Serves D.seen client self.old.device self.new.device self.old.held self.new.held
-            table.old.items table.new.items result }
-        ensures flushes { OnOk result (Flushes D.seen handle self.old.device self.new.device
-            self.old.held self.new.held table.old.items table.new.items) }
+            → Serves D.CONTEXTS D.seen client self.old.device self.new.device self.old.held
+            self.new.held table.old.items table.new.items result }
+        ensures flushes { OnOk result (Flushes D.CONTEXTS D.seen handle self.old.device
+            self.new.device self.old.held self.new.held table.old.items table.new.items) }
         ensures left { (client : ℕ) → MayFlush client handle self.old.held table.old.items
             → OnOk result (LeavesState (λ state. without_named state handle)
             (D.seen self.old.device).state (D.seen self.new.device).state self.old.held

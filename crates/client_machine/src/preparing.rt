@@ -24,7 +24,7 @@ use object_swap::Objects;
 use session_swap::refresh;
 use tab_bytes::Buffer;
 use tab_spec::{Admitted, CC_START_AUTH_SESSION, HT_TRANSIENT};
-use tab_wire::{is_session_handle, octet_of};
+use tab_wire::{is_session_handle, needs_slot, octet_of};
 use virtual_handles::ClientTable;
 
 // Flushes orphans.
@@ -41,8 +41,8 @@ pub(crate) fn flush_orphans<D: Device>(
     ensures costs { SendsUpTo D.seen (orphan_count held.old) device.old device.new }
     // One flush for each is all that was sent.
     ensures flushed { OnOk result
-        (FlushesSome D.seen (orphan_count held.old) device.old device.new) }
-    ensures asks { AsksSome D.seen device.old device.new result }
+        (FlushesSome D.CONTEXTS D.seen (orphan_count held.old) device.old device.new) }
+    ensures asks { AsksSome D.CONTEXTS D.seen device.old device.new result }
 {
     while let Some(handle) = held.sessions.orphan() {
         held.sessions.drop_session(device, handle, scratch)?;
@@ -54,7 +54,7 @@ pub(crate) fn flush_orphans<D: Device>(
 // Flushes orphans, and renews old contexts. It makes 65 contexts at most: one for each of 64
 // sessions, and one that frees a place.
 fn renew<D: Device>(held: &mut Held, device: &mut D, scratch: &mut Buffer) -> Result<(), SwapError>
-    requires may { MayMove call_contexts D.seen device.old held.old }
+    requires may { MayMove call_contexts D.CONTEXTS D.seen device.old held.old }
     ensures prepared { Prepares 65 D.seen device.old device.new held.old held.new }
     ensures clear { OnOk result (IsClear (D.seen device.new).state held.new) }
     ensures still { orphan_count held.old ≡ 0
@@ -67,7 +67,8 @@ fn renew<D: Device>(held: &mut Held, device: &mut D, scratch: &mut Buffer) -> Re
     // Where no renewal is due, nothing moves: each thing is as it was, or is gone.
     ensures stays { gap_kept held.old.sessions < renewal_gap held.old.sessions.numbers
         → Loses held.old held.new }
-    ensures sends { MakesReady D.seen (orphan_count held.old) device.old device.new result }
+    ensures sends { MakesReady D.CONTEXTS D.seen (orphan_count held.old)
+        device.old device.new result }
 {
     flush_orphans(held, device, scratch)?;
     refresh(&mut held.sessions, device, scratch)?;
@@ -104,7 +105,7 @@ fn load_sessions<D: Device>(
     admitted: &Admitted,
     scratch: &mut Buffer,
 ) -> Result<(), SwapError>
-    requires may { MayMove swap_contexts D.seen device.old held.old }
+    requires may { MayMove swap_contexts D.CONTEXTS D.seen device.old held.old }
     requires clear { IsClear (D.seen device.old).state held.old }
     requires named { AreNamed (named_sessions admitted.now) held.old.sessions.items }
     requires starts { starts_session admitted.now ≡ true → named_sessions admitted.now ≡ [] }
@@ -118,7 +119,7 @@ fn load_sessions<D: Device>(
         → device.new ≡ device.old }
     ensures costs { MovesSessions D.seen device.old device.new held.old held.new
         admitted.now result }
-    ensures asks { AsksSome D.seen device.old device.new result }
+    ensures asks { AsksSome D.CONTEXTS D.seen device.old device.new result }
 {
     let (count, named) = sessions_of(admitted);
     let starts = admitted.shape.row.code == CC_START_AUTH_SESSION;
@@ -159,7 +160,7 @@ fn bring<D: Device>(
 ) -> Result<(), SwapError>
     requires named { IfSome named (λ item. Names held.old.objects.items item) }
     requires few { new_slots ≤ 1 }
-    requires may { MayMove swap_contexts D.seen device.old held.old }
+    requires may { MayMove swap_contexts D.CONTEXTS D.seen device.old held.old }
     requires nobodys { orphan_count held.old ≡ 0 }
     ensures prepared { Prepares 3 D.seen device.old device.new held.old held.new }
     ensures rest { (objects.rest_of (D.seen device.new).state
@@ -174,7 +175,7 @@ fn bring<D: Device>(
         → device.new ≡ device.old }
     ensures costs { MovesObjects D.seen device.old device.new held.old held.new
         (listed named) new_slots result }
-    ensures asks { AsksSome D.seen device.old device.new result }
+    ensures asks { AsksSome D.CONTEXTS D.seen device.old device.new result }
 {
     match named {
         Some(item) => held
@@ -185,8 +186,8 @@ fn bring<D: Device>(
 }
 
 // Makes all ready for a client's command: flushes orphans, renews old contexts, loads what the
-// command names, makes room for what it may make, and writes it over the device's handles. The
-// order is the project's own.
+// command names, makes room for what it may make or build, and writes it over the device's handles.
+// The order is the project's own.
 pub(crate) fn prepare<D: Device>(
     held: &mut Held,
     device: &mut D,
@@ -197,13 +198,14 @@ pub(crate) fn prepare<D: Device>(
     scratch: &mut Buffer,
 ) -> Result<(), SwapError>
     requires admitted { (client : ℕ) × IsTable held.old.objects.items client table.now.items
-        × (client_admitted (tables_seen client table.now.items held.old.sessions.items) bytes.now
+        × (client_admitted
+        (tables_seen D.CONTEXTS client table.now.items held.old.sessions.items) bytes.now
         ≡ Ok admitted.now) }
-    requires may { MayMove call_contexts D.seen device.old held.old }
+    requires may { MayMove call_contexts D.CONTEXTS D.seen device.old held.old }
     ensures prepared { Prepares 100 D.seen device.old device.new held.old held.new }
-    ensures ready { OnOk result (IsPrepared (D.seen device.new).state held.new table.now.items
-        admitted.now bytes.now translated.new) }
-    ensures still { IsAtHand held.old table.now.items admitted.now bytes.now
+    ensures ready { OnOk result (IsPrepared D.CONTEXTS (D.seen device.new).state held.new
+        table.now.items admitted.now bytes.now translated.new) }
+    ensures still { IsAtHand D.CONTEXTS held.old table.now.items admitted.now bytes.now
         → device.new ≡ device.old }
     ensures costs { SendsUpTo D.seen
         (11 + orphan_count held.old
@@ -213,16 +215,18 @@ pub(crate) fn prepare<D: Device>(
         → StaysIn 1 (places_of admitted.now) None held.old held.new) }
     // Where there are no orphans and no renewal is due, it sends what moves that, and uses it.
     ensures few { IsCalm held.old → SendsUpTo D.seen
-        (moves_for held.old table.now.items admitted.now bytes.now) device.old device.new }
+        (moves_for D.CONTEXTS held.old table.now.items admitted.now bytes.now)
+        device.old device.new }
     ensures used { OnOk result (IsCalm held.old
-        → UsesNamed held.old held.new table.now.items admitted.now bytes.now) }
-    ensures sends { MakesReady D.seen (orphan_count held.old) device.old device.new result }
+        → UsesNamed D.CONTEXTS held.old held.new table.now.items admitted.now bytes.now) }
+    ensures sends { MakesReady D.CONTEXTS D.seen (orphan_count held.old)
+        device.old device.new result }
 {
     renew(held, device, scratch)?;
     load_sessions(held, device, admitted, scratch)?;
     let first = admitted.shape.handles[0];
     let named = item_of(table, first);
-    let new_slots = u8::from(tab_wire::makes_object(&admitted.shape, bytes));
+    let new_slots = u8::from(needs_slot(D::CONTEXTS, &admitted.shape, bytes));
     bring(held, device, named, new_slots, scratch)?;
     let handle = device_handle(&held.objects, named, first);
     tab_wire::with_handles(

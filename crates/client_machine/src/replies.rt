@@ -16,8 +16,8 @@ use fx_capability::{Viewed, client_capability};
 use session_swap::Sessions;
 use tab_bytes::{Buffer, Reader};
 use tab_spec::{
-    Admitted, CC_CONTEXT_LOAD, CC_CONTEXT_SAVE, CC_GET_CAPABILITY, MOST_BLOB_BYTES, RC_SIZE,
-    RC_SUCCESS, RC_VALUE, ST_NO_SESSIONS,
+    Admitted, CC_CONTEXT_LOAD, CC_CONTEXT_SAVE, CC_GET_CAPABILITY, ContextLimits, MOST_BLOB_BYTES,
+    RC_SIZE, RC_SUCCESS, RC_VALUE, ST_NO_SESSIONS,
 };
 use tab_values::{end_parameters, in_parameter, read_context};
 use tab_wire::{end_response, error_reply, is_session_handle, makes_object, start_response};
@@ -111,9 +111,10 @@ fn tell_capability(seen: &ClientView<'_>, params: &[u8], reply: &mut Buffer) -> 
     }
 }
 
-// Answers over what the client has, and sends nothing, where the command is one that isn't sent;
-// whether it is. FlushContext is answered elsewhere.
+// Answers over what the client has, and sends nothing, where the command is one that isn't sent to
+// a device with these contexts; whether it is. FlushContext is answered elsewhere.
 pub(crate) fn answer_alone(
+    contexts: ContextLimits,
     sessions: &mut Sessions,
     table: &ClientTable,
     client: u32,
@@ -124,7 +125,7 @@ pub(crate) fn answer_alone(
     requires other { (admitted.now.shape.row.code == CC_FLUSH_CONTEXT) ≡ false }
     requires params { admitted.now.auths.params ≤ length bytes.now }
     requires short { length table.now.items ≤ CLIENT_OBJECTS }
-    ensures sort { result ≡ not (is_sent admitted.now bytes.now) }
+    ensures sort { result ≡ not (is_sent contexts admitted.now bytes.now) }
     ensures reply { result ≡ true → (persist : Persist) → reply.new ≡ reply_of
         (own_answer persist client table.now.items sessions.old admitted.now bytes.now) }
     ensures whole { result ≡ true → is_frame reply.new ≡ true }
@@ -137,7 +138,7 @@ pub(crate) fn answer_alone(
     match admitted.shape.row.code {
         CC_CONTEXT_SAVE => refuse_surplus(params, reply),
         CC_CONTEXT_LOAD => {
-            if makes_object(&admitted.shape, bytes) {
+            if makes_object(contexts, &admitted.shape, bytes) {
                 return false;
             }
             load_context(sessions, client, params, reply);
@@ -146,6 +147,7 @@ pub(crate) fn answer_alone(
         CC_GET_CAPABILITY => {
             let seen = ClientView {
                 client,
+                contexts,
                 table,
                 sessions,
             };

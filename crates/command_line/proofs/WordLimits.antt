@@ -11,7 +11,7 @@ use Rattle.command_line.specs.declared.path_text.TheConstants.{PATH_MOST}
 use Rattle.command_line.specs.declared.words.TheConstants.{CONNECTIONS_MOST, LINES_MOST}
 use Rattle.command_line.specs.declared.words.Verb.{Verb}
 use Rattle.command_line.specs.declared.words.DeviceWord.{DeviceWord}
-use Rattle.command_line.specs.declared.words.DeviceWord.TheVariants.{Memory, Unix}
+use Rattle.command_line.specs.declared.words.DeviceWord.TheVariants.{Memory, Tpm, Unix}
 use Rattle.command_line.specs.declared.words.Plan.{Plan}
 use Rattle.command_line.specs.declared.words.Setting.{Setting}
 use Rattle.command_line.specs.declared.words.Setting.TheVariants.{Device, Socket, Connections, JournalBytes, Audit, Start, Lines}
@@ -89,6 +89,10 @@ unix_fits : (path : Option (List ℕ)) → IfSome path (λ p. HasFittingPath (Un
 unix_fits None fits = tt
 unix_fits (Some path) fits = fits
 
+tpm_fits : (path : Option (List ℕ)) → IfSome path (λ p. HasFittingPath (Tpm p)) → IfSome (option_map Tpm path) HasFittingPath
+tpm_fits None fits = tt
+tpm_fits (Some path) fits = fits
+
 path_fits : (word : List ℕ) → IfSome (path_of word) (λ path. HasFittingPath (Unix path))
 path_fits word =
     path_within_both (nat_le 1 (length word)) (nat_le (length word) PATH_MOST) word (λ is. grind arith) (λ is. grind arith)
@@ -102,7 +106,8 @@ device_fits word =
     let name = after_first is_colon word in
     either OptionFits (list_any is_colon word) _ None
     (either OptionFits (is_text kind (codes "memory")) _ _ (memory_fits (seed_of name))
-    (either OptionFits (is_text kind (codes "unix")) _ None (unix_fits (path_of name) (path_fits name)) tt))
+    (either OptionFits (is_text kind (codes "unix")) _ _ (unix_fits (path_of name) (path_fits name))
+    (either OptionFits (is_text kind (codes "tpm")) _ None (tpm_fits (path_of name) (path_fits name)) tt)))
     tt
 
 device_limit : (device : Option DeviceWord) → IfSome device HasFittingPath → IfSome (option_map Device device) HasLimit

@@ -12,7 +12,7 @@ use Rattle.command_line.specs.declared.path_text.TheConstants.{PATH_MOST}
 use Rattle.command_line.specs.declared.words.TheConstants.{CONNECTIONS_MOST, LINES_MOST}
 use Rattle.command_line.specs.declared.words.Verb.TheVariants.{Run, Serve, Workload}
 use Rattle.command_line.specs.declared.words.DeviceWord.{DeviceWord}
-use Rattle.command_line.specs.declared.words.DeviceWord.TheVariants.{Memory, Unix}
+use Rattle.command_line.specs.declared.words.DeviceWord.TheVariants.{Memory, Tpm, Unix}
 use Rattle.command_line.specs.declared.words.Plan.{Plan}
 use Rattle.command_line.specs.declared.words.Setting.{Setting}
 use Rattle.command_line.specs.declared.words.Setting.TheVariants.{Device, Socket, Connections, JournalBytes, Audit, Start, Lines}
@@ -49,12 +49,13 @@ abbrev pub device_by : List ℕ → List ℕ → Option DeviceWord
 device_by kind name =
     if is_text kind (codes "memory") then option_map Memory (seed_of name)
     else if is_text kind (codes "unix") then option_map Unix (path_of name)
+    else if is_text kind (codes "tpm") then option_map Tpm (path_of name)
     else None
 
 abbrev pub is_colon : ℕ → Bool
 is_colon byte = byte == 58
 
--- `memory:` and a seed, or `unix:` and a path
+-- `memory:` and a seed, or `unix:` or `tpm:` and a path
 abbrev pub device_of : List ℕ → Option DeviceWord
 device_of word =
     if list_any is_colon word then device_by (before_first is_colon word) (after_first is_colon word) else None
@@ -63,6 +64,7 @@ device_of word =
 abbrev pub HasFittingPath : DeviceWord → Type 0
 HasFittingPath (Memory seed) = ⊤
 HasFittingPath (Unix path) = (1 ≤ length path) × (length path ≤ PATH_MOST)
+HasFittingPath (Tpm path) = (1 ≤ length path) × (length path ≤ PATH_MOST)
 
 -- ---- options
 

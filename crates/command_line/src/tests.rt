@@ -138,13 +138,19 @@ const REFUSED: &str = "\
     run|--device=|M\n\
 ";
 
-// Words with devices behind a socket, and the paths of these.
+// Words with devices behind a socket, the sort of these, and their paths.
 const SOCKETS: &str = "\
-    run|--device|unix:/a => /a\n\
-    run|--device=unix:/a=b => /a=b\n\
-    run|--device|unix:- => -\n\
-    workload|--device=unix:/a|--start=7|--lines=20 => /a\n\
-    serve|--device|unix:/a:b|--socket=/run/t.sock|--connections=4 => /a:b\n\
+    run|--device|unix:/a => unix /a\n\
+    run|--device=unix:/a=b => unix /a=b\n\
+    run|--device|unix:- => unix -\n\
+    run|--device|unix:tpm:/a => unix tpm:/a\n\
+    run|--device|tpm:/a => tpm /a\n\
+    run|--device=tpm:/a=b => tpm /a=b\n\
+    run|--device|tpm:unix:/a => tpm unix:/a\n\
+    workload|--device=unix:/a|--start=7|--lines=20 => unix /a\n\
+    workload|--start=7|--device|tpm:/a|--lines=20 => tpm /a\n\
+    serve|--device|unix:/a:b|--socket=/run/t.sock|--connections=4 => unix /a:b\n\
+    serve|--device=tpm:-|--socket=/run/t.sock|--connections=4 => tpm -\n\
 ";
 
 // Devices that are none.
@@ -160,6 +166,11 @@ const SEEDS: &str = "\
     run|--device=unix:\n\
     run|--device|Unix:/a\n\
     run|--device|unix/a\n\
+    run|--device|tpm:\n\
+    run|--device=tpm:\n\
+    run|--device|Tpm:/a\n\
+    run|--device|tpm/a\n\
+    run|--device|tpm2:/a\n\
     run|--device|tcp:/a\n\
     run|--device|\n\
     run|--device|-\n\
@@ -310,8 +321,8 @@ fn shortened(path: &str) -> &str {
     if path == LONG { "P" } else { path }
 }
 
-// A plan over the device of that seed, as it stands in the list. Of one over another device, the
-// path of its socket.
+// A plan over the device of that seed, as it stands in the list. Of one over another device, its
+// sort and the path of its socket.
 fn text_of(alloc: Global, plan: &Plan) -> Result<String, AllocError> {
     match plan.device {
         DeviceWord::Memory(seed) => {
@@ -319,7 +330,14 @@ fn text_of(alloc: Global, plan: &Plan) -> Result<String, AllocError> {
                 return String::from_str(alloc, "another seed");
             }
         }
-        DeviceWord::Unix(path) => return String::from_str(alloc, path.as_str()),
+        DeviceWord::Unix(path) => {
+            let path = path.as_str();
+            return format!(in alloc; "unix {path}");
+        }
+        DeviceWord::Tpm(path) => {
+            let path = path.as_str();
+            return format!(in alloc; "tpm {path}");
+        }
     }
     let (job, connections, limit) = (plan.job, plan.connections, plan.limit);
     let (audit, start, lines) = (plan.audit, plan.start, plan.lines);

@@ -47,6 +47,8 @@ pub enum DeviceWord {
     Memory([u8; 32]),
     /// A device behind the Unix socket at this path, 1 to 100 bytes.
     Unix(PathText),
+    /// The same, where it is a TPM that needn't be of this project's profile.
+    Tpm(PathText),
 }
 
 /// What the words say. A field that the command has no option for is 0, false or empty.
@@ -104,8 +106,8 @@ pub(crate) struct Settings {
 /// once at most. The value of an option is the next word, or stands behind `=`. Other words are
 /// refused. It takes no memory.
 ///
-/// `--device` names a device: `memory:` and 64 hexadecimal digits, or `unix:` and the path of a
-/// socket, 1 to 100 bytes.
+/// `--device` names a device: `memory:` and 64 hexadecimal digits, or `unix:` or `tpm:` and the
+/// path of a socket, 1 to 100 bytes.
 ///
 /// - `run` plays a script. It needs `--device`.
 /// - `serve` serves connections to a Unix socket. It needs `--device`, `--socket` and
@@ -371,7 +373,7 @@ fn read_flag(name: &str) -> Option<Setting>
     None
 }
 
-// The device that a word names: `memory:` and a seed, or `unix:` and a path.
+// The device that a word names: `memory:` and a seed, or `unix:` or `tpm:` and a path.
 fn read_device(word: &str) -> Option<DeviceWord>
     ensures { result ≡ device_of word.now }
 {
@@ -379,6 +381,7 @@ fn read_device(word: &str) -> Option<DeviceWord>
     match kind {
         "memory" => read_seed(name.as_bytes()).map(DeviceWord::Memory),
         "unix" => read_path(name).map(DeviceWord::Unix),
+        "tpm" => read_path(name).map(DeviceWord::Tpm),
         _ => None,
     }
 }

@@ -10,7 +10,7 @@ use Rattle.tab_spec.specs.Reply.{error_reply}
 use mathlib.Core.List.{IsPrefix}
 use Rattle.history_spec.specs.Cancels.{cover}
 use Rattle.history_spec.specs.Entry.{Entry, HasRoomForClient, canceled_entry, close_entry, command_entry, fault_entry, is_close_kind, kept, open_entry, own, part_before}
-use Rattle.history_spec.specs.Told.{ToldBy, entry_of}
+use Rattle.history_spec.specs.Told.{ToldBy, entry_of, Limits}
 use Rattle.broker_lock.specs.declared.calls.Done.{Done}
 use Rattle.broker_lock.specs.declared.calls.Done.TheVariants as dones
 use Rattle.broker_lock.specs.declared.calls.Job.{Job}
@@ -20,7 +20,7 @@ use Rattle.broker_lock.specs.declared.calls.OpenClientError.TheVariants as open_
 use Rattle.broker_lock.specs.declared.calls.Told.{Told}
 use Rattle.broker_lock.specs.declared.calls.Told.TheVariants as tolds
 use Rattle.broker_lock.specs.Examples.{IsServed}
-use Rattle.broker_lock.specs.Known.{Fixed, IsLegalOver, Origin, knows}
+use Rattle.broker_lock.specs.Known.{Fixed, IsLegalOver, Origin, knows, limits_of}
 use Rattle.broker_lock.specs.Pass.{Acts, Does, MayAsk, PassView, done_wrong}
 use Rattle.broker_lock.specs.Serves.{IsAnswered, IsCanceled, IsFailed, Tells, TellsCanceled, tells_wrong}
 use Rattle.broker_lock.proofs.Knowing.{filter-weaker, knows_left, nothing_more, own-append, own_here, own_rest}
@@ -307,7 +307,7 @@ told_nothing : (fixed : Fixed) (wrong : Bool) (before after : List Entry) (clien
     → IsTold fixed wrong after client number command reply
 told_nothing fixed wrong before after client number command reply same told = subst (λ (h : List Entry). IsTold fixed wrong h client number command reply) (sym same) told
 
-told_without : (limit client number : ℕ) (history : List Entry) (command reply : List ℕ) → Before client number history → ToldBy None limit history command reply
+told_without : (limit : Limits) (client number : ℕ) (history : List Entry) (command reply : List ℕ) → Before client number history → ToldBy None limit history command reply
     → ToldBy (entry_of history client number) limit (part_before client number history) command reply
 told_without limit client number history command reply before told =
     subst (λ (found : Option Entry). ToldBy found limit (part_before client number history) command reply) (sym before.none)
@@ -338,12 +338,12 @@ told_as fixed wrong before after client number command reply tolds.Entered there
     let e = tells.e in
     let is = caused fixed.began client number command e tells.cause in
     let found : entry_of after client number ≡ Some e = ap (λ (h : List Entry). entry_of h client number) tells.entered ∙ found_last client number before e there.none is.client_is is.number_is in
-    inl (subst (λ (o : Option Entry). ToldBy o fixed.limit (part_before client number after) command reply) (sym found) (record { command_is = is.command_is; reply_is = sym tells.reply_is }))
+    inl (subst (λ (o : Option Entry). ToldBy o (limits_of fixed) (part_before client number after) command reply) (sym found) (record { command_is = is.command_is; reply_is = sym tells.reply_is }))
 told_as fixed wrong before after client number command reply tolds.Memory there is tells =
-    told_nothing fixed wrong before after client number command reply tells.0 (inl (told_without fixed.limit client number before command reply there (inl tells.1)))
+    told_nothing fixed wrong before after client number command reply tells.0 (inl (told_without (limits_of fixed) client number before command reply there (inl tells.1)))
 told_as fixed wrong before after client number command reply (tolds.JournalFull count most) there is tells =
     told_nothing fixed wrong before after client number command reply tells.same
-    (inl (told_without fixed.limit client number before command reply there (inr (record { reply_is = tells.reply_is; lacks = tells.lacks }))))
+    (inl (told_without (limits_of fixed) client number before command reply there (inr (record { reply_is = tells.reply_is; lacks = tells.lacks }))))
 told_as fixed wrong before after client number command reply tolds.Answer there is tells =
     told_nothing fixed wrong before after client number command reply tells.0 (inr (there.none, tells.1, tells.2, is))
 
@@ -352,11 +352,11 @@ pub told_canceled : (fixed : Fixed) (wrong : Bool) (before after : List Entry) (
     → TellsCanceled fixed before after client number upto command reply told → IsTold fixed wrong after client number command reply
 told_canceled fixed wrong before after client number upto command reply tolds.Entered there is tells =
     let found = found_canceled fixed.limit before after client number upto command reply there tells in
-    inl (subst (λ (o : Option Entry). ToldBy o fixed.limit (part_before client number after) command reply) (sym found) (record { command_is = refl; reply_is = refl }))
+    inl (subst (λ (o : Option Entry). ToldBy o (limits_of fixed) (part_before client number after) command reply) (sym found) (record { command_is = refl; reply_is = refl }))
 told_canceled fixed wrong before after client number upto command reply tolds.Memory there is tells = absurd tells
 told_canceled fixed wrong before after client number upto command reply (tolds.JournalFull count most) there is tells =
     told_nothing fixed wrong before after client number command reply tells.same
-    (inl (told_without fixed.limit client number before command reply there (inr (record { reply_is = tells.reply_is; lacks = tells.lacks }))))
+    (inl (told_without (limits_of fixed) client number before command reply there (inr (record { reply_is = tells.reply_is; lacks = tells.lacks }))))
 told_canceled fixed wrong before after client number upto command reply tolds.Answer there is tells =
     told_nothing fixed wrong before after client number command reply tells.0 (inr (there.none, tells.1, tells.2, is))
 

@@ -10,8 +10,8 @@ use Rattle.std.proofs.lemmas.List.Sums.{sum_by_push}
 use Rattle.history_spec.specs.declared.EntryKind.{EntryKind}
 use Rattle.history_spec.specs.declared.EntryKind.TheVariants.{Open, Command, Canceled, Fault, Close}
 use Rattle.history_spec.specs.Entry.{Clients, Entry, clients_of, is_after, is_close_kind, kept_by, own, part_before, present_by, reserved, without}
-use Rattle.history_spec.specs.Told.{AnswersFrom, IsToldFull, Told, ToldBy, entry_of}
-use Rattle.broker_lock.specs.Known.{Fixed, Origin}
+use Rattle.history_spec.specs.Told.{AnswersFrom, IsToldFull, Told, ToldBy, entry_of, Limits}
+use Rattle.broker_lock.specs.Known.{Fixed, Origin, limits_of}
 use Rattle.broker_lock.proofs.Knowing.{own-append}
 use Rattle.broker_lock.proofs.Orderly.{clients_of-push}
 use Rattle.connection_core.specs.Links.{AreRepliesFrom, DecideFrom, Decides, IsTold}
@@ -93,18 +93,18 @@ entry_stays history more client number found none is =
     or_none None = refl
     or_none (Some e) = refl
 
-told_by_stays : (limit client number : ℕ) (history more : List Entry) (command reply : List ℕ) (found : Option Entry)
+told_by_stays : (limit : Limits) (client number : ℕ) (history more : List Entry) (command reply : List ℕ) (found : Option Entry)
     → ToldBy found limit (part_before client number history) command reply → ToldBy found limit (part_before client number (history ++ more)) command reply
 told_by_stays limit client number history more command reply (Some e) told = told
 told_by_stays limit client number history more command reply None (inl lacked) = inl lacked
-told_by_stays limit client number history more command reply None (inr full) = inr (full_stays limit client number history more command reply full)
+told_by_stays limit client number history more command reply None (inr full) = inr (full_stays limit.bytes client number history more command reply full)
 
 told_stays : (fixed : Fixed) (wrong new_wrong : Bool) (history more : List Entry) (client number : ℕ) (command reply : List ℕ) → entry_of more client number ≡ None → (wrong ≡ true → new_wrong ≡ true)
     → IsTold fixed wrong history client number command reply → IsTold fixed new_wrong (history ++ more) client number command reply
 told_stays fixed wrong new_wrong history more client number command reply none rises (inl told) =
     let stays = entry_stays history more client number (entry_of history client number) none refl in
-    inl (subst (λ (found : Option Entry). ToldBy found fixed.limit (part_before client number (history ++ more)) command reply) (sym stays)
-    (told_by_stays fixed.limit client number history more command reply (entry_of history client number) told))
+    inl (subst (λ (found : Option Entry). ToldBy found (limits_of fixed) (part_before client number (history ++ more)) command reply) (sym stays)
+    (told_by_stays (limits_of fixed) client number history more command reply (entry_of history client number) told))
 told_stays fixed wrong new_wrong history more client number command reply none rises (inr answer) =
     inr (entry_stays history more client number None none answer.0, answer.1, answer.2, rises answer.3)
 
@@ -182,7 +182,7 @@ decide_push history client number (first ∷ loaded) word decide decides = (
 
 -- no wrong answer is told then
 told_of : (fixed : Fixed) (wrong : Bool) (base : Origin) (history : List Entry) (client number : ℕ) (command reply : List ℕ) → fixed.base ≡ Some base → IsTold fixed wrong history client number command reply
-    → Told history fixed.limit client number command reply
+    → Told history (limits_of fixed) client number command reply
 told_of fixed wrong base history client number command reply is (inl told) = told
 told_of fixed wrong base history client number command reply is (inr answer) = absurd (some_none base (sym is ∙ answer.2))
   where
@@ -190,7 +190,7 @@ told_of fixed wrong base history client number command reply is (inr answer) = a
     some_none b e = cc e
 
 pub answers_of : (fixed : Fixed) (wrong : Bool) (base : Origin) (history : List Entry) (client number : ℕ) (list : List (List ℕ)) (bytes : List ℕ) → fixed.base ≡ Some base
-    → AreRepliesFrom fixed wrong history client number list bytes → AnswersFrom history fixed.limit client number list bytes
+    → AreRepliesFrom fixed wrong history client number list bytes → AnswersFrom history (limits_of fixed) client number list bytes
 answers_of fixed wrong base history client number [] bytes is replies = replies
 answers_of fixed wrong base history client number (command ∷ list) bytes is replies = (
   replies.0,

@@ -12,7 +12,7 @@ use Rattle.history_spec.specs.Entry.{Entry, HasRoom, HasRoomForClient, canceled_
 use Rattle.history_spec.specs.Told.{Answers, Told, entry_of}
 use Rattle.link_port.specs.Port.{with_more}
 use Rattle.broker_lock.specs.Examples.{IsServed}
-use Rattle.broker_lock.specs.Known.{Fixed, IsLegalOver, IsUntold, Origin}
+use Rattle.broker_lock.specs.Known.{Fixed, IsLegalOver, IsUntold, Origin, limits_of}
 use Rattle.broker_lock.specs.Pass.{PassView}
 use Rattle.broker_lock.specs.Serves.{IsAnswered, IsFailed}
 use Rattle.cancel_words.specs.View.{IsZeroOrRaised, WordView, of_both}
@@ -55,7 +55,7 @@ AreEntriesFrom fixed history client number (command ∷ commands) entries =
 -- came, as it may over a device that doesn't tell its state
 abbrev pub IsTold : Fixed → (wrong : Bool) → List Entry → (client number : ℕ) (command reply : List ℕ) → Type 0
 IsTold fixed wrong history client number command reply =
-    Told history fixed.limit client number command reply
+    Told history (limits_of fixed) client number command reply
     ⊎ ((entry_of history client number ≡ None) × (reply ≡ error_reply RC_DEVICE_ANSWER) × IsUntold fixed × (wrong ≡ true))
 
 -- one such reply for each command, numbered from this number on, one after another
@@ -105,7 +105,7 @@ AreCanceledBy taken history client done = (number upto : ℕ) (e : Entry) → 1 
 pub record AnswersAll (fixed : Fixed) (wrong : Bool) (history : List Entry) (client done : ℕ) (list : List (List ℕ)) (output : List ℕ) : Type 0 where
   pub all : done ≡ length list
   pub replies : AreRepliesFrom fixed wrong history client 1 list output
-  pub answers : (base : Origin) → fixed.base ≡ Some base → Answers history fixed.limit client list output
+  pub answers : (base : Origin) → fixed.base ≡ Some base → Answers history (limits_of fixed) client list output
 
 -- a front of the last reply was written, behind all of those before it
 pub record CutsReply (fixed : Fixed) (wrong : Bool) (history : List Entry) (client done : ℕ) (list : List (List ℕ)) (output : List ℕ) : Type 0 where

@@ -8,6 +8,7 @@ use Rattle.std.proofs.lemmas.List.{map_push}
 use Rattle.std.proofs.lemmas.List.Sums.{sum_by_push}
 use Rattle.tab_spec.specs.declared.TheConstants.{RC_CANCELED}
 use Rattle.tab_spec.specs.Reply.{error_reply}
+use Rattle.tab_spec.specs.declared.contexts.TheConstants.{PROFILE_CONTEXTS}
 use Rattle.history_spec.specs.declared.EntryKind.TheVariants.{Open, Command, Canceled, Close}
 use Rattle.history_spec.specs.Entry.{Clients, Entry, HasRoomForClient, canceled_entry, clients_of, command_entry, kept_by, reserved, without, IsOpen}
 use Rattle.history_spec.specs.declared.Pick.TheVariants.{Nothing}
@@ -110,9 +111,9 @@ is_asked refused bytes known is passes same = (bytes_eq-Decides bytes known).0 (
 pub entered_as : {X : Type 0} (f : X → Entry) (view : BookView) (bad : Bool) (old between new : List X) (x : X) (opened present bytes limit client number place : ℕ) (command reply : List ℕ)
     → new ≡ between ++ x ∷ [] → between ≡ old → record { entries = map f old; limit = limit; wrong = bad } ≡ view → f x ≡ book_entry client number Command (Some place) → command ≡ asked → reply ≡ answer place
     → IsCounted (map f old) opened present bytes limit → bytes + 64 * present + 4172 ≤ limit
-    → IsEntered (record { base = None; limit = view.limit; began = 0 }) view.entries (map f new) client number command reply
+    → IsEntered (record { base = None; limit = view.limit; began = 0; contexts = PROFILE_CONTEXTS }) view.entries (map f new) client number command reply
 entered_as f view bad old between new x opened present bytes limit client number place command reply pushed same is entry command_is reply_is counted room =
-    subst (λ (v : BookView). IsEntered (record { base = None; limit = v.limit; began = 0 }) v.entries (map f new) client number command reply) is (record {
+    subst (λ (v : BookView). IsEntered (record { base = None; limit = v.limit; began = 0; contexts = PROFILE_CONTEXTS }) v.entries (map f new) client number command reply) is (record {
       e = book_entry client number Command (Some place);
       entered = ap (map f) (pushed ∙ ap (λ l. l ++ x ∷ []) same) ∙ map_push f old x ∙ ap (λ (e : Entry). map f old ++ e ∷ []) entry;
       cause = inl (ap (λ (c : List ℕ). command_entry client number Nothing c (answer place)) (sym command_is));

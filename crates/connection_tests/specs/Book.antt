@@ -7,6 +7,7 @@ use Rattle.history_spec.specs.declared.EntryKind.TheVariants.{Open, Command, Can
 use Rattle.history_spec.specs.Entry.{Entry, clients_of, close_entry, kept, open_entry}
 use Rattle.tab_spec.specs.declared.TheConstants.{RC_CANCELED}
 use Rattle.tab_spec.specs.Reply.{error_reply}
+use Rattle.tab_spec.specs.declared.contexts.TheConstants.{PROFILE_CONTEXTS}
 use Rattle.broker_lock.specs.Known.{Fixed, Origin}
 
 -- GetRandom of eight bytes
@@ -71,4 +72,4 @@ canceled_client = open_entry 0 ∷ book_entry 0 1 (Canceled 1) (Some 0) ∷ clos
 
 -- what a history stands on, with this limit
 abbrev pub with_limit : Option Origin → ℕ → Fixed
-with_limit base limit = record { base = base; limit = limit; began = 0 }
+with_limit base limit = record { base = base; limit = limit; began = 0; contexts = PROFILE_CONTEXTS }

@@ -1,5 +1,6 @@
 -- A history of three clients, for the worked examples of turns.
 use Rattle.std.specs.Prelude.{ℕ, List, [], ◌∷◌, ◌++◌, Option}
+use Rattle.tab_spec.specs.declared.contexts.TheConstants.{PROFILE_CONTEXTS}
 use Rattle.history_spec.specs.declared.Pick.TheVariants.{Nothing}
 use Rattle.history_spec.specs.Entry.{Entry, close_entry, command_entry, fault_entry, open_entry}
 use Rattle.broker_lock.specs.Known.{Fixed, Origin}
@@ -21,4 +22,4 @@ failed_entry faults = fault_entry 0 2 faults (5 ∷ []) (0x80 ∷ 0x01 ∷ 0 ∷
 
 -- what the history stands on, over a device that had counted three failures
 abbrev pub with_limit : Option Origin → ℕ → Fixed
-with_limit base limit = record { base = base; limit = limit; began = 3 }
+with_limit base limit = record { base = base; limit = limit; began = 3; contexts = PROFILE_CONTEXTS }

@@ -1,6 +1,7 @@
 //! The value of the tests: it keeps a history in memory, and there is no device.
 
 ghost use Rattle.std.specs.Prelude.{◌≡◌, ◌≤◌, [], ◌++◌, ◌∷◌, false, length, IfOk};
+ghost use Rattle.tab_spec.specs.declared.contexts.TheConstants.{PROFILE_CONTEXTS};
 ghost use Rattle.connection_tests.specs.Book.{answer};
 
 use broker_lock::{Closed, OpenClientError, Recorded, Serves, Told};
@@ -128,7 +129,12 @@ impl Recorded for Book {
 
     ghost legal = { λ _ _. ⊥ };
 
-    ghost fixed = { λ b. record { base = None; limit = b.limit; began = 0 } };
+    ghost fixed = { λ b. record {
+      base = None;
+      limit = b.limit;
+      began = 0;
+      contexts = PROFILE_CONTEXTS;
+    } };
 
     ghost wrong = { λ b. b.wrong };
 

@@ -2,6 +2,7 @@
 //! for one another.
 
 ghost use Rattle.std.specs.Prelude.{None, Some};
+ghost use Rattle.tab_spec.specs.declared.contexts.TheConstants.{PROFILE_CONTEXTS};
 
 use crate::book::Book;
 use broker_lock::{Closed, OpenClientError, Recorded, Serves, Told};
@@ -321,7 +322,12 @@ impl<R: Wait + Clock> Recorded for WatchedBook<'_, R> {
 
     ghost legal = { λ _ _. ⊥ };
 
-    ghost fixed = { λ b. record { base = None; limit = b.book.limit; began = 0 } };
+    ghost fixed = { λ b. record {
+      base = None;
+      limit = b.book.limit;
+      began = 0;
+      contexts = PROFILE_CONTEXTS;
+    } };
 
     ghost wrong = { λ b. b.book.wrong };
 

@@ -12,6 +12,8 @@ use Rattle.tab_spec.specs.Reply.{error_reply, response}
 use Rattle.tab_spec.specs.Session.{is_kind_number, kind_octet, kind_of}
 use Rattle.tab_spec.specs.Shape.{is_command_tag, number_of_session, octet_of}
 use Rattle.tab_spec.specs.Values.{Reading, number8, sized, sized_bytes, then_read}
+use Rattle.tab_spec.specs.declared.contexts.TheConstants.{PROFILE_CONTEXTS}
+use Rattle.tab_spec.specs.declared.contexts.ContextLimits.{ContextLimits}
 use Rattle.effect_spec.specs.Effect.{response_body}
 use Rattle.device_spec.specs.Answers.{answer_area, asks_of_handles, asks_of_properties, asks_of_tables, fits_handle, has_response_handle, is_context, is_error_form, is_hidden, is_of_tables, is_own, is_started_handle, is_success_form, is_whole, is_word, lists_asked, lists_handles, loads_object, loads_session, may_refuse, session_type_of, takes, tells_asked, word_at}
 use Rattle.tab_laws.proofs.ReadBack.{fixed_bytes_again, number8_again, number32_again, sized_again}
@@ -51,7 +53,7 @@ not_own : (startup save flush load capability session object tables : Bool) → 
 not_own startup save flush load capability session object tables a b c d e = rw (a, b, c, d, e) refl
 
 -- such a command is a client's
-pub own_none : (asked : List ℕ) → OfEffects (code_of asked) → is_own false asked ≡ false
+pub own_none : (asked : List ℕ) → OfEffects (code_of asked) → is_own PROFILE_CONTEXTS false asked ≡ false
 own_none asked of =
     not_own (code_of asked == CC_STARTUP) (code_of asked == CC_CONTEXT_SAVE) (code_of asked == CC_FLUSH_CONTEXT) (code_of asked == CC_CONTEXT_LOAD)
     (code_of asked == CC_GET_CAPABILITY) _ _ _ of.startup of.save of.flush of.load of.capability
@@ -80,18 +82,18 @@ error_form : (bad : Bool) (code : ℕ) → bad ≡ false → is_error_form (resp
 error_form bad code is = rw is refl
 
 -- a client's command may be refused with a plain code, whatever sessions clients have
-pub refusal_taken : (is_taken : Bool) (asked : List ℕ) (code : ℕ) → is_own false asked ≡ false → IsPlain code → takes false is_taken asked (error_reply code) ≡ true
+pub refusal_taken : (is_taken : Bool) (asked : List ℕ) (code : ℕ) → is_own PROFILE_CONTEXTS false asked ≡ false → IsPlain code → takes PROFILE_CONTEXTS false is_taken asked (error_reply code) ≡ true
 refusal_taken is_taken asked code own plain =
     let last = error_reply code in
     let parts = plain_parts (not (code == RC_SUCCESS)) (not (code == RC_BAD_TAG)) (not (is_hidden code)) (nat_lt code (2 ^ 32)) plain in
     let code_is : code_of last ≡ code =
     code_of_response (if code == RC_BAD_TAG then ST_RSP_COMMAND else ST_NO_SESSIONS) code [] (ltb-true code (2 ^ 32) parts.3) in
-    error_by (is_frame last) (code_of last == RC_SUCCESS) (is_error_form last) (may_refuse false asked (code_of last)) (is_success_form is_taken asked last)
+    error_by (is_frame last) (code_of last == RC_SUCCESS) (is_error_form last) (may_refuse PROFILE_CONTEXTS false asked (code_of last)) (is_success_form PROFILE_CONTEXTS is_taken asked last)
     (error_is_frame code) (ap (λ (c : ℕ). c == RC_SUCCESS) code_is ∙ not_yes (code == RC_SUCCESS) parts.0)
     (error_form (code == RC_BAD_TAG) code (not_yes (code == RC_BAD_TAG) parts.1))
-    (ap (may_refuse false asked) code_is ∙ may_by (is_own false asked) _ (not (is_hidden code)) own parts.2)
+    (ap (may_refuse PROFILE_CONTEXTS false asked) code_is ∙ may_by (is_own PROFILE_CONTEXTS false asked) _ (not (is_hidden code)) own parts.2)
 
-pub error_taken : (asked : List ℕ) (code : ℕ) → is_own false asked ≡ false → IsPlain code → takes false false asked (error_reply code) ≡ true
+pub error_taken : (asked : List ℕ) (code : ℕ) → is_own PROFILE_CONTEXTS false asked ≡ false → IsPlain code → takes PROFILE_CONTEXTS false false asked (error_reply code) ≡ true
 error_taken asked code own plain = refusal_taken false asked code own plain
 
 -- ---- successes
@@ -164,19 +166,19 @@ formed_as : (is_taken : Bool) (asked last : List ℕ) (named has headed : Bool) 
     → (headed
     && (not has || is_word (fits_handle is_taken asked) (word_at 10 last))
     && (not (tag_of asked == ST_SESSIONS) || is_whole (answer_area (drop (if has then 14 else 10) last)))
-    && (not (code_of asked == CC_CONTEXT_SAVE) || is_context asked (drop 10 last))) ≡ true
+    && (not (code_of asked == CC_CONTEXT_SAVE) || is_context PROFILE_CONTEXTS asked (drop 10 last))) ≡ true
 formed_as is_taken asked last named has headed is begins formed save =
     subst (λ (h : Bool). (headed
     && (not h || is_word (fits_handle is_taken asked) (word_at 10 last))
     && (not (tag_of asked == ST_SESSIONS) || is_whole (answer_area (drop (if h then 14 else 10) last)))
-    && (not (code_of asked == CC_CONTEXT_SAVE) || is_context asked (drop 10 last))) ≡ true) (sym is)
+    && (not (code_of asked == CC_CONTEXT_SAVE) || is_context PROFILE_CONTEXTS asked (drop 10 last))) ≡ true) (sym is)
     (form_of headed _ _ (code_of asked == CC_CONTEXT_SAVE) _ begins formed.handled formed.authorized save)
 
 pub success_taken : (is_kept is_taken : Bool) (asked last : List ℕ) (named : Bool) → is_frame last ≡ true → code_of last ≡ RC_SUCCESS
     → has_response_handle (row_of (code_of asked)) ≡ named → tag_of last ≡ tag_of asked → Formed is_taken asked last named
-    → (code_of asked == CC_CONTEXT_SAVE) ≡ false → AsksNoList asked → takes is_kept is_taken asked last ≡ true
+    → (code_of asked == CC_CONTEXT_SAVE) ≡ false → AsksNoList asked → takes PROFILE_CONTEXTS is_kept is_taken asked last ≡ true
 success_taken is_kept is_taken asked last named frame success has tag formed save none =
-    success_by (is_frame last) (code_of last == RC_SUCCESS) (is_success_form is_taken asked last) _ frame (eq-eqb (code_of last) RC_SUCCESS success)
+    success_by (is_frame last) (code_of last == RC_SUCCESS) (is_success_form PROFILE_CONTEXTS is_taken asked last) _ frame (eq-eqb (code_of last) RC_SUCCESS success)
     (formed_as is_taken asked last named (has_response_handle (row_of (code_of asked))) (lists_asked asked last && tag_of last == tag_of asked) has
     (headed_by asked last none tag) formed save)
 
@@ -257,8 +259,8 @@ fits_same : (is_taken : Bool) (asked : List ℕ) (word : Option ℕ) → (code_o
 fits_same is_taken asked None start = refl
 fits_same is_taken asked (Some handle) start = fits_by (code_of asked == CC_START_AUTH_SESSION) _ _ _ start
 
-refuse_same : (is_kept : Bool) (asked : List ℕ) (code : ℕ) → (code_of asked == CC_CONTEXT_LOAD) ≡ false → may_refuse is_kept asked code ≡ may_refuse true asked code
-refuse_same is_kept asked code load =
+refuse_same : (contexts : ContextLimits) (is_kept : Bool) (asked : List ℕ) (code : ℕ) → (code_of asked == CC_CONTEXT_LOAD) ≡ false → may_refuse contexts is_kept asked code ≡ may_refuse contexts true asked code
+refuse_same contexts is_kept asked code load =
     ap (λ (own : Bool). if own then code_of asked == CC_STARTUP && code == RC_INITIALIZE else not (is_hidden code))
     (own_same is_kept (code_of asked == CC_STARTUP) (code_of asked == CC_CONTEXT_SAVE) (code_of asked == CC_FLUSH_CONTEXT) (code_of asked == CC_CONTEXT_LOAD) _ _
     (asks_of_tables asked) load)
@@ -268,13 +270,13 @@ takes_by : (frame success headed named handled first authorized saved form refus
     ≡ (frame && (if success then headed && (not named || first) && authorized && saved else form && second))
 takes_by frame success headed named handled first authorized saved form refuse second a b = rw (a, b) refl
 
-pub takes_same : (is_kept is_taken : Bool) (asked last : List ℕ) → (code_of asked == CC_CONTEXT_LOAD) ≡ false → (code_of asked == CC_START_AUTH_SESSION) ≡ false
-    → takes is_kept is_taken asked last ≡ takes true true asked last
-takes_same is_kept is_taken asked last load start =
+pub takes_same : (contexts : ContextLimits) (is_kept is_taken : Bool) (asked last : List ℕ) → (code_of asked == CC_CONTEXT_LOAD) ≡ false → (code_of asked == CC_START_AUTH_SESSION) ≡ false
+    → takes contexts is_kept is_taken asked last ≡ takes contexts true true asked last
+takes_same contexts is_kept is_taken asked last load start =
     takes_by (is_frame last) (code_of last == RC_SUCCESS) (lists_asked asked last && tag_of last == tag_of asked) (has_response_handle (row_of (code_of asked)))
     (is_word (fits_handle is_taken asked) (word_at 10 last)) (is_word (fits_handle true asked) (word_at 10 last)) _ _ (is_error_form last)
-    (may_refuse is_kept asked (code_of last)) (may_refuse true asked (code_of last)) (fits_same is_taken asked (word_at 10 last) start)
-    (refuse_same is_kept asked (code_of last) load)
+    (may_refuse contexts is_kept asked (code_of last)) (may_refuse contexts true asked (code_of last)) (fits_same is_taken asked (word_at 10 last) start)
+    (refuse_same contexts is_kept asked (code_of last) load)
 
 -- ---- a broker that holds less takes more
 
@@ -290,12 +292,12 @@ startup_before : (startup save flush session initialize : Bool) → (startup && 
 startup_before true save flush session initialize e = refl
 startup_before false save flush session initialize e = absurd cc
 
-may_refuse_more : (is_kept : Bool) (asked : List ℕ) (code : ℕ) → may_refuse is_kept asked code ≡ true → may_refuse false asked code ≡ true
-may_refuse_more is_kept asked code e =
+may_refuse_more : (contexts : ContextLimits) (is_kept : Bool) (asked : List ℕ) (code : ℕ) → may_refuse contexts is_kept asked code ≡ true → may_refuse contexts false asked code ≡ true
+may_refuse_more contexts is_kept asked code e =
     let startup = code_of asked == CC_STARTUP in
     let save = code_of asked == CC_CONTEXT_SAVE in
     let flush = code_of asked == CC_FLUSH_CONTEXT in
-    refuse_more (startup || save || flush || loads_session asked) (loads_object asked) is_kept (asks_of_tables asked) (startup && code == RC_INITIALIZE)
+    refuse_more (startup || save || flush || loads_session asked) (loads_object contexts asked) is_kept (asks_of_tables asked) (startup && code == RC_INITIALIZE)
     (not (is_hidden code)) (startup_before startup save flush (loads_session asked) (code == RC_INITIALIZE)) e
 
 untaken : (kind octet number is_taken : Bool) → (kind && octet && number && not is_taken) ≡ true → (kind && octet && number && not false) ≡ true
@@ -332,9 +334,33 @@ takes_both true true true true true first authorized saved form refuse second a 
 takes_both true false headed named handled first authorized saved true refuse second a b e = b e
 takes_both true false headed named handled first authorized saved false refuse second a b e = absurd cc
 
-pub takes_more : (is_kept is_taken : Bool) (asked last : List ℕ) → takes is_kept is_taken asked last ≡ true → takes false false asked last ≡ true
-takes_more is_kept is_taken asked last e =
+pub takes_more : (contexts : ContextLimits) (is_kept is_taken : Bool) (asked last : List ℕ) → takes contexts is_kept is_taken asked last ≡ true → takes contexts false false asked last ≡ true
+takes_more contexts is_kept is_taken asked last e =
     takes_both (is_frame last) (code_of last == RC_SUCCESS) (lists_asked asked last && tag_of last == tag_of asked) (has_response_handle (row_of (code_of asked)))
     (is_word (fits_handle is_taken asked) (word_at 10 last)) (is_word (fits_handle false asked) (word_at 10 last)) _ _ (is_error_form last)
-    (may_refuse is_kept asked (code_of last)) (may_refuse false asked (code_of last)) (fits_more is_taken asked (word_at 10 last))
-    (may_refuse_more is_kept asked (code_of last)) e
+    (may_refuse contexts is_kept asked (code_of last)) (may_refuse contexts false asked (code_of last)) (fits_more is_taken asked (word_at 10 last))
+    (may_refuse_more contexts is_kept asked (code_of last)) e
+
+-- ---- what the contexts may be matters to ContextSave and ContextLoad alone
+
+own_as : (startup save flush load session first second kept tables : Bool) → load ≡ false
+    → (startup || save || flush || (load && session) || ((load && first) && kept) || tables)
+    ≡ (startup || save || flush || (load && session) || ((load && second) && kept) || tables)
+own_as startup save flush load session first second kept tables is = rw is refl
+
+saved_as : (save first second : Bool) → save ≡ false → (not save || first) ≡ (not save || second)
+saved_as save first second is = rw is refl
+
+takes_where : (frame success formed saved second form refuse refuse_second : Bool) → saved ≡ second → refuse ≡ refuse_second
+    → (frame && (if success then formed && saved else form && refuse)) ≡ (frame && (if success then formed && second else form && refuse_second))
+takes_where frame success formed saved second form refuse refuse_second a b = rw (a, b) refl
+
+pub takes_of_any : (contexts : ContextLimits) (is_kept is_taken : Bool) (asked last : List ℕ) → (code_of asked == CC_CONTEXT_SAVE) ≡ false
+    → (code_of asked == CC_CONTEXT_LOAD) ≡ false → takes contexts is_kept is_taken asked last ≡ takes PROFILE_CONTEXTS is_kept is_taken asked last
+takes_of_any contexts is_kept is_taken asked last save load =
+    let own : is_own contexts is_kept asked ≡ is_own PROFILE_CONTEXTS is_kept asked =
+    own_as (code_of asked == CC_STARTUP) (code_of asked == CC_CONTEXT_SAVE) (code_of asked == CC_FLUSH_CONTEXT) (code_of asked == CC_CONTEXT_LOAD) _ _ _ is_kept
+    (asks_of_tables asked) load in
+    takes_where (is_frame last) (code_of last == RC_SUCCESS) _ _ _ (is_error_form last) _ _
+    (saved_as (code_of asked == CC_CONTEXT_SAVE) (is_context contexts asked (drop 10 last)) (is_context PROFILE_CONTEXTS asked (drop 10 last)) save)
+    (ap (λ (own : Bool). if own then code_of asked == CC_STARTUP && code_of last == RC_INITIALIZE else not (is_hidden (code_of last))) own)

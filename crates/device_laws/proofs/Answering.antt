@@ -19,6 +19,7 @@ use Rattle.tab_spec.specs.Reply.{error_reply, response}
 use Rattle.tab_spec.specs.Session.{Session, IsSession}
 use Rattle.tab_spec.specs.Shape.{IsShape, is_command_tag, known_row, octet_of, row_in}
 use Rattle.tab_spec.specs.Values.{AreBytes}
+use Rattle.tab_spec.specs.declared.contexts.TheConstants.{PROFILE_CONTEXTS}
 use Rattle.effect_spec.specs.Authorization.{Entity}
 use Rattle.effect_spec.specs.Nv.{undefined_index}
 use Rattle.effect_spec.specs.Operands.{Operand, Operands, Created, handles_left, named_session, new_object, new_session, nothing, number_of, object_in, operand_at, policy_session_in, session_left, command_auth}
@@ -190,7 +191,7 @@ record Asked (bytes : List ℕ) (tag : ℕ) (named : Bool) : Type 0 where
   has : has_response_handle (row_of (code_of bytes)) ≡ named
 
 abbrev Taken : List ℕ → List ℕ → Type 0
-Taken bytes reply = is_frame reply ≡ true → takes false false bytes reply ≡ true
+Taken bytes reply = is_frame reply ≡ true → takes PROFILE_CONTEXTS false false bytes reply ≡ true
 
 refused_taken : (bytes : List ℕ) (code : ℕ) → OfEffects (code_of bytes) → IsPlain code → Taken bytes (error_reply code)
 refused_taken bytes code of plain frame = error_taken bytes code (own_none bytes of) plain
@@ -336,7 +337,7 @@ asked_as bytes row shape found row_is tag_is of =
     }
 
 row_taken : (slots : SlotState) (bytes : List ℕ) (row : CommandRow) (a : Admitted) → IsSlots slots → slots.started ≡ true → row_in row_of bytes ≡ Ok row
-    → admitted_by (slot_tables slots) (Ok row) bytes ≡ Ok a → is_of_effects a.shape.row.code ≡ true → takes false false bytes (slot_step slots bytes).1 ≡ true
+    → admitted_by (slot_tables slots) (Ok row) bytes ≡ Ok a → is_of_effects a.shape.row.code ≡ true → takes PROFILE_CONTEXTS false false bytes (slot_step slots bytes).1 ≡ true
 row_taken slots bytes row a sound started known admitted is =
     let of = of_effects a.shape.row.code is in
     let found = found_with (is_frame bytes) (is_command_tag (tag_of bytes)) bytes row refl known in
@@ -348,13 +349,13 @@ row_taken slots bytes row a sound started known admitted is =
     subst (λ (step : Step). Taken bytes step.1) (sym steps) (run_taken slots a.shape a.auths bytes sound shape_is asked of) (step_replies slots bytes sound)
 
 taken_by : (slots : SlotState) (bytes : List ℕ) (row : Result CommandRow ℕ) (a : Admitted) → row_in row_of bytes ≡ row → IsSlots slots → slots.started ≡ true
-    → admitted_by (slot_tables slots) row bytes ≡ Ok a → is_of_effects a.shape.row.code ≡ true → takes false false bytes (slot_step slots bytes).1 ≡ true
+    → admitted_by (slot_tables slots) row bytes ≡ Ok a → is_of_effects a.shape.row.code ≡ true → takes PROFILE_CONTEXTS false false bytes (slot_step slots bytes).1 ≡ true
 taken_by slots bytes (Err code) a known sound started admitted is = absurd cc
 taken_by slots bytes (Ok row) a known sound started admitted is = row_taken slots bytes row a sound started known admitted is
 
 pub answers_rightly : (slots : SlotState) (bytes : List ℕ) (a : Admitted) → IsSlots slots → slots.started ≡ true
     → admitted_by (slot_tables slots) (row_in row_of bytes) bytes ≡ Ok a → is_of_effects a.shape.row.code ≡ true
-    → takes false false bytes (slot_step slots bytes).1 ≡ true
+    → takes PROFILE_CONTEXTS false false bytes (slot_step slots bytes).1 ≡ true
 answers_rightly slots bytes a sound started admitted is = taken_by slots bytes (row_in row_of bytes) a refl sound started admitted is
 
 -- ---- the commands of clients

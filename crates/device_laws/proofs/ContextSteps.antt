@@ -19,6 +19,7 @@ use Rattle.tab_spec.specs.Reply.{error_reply}
 use Rattle.tab_spec.specs.Object.{Object}
 use Rattle.tab_spec.specs.Values.{Reading, number32, require}
 use Rattle.tab_spec.specs.Parameters.{in_parameter, when_read}
+use Rattle.tab_spec.specs.declared.contexts.TheConstants.{PROFILE_CONTEXTS}
 use Rattle.effect_spec.specs.Contexts.{Context, context_of, opened_object, opened_session, blob_fits}
 use Rattle.device_spec.specs.ContextCommands.{command_bytes, context_load_command, context_save_command, flush_context_command}
 use Rattle.device_spec.specs.Slots.{SlotState, Step, context_load, context_object, context_save, flush_context, in_slot, is_free, loaded_session, object_at, object_flushed, object_loaded, object_saved, session_flushed, session_loaded, session_saved, slot_admitted, slot_row, slot_step, slot_tables, step_by}
@@ -171,7 +172,7 @@ load_passed = Ok (record { shape = load_shape; auths = record { count = 0; auths
 load_shaped : (slots : SlotState) (context : List ℕ)
     → let bytes = context_load_command context in
     slot_admitted slots (admitted_by (slot_tables slots) (Ok load_row) bytes) bytes
-    ≡ slot_admitted slots (unless_fault (if loads_object bytes && (slot_tables slots).is_full then Some RC_OBJECT_MEMORY else None) load_passed) bytes
+    ≡ slot_admitted slots (unless_fault (if loads_object PROFILE_CONTEXTS bytes && (slot_tables slots).is_full then Some RC_OBJECT_MEMORY else None) load_passed) bytes
 unfolding auths_of
 load_shaped slots context = refl
 
@@ -187,13 +188,13 @@ room_by false full is = refl
 
 -- where there is room for an object, or the context is of none
 pub load_goes : (slots : SlotState) (context : List ℕ) → slots.started ≡ true → length context ≤ 4086
-    → (loads_object (context_load_command context) && (slot_tables slots).is_full) ≡ false
+    → (loads_object PROFILE_CONTEXTS (context_load_command context) && (slot_tables slots).is_full) ≡ false
     → slot_step slots (context_load_command context) ≡ step_by slots (context_load slots context)
 load_goes slots context started fits room =
     let bytes = context_load_command context in
     step_goes slots load_row bytes started (row_known CC_CONTEXT_LOAD load_row context fits refl refl)
     ∙ load_shaped slots context
-    ∙ load_admitted slots context (loads_object bytes && (slot_tables slots).is_full) room
+    ∙ load_admitted slots context (loads_object PROFILE_CONTEXTS bytes && (slot_tables slots).is_full) room
 
 abbrev pub loaded_by : SlotState → List ℕ → Reading Context → Result Step ℕ
 loaded_by slots params read =
@@ -228,5 +229,5 @@ pub object_load_step : (slots : SlotState) (context : List ℕ) (o : Object) →
     → list_any is_free slots.slots ≡ true → object_at slots None (Some context) ≡ Some o
     → slot_step slots (context_load_command context) ≡ step_by slots (object_loaded slots (Some o))
 object_load_step slots context o started fits free is =
-    load_goes slots context started fits (room_by (loads_object (context_load_command context)) (slot_tables slots).is_full (ap not free))
+    load_goes slots context started fits (room_by (loads_object PROFILE_CONTEXTS (context_load_command context)) (slot_tables slots).is_full (ap not free))
     ∙ ap (step_by slots) (loaded_object slots context (context_of context) o is)

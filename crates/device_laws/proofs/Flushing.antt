@@ -9,6 +9,7 @@ use Rattle.tab_spec.specs.Object.{Object}
 use Rattle.tab_spec.specs.Reply.{response}
 use Rattle.tab_spec.specs.Shape.{octet_of}
 use Rattle.tab_spec.specs.Values.{AreBytes}
+use Rattle.tab_spec.specs.declared.contexts.TheConstants.{PROFILE_CONTEXTS}
 use Rattle.device_spec.specs.Answers.{takes}
 use Rattle.device_spec.specs.ContextCommands.{flush_context_command}
 use Rattle.device_spec.specs.Remains.{emptied, object_handles, remains, session_handles}
@@ -41,7 +42,7 @@ flushed_as : (slots left : SlotState) (handle : ℕ) (rest : List ℕ) → IsSlo
     → slot_step slots (flush_context_command handle) ≡ (left, response ST_NO_SESSIONS RC_SUCCESS []) → remains left ≡ rest → emptied left ≡ emptied slots
     → IsFlushed slots handle rest
 flushed_as slots left handle rest sound steps rest_is same = record {
-  taken = ap (λ (step : Step). takes true true (flush_context_command handle) step.1) steps ∙ flushed_form handle;
+  taken = ap (λ (step : Step). takes PROFILE_CONTEXTS true true (flush_context_command handle) step.1) steps ∙ flushed_form handle;
   sound = step_keeps slots (flush_context_command handle) sound (flush_bytes handle);
   rest_is = ap (λ (step : Step). remains step.0) steps ∙ rest_is;
   same = ap (λ (step : Step). emptied step.0) steps ∙ same;

@@ -8,6 +8,7 @@ use Rattle.std.proofs.lemmas.Nat.{from_be_bytes-to_be_bytes_4}
 use Rattle.tab_spec.specs.declared.TheConstants.{ST_NO_SESSIONS, RC_SUCCESS}
 use Rattle.tab_spec.specs.Frame.{is_frame}
 use Rattle.tab_spec.specs.Reply.{response}
+use Rattle.tab_spec.specs.declared.contexts.TheConstants.{PROFILE_CONTEXTS}
 use Rattle.effect_spec.specs.Capabilities.{joined_items}
 use Rattle.device_spec.specs.Answers.{handles_from, is_list_from, is_success_form, is_word, listed_handles, lists_asked, lists_handles, may_be_listed, takes, word_at}
 use Rattle.device_spec.specs.Remains.{handles_command}
@@ -85,13 +86,13 @@ pub lists_form : (lists : Bool) → lists ≡ true → (lists && true && true &&
 lists_form lists is = rw is refl
 
 pub list_taken : (property : ℕ) (handles : List ℕ) → property < 2 ^ 32 → length handles ≤ 254 → AreListed property handles
-    → takes true true (handles_command property) (list_response handles) ≡ true
+    → takes PROFILE_CONTEXTS true true (handles_command property) (list_response handles) ≡ true
 list_taken property handles fits few all =
     let asked = handles_command property in
     let last = list_response handles in
     let from : word_at 14 asked ≡ Some property = ap (λ (p : ℕ). Some p) (from_be_bytes-to_be_bytes_4 property fits) in
     let lists : lists_handles asked last ≡ true =
     or_second _ (is_word (is_list_from last) (word_at 14 asked)) (ap (is_word (is_list_from last)) from ∙ list_is property handles few all) in
-    and_from (is_frame last) (is_success_form true asked last)
+    and_from (is_frame last) (is_success_form PROFILE_CONTEXTS true asked last)
     (response_is_frame ST_NO_SESSIONS RC_SUCCESS (list_body handles) (omega (arith, length-handles handles, few)))
     (lists_form (lists_asked asked last) (and_from (lists_handles asked last) true lists refl))

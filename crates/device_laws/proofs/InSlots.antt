@@ -12,6 +12,7 @@ use Rattle.tab_spec.specs.Admission.{is_missing, is_session_handle, object_too_m
 use Rattle.tab_spec.specs.Object.{Object}
 use Rattle.tab_spec.specs.Session.{Session}
 use Rattle.tab_spec.specs.Shape.{is_present, makes_object_by, octet_of}
+use Rattle.tab_spec.specs.declared.contexts.TheConstants.{PROFILE_CONTEXTS}
 use Rattle.effect_spec.specs.Operands.{absent, an_object, plain, object_operand, plain_operand, plain_operands, command_auth, session_operand, operand_by, operands_by}
 use Rattle.device_spec.specs.Slots.{SlotState, in_slot, is_free, loaded_session, slot_operands, slot_tables}
 use Rattle.tab_laws.specs.OtherHandles.{ArePasswords, AreThere, handled}
@@ -130,4 +131,4 @@ both_plain_there slots bytes a first second plain_first plain_second passwords r
 pub free_is_room : (slots : SlotState) (shape : Shape) (bytes : List ℕ) → list_any is_free slots.slots ≡ true → object_too_many (slot_tables slots) shape bytes ≡ None
 free_is_room slots shape bytes free =
     ap (λ (too_many : Bool). if too_many then Some RC_OBJECT_MEMORY else None)
-    (room_by (makes_object_by (let found : Result Shape ℕ = Ok shape in found) bytes) (slot_tables slots).is_full (ap not free))
+    (room_by (makes_object_by PROFILE_CONTEXTS (let found : Result Shape ℕ = Ok shape in found) bytes) (slot_tables slots).is_full (ap not free))

@@ -15,6 +15,7 @@ use Rattle.tab_spec.specs.Commands.{command_row}
 use Rattle.tab_spec.specs.Object.{Object}
 use Rattle.tab_spec.specs.Reply.{response}
 use Rattle.tab_spec.specs.Shape.{number_of_session}
+use Rattle.tab_spec.specs.declared.contexts.TheConstants.{PROFILE_CONTEXTS}
 use Rattle.effect_spec.specs.Capabilities.{Listed, from_number, handles_listed, joined_items, listed_sessions, listed_with, most_items, transient_from}
 use Rattle.effect_spec.specs.Capabilities.{handle_items as items_of}
 use Rattle.device_spec.specs.Answers.{listed_handles, takes}
@@ -82,7 +83,7 @@ listed_by slots property handles started fits items few all =
     let steps = list_step slots property handles started fits items few in
     record {
       same = ap (λ (step : Step). step.0) steps;
-      taken = ap (λ (step : Step). takes true true (handles_command property) step.1) steps ∙ list_taken property handles fits few all;
+      taken = ap (λ (step : Step). takes PROFILE_CONTEXTS true true (handles_command property) step.1) steps ∙ list_taken property handles fits few all;
       handles_are = ap (λ (step : Step). listed_handles step.1) steps ∙ listed_again property handles few all;
     }
 

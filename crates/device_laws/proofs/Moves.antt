@@ -12,6 +12,7 @@ use Rattle.tab_spec.specs.Object.{Object, IsObject, object_bytes}
 use Rattle.tab_spec.specs.Reply.{response}
 use Rattle.tab_spec.specs.Shape.{octet_of}
 use Rattle.tab_spec.specs.Values.{Reading, number32, sized, sized_bytes, then_read}
+use Rattle.tab_spec.specs.declared.contexts.TheConstants.{PROFILE_CONTEXTS}
 use Rattle.effect_spec.specs.Contexts.{Context, context_bytes, context_encrypted, context_head, context_integrity, context_of, object_context, opened_object, blob_fits}
 use Rattle.device_spec.specs.Answers.{fits_handle, is_context, is_context_of, is_word, loads_session, takes, word_at}
 use Rattle.device_spec.specs.ContextCommands.{context_load_command, context_save_command, flush_context_command}
@@ -47,29 +48,29 @@ context_reads seed sequence saved_handle hierarchy plain sequence_fits handle_fi
     ))
 
 context_fits : (handle : ℕ) (context : List ℕ) (c : Context) → (octet_of handle == HT_TRANSIENT) ≡ true → c.saved_handle ≡ TRANSIENT_FIRST → length context ≤ 512
-    → is_context_of handle context (Ok (c, [])) ≡ true
+    → is_context_of PROFILE_CONTEXTS handle context (Ok (c, [])) ≡ true
 context_fits handle context c transient is few = rw (transient, is, le-leb (length context) 512 few) refl
 
 object_context_fits : (handle : ℕ) (seed : List ℕ) (sequence : ℕ) (o : Object) → (octet_of handle == HT_TRANSIENT) ≡ true → sequence < 2 ^ 64 → IsObject o
-    → (let context = object_context seed sequence o in is_context_of handle context (context_of context)) ≡ true
+    → (let context = object_context seed sequence o in is_context_of PROFILE_CONTEXTS handle context (context_of context)) ≡ true
 object_context_fits handle seed sequence o transient fits is =
     let context = object_context seed sequence o in
     let few : length context ≤ 370 = object_context_small seed sequence o is in
     let bytes = context_encrypted seed sequence TRANSIENT_FIRST (object_bytes o) in
     let blob = sized_bytes (context_integrity seed sequence TRANSIENT_FIRST RH_OWNER bytes) ++ bytes in
     let plain_few : length (object_bytes o) < 2 ^ 15 = omega (arith, few, context_length seed sequence TRANSIENT_FIRST RH_OWNER (object_bytes o)) in
-    ap (is_context_of handle context) (context_reads seed sequence TRANSIENT_FIRST RH_OWNER (object_bytes o) fits (omega arith) (omega arith) plain_few)
+    ap (is_context_of PROFILE_CONTEXTS handle context) (context_reads seed sequence TRANSIENT_FIRST RH_OWNER (object_bytes o) fits (omega arith) (omega arith) plain_few)
     ∙ context_fits handle context (record { sequence = sequence; saved_handle = TRANSIENT_FIRST; hierarchy = RH_OWNER; blob = blob }) transient refl
     (omega (arith, few))
 
-pub saved_form : (handle : ℕ) (context : List ℕ) → handle < 2 ^ 32 → length context ≤ 512 → is_context_of handle context (context_of context) ≡ true
-    → takes true true (context_save_command handle) (response ST_NO_SESSIONS RC_SUCCESS context) ≡ true
+pub saved_form : (handle : ℕ) (context : List ℕ) → handle < 2 ^ 32 → length context ≤ 512 → is_context_of PROFILE_CONTEXTS handle context (context_of context) ≡ true
+    → takes PROFILE_CONTEXTS true true (context_save_command handle) (response ST_NO_SESSIONS RC_SUCCESS context) ≡ true
 saved_form handle context fits few is =
     let last = response ST_NO_SESSIONS RC_SUCCESS context in
     let asked = context_save_command handle in
-    let whole : is_context asked context ≡ true =
-    ap (λ (h : ℕ). is_context_of h context (context_of context)) (from_be_bytes-to_be_bytes_4 handle fits) ∙ is in
-    and_from (is_frame last) (is_context asked context) (response_is_frame ST_NO_SESSIONS RC_SUCCESS context (omega (arith, few))) whole
+    let whole : is_context PROFILE_CONTEXTS asked context ≡ true =
+    ap (λ (h : ℕ). is_context_of PROFILE_CONTEXTS h context (context_of context)) (from_be_bytes-to_be_bytes_4 handle fits) ∙ is in
+    and_from (is_frame last) (is_context PROFILE_CONTEXTS asked context) (response_is_frame ST_NO_SESSIONS RC_SUCCESS context (omega (arith, few))) whole
 
 saved_by : (past : Bool) (slots : SlotState) (failed saved : Result Step ℕ) → past ≡ false → step_by slots (if past then failed else saved) ≡ step_by slots saved
 saved_by past slots failed saved is = rw is refl
@@ -89,23 +90,23 @@ object_out_step slots handle o started fits transient there more =
 
 pub save_taken : (slots : SlotState) (handle : ℕ) (o : Object) → IsSlots slots → slots.started ≡ true → handle < 2 ^ 32 → (octet_of handle == HT_TRANSIENT) ≡ true
     → in_slot slots handle ≡ Some o → slots.object_counter < CONTEXT_LIMIT
-    → takes true true (context_save_command handle) (slot_step slots (context_save_command handle)).1 ≡ true
+    → takes PROFILE_CONTEXTS true true (context_save_command handle) (slot_step slots (context_save_command handle)).1 ≡ true
 save_taken slots handle o sound started fits transient there more =
     let is : IsObject o = subst (λ slot. IfSome slot IsObject) there (object_in_slot slots handle sound) in
-    ap (λ (step : Step). takes true true (context_save_command handle) step.1) (object_out_step slots handle o started fits transient there more)
+    ap (λ (step : Step). takes PROFILE_CONTEXTS true true (context_save_command handle) step.1) (object_out_step slots handle o started fits transient there more)
     ∙ saved_form handle (object_context slots.persist.seed slots.object_counter o) fits
     (omega (arith, object_context_small slots.persist.seed slots.object_counter o is))
     (object_context_fits handle slots.persist.seed slots.object_counter o transient (omega (arith, more)) is)
 
 -- ---- FlushContext
 
-pub flushed_form : (handle : ℕ) → takes true true (flush_context_command handle) (response ST_NO_SESSIONS RC_SUCCESS []) ≡ true
+pub flushed_form : (handle : ℕ) → takes PROFILE_CONTEXTS true true (flush_context_command handle) (response ST_NO_SESSIONS RC_SUCCESS []) ≡ true
 flushed_form handle = refl
 
 pub flush_taken : (slots : SlotState) (handle : ℕ) (o : Object) → slots.started ≡ true → handle < 2 ^ 32 → (octet_of handle == HT_TRANSIENT) ≡ true
-    → in_slot slots handle ≡ Some o → takes true true (flush_context_command handle) (slot_step slots (flush_context_command handle)).1 ≡ true
+    → in_slot slots handle ≡ Some o → takes PROFILE_CONTEXTS true true (flush_context_command handle) (slot_step slots (flush_context_command handle)).1 ≡ true
 flush_taken slots handle o started fits transient there =
-    ap (λ (step : Step). takes true true (flush_context_command handle) step.1) (object_flush_step slots handle o started fits transient there) ∙ flushed_form handle
+    ap (λ (step : Step). takes PROFILE_CONTEXTS true true (flush_context_command handle) step.1) (object_flush_step slots handle o started fits transient there) ∙ flushed_form handle
 
 -- ---- ContextLoad
 
@@ -177,7 +178,7 @@ load_fits context number is few =
 
 pub load_taken : (slots : SlotState) (context : List ℕ) (o : Object) → IsSlots slots → slots.started ≡ true → length context ≤ 4086
     → list_any is_free slots.slots ≡ true → object_at slots None (Some context) ≡ Some o
-    → takes true true (context_load_command context) (slot_step slots (context_load_command context)).1 ≡ true
+    → takes PROFILE_CONTEXTS true true (context_load_command context) (slot_step slots (context_load_command context)).1 ≡ true
 load_taken slots context o sound started small free is =
     let command = context_load_command context in
     let handle = TRANSIENT_FIRST + free_slot slots.slots in
@@ -186,7 +187,7 @@ load_taken slots context o sound started small free is =
     let steps = object_load_step slots context o started small free is in
     let frame : is_frame last ≡ true = sym (ap (λ (step : Step). is_frame step.1) steps) ∙ step_replies slots command sound in
     let has = object_handle slots.persist.seed context (context_of context) o (handle_read context) is in
-    ap (λ (step : Step). takes true true command step.1) steps
+    ap (λ (step : Step). takes PROFILE_CONTEXTS true true command step.1) steps
     ∙ success_taken true true command last true frame refl refl refl
     (record {
       handled = ap (is_word (fits_handle true command)) (handle_of_response ST_NO_SESSIONS handle [] (omega (arith, few)))

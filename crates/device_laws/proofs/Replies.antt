@@ -25,6 +25,7 @@ use Rattle.tab_spec.specs.Persist.{Persist, IsPersist, fresh_persist}
 use Rattle.tab_spec.specs.Object.{IsObject, Object}
 use Rattle.tab_spec.specs.Session.{IsSession, Session, kind_octet}
 use Rattle.tab_spec.specs.Parameters.{in_parameter, nothing_of}
+use Rattle.tab_spec.specs.declared.contexts.TheConstants.{PROFILE_CONTEXTS}
 use Rattle.effect_spec.specs.Capabilities.{device_limits, transient_from}
 use Rattle.effect_spec.specs.Contexts.{Context, context_of, object_context, opened_object, opened_session, session_context, blob_fits}
 use Rattle.effect_spec.specs.Operands.{Operands, Created, nothing, new_object, new_session, handles_left, named_session, session_left, command_auth}
@@ -538,7 +539,7 @@ new_is_slots numbers seed range is = record {
 -- Startup starts, whether or not the device had started, and a broker takes the answer
 pub record Starts (slots : SlotState) (step : Step) : Type 0 where
   pub state : step.0 ≡ record slots { started = true }
-  pub taken : takes true true startup_command step.1 ≡ true
+  pub taken : takes PROFILE_CONTEXTS true true startup_command step.1 ≡ true
 
 starts_from : (started : Bool) (persist : Persist) (numbers : Numbers) (held : List (Option Object)) (sessions : List SessionPlace) (object_counter counter : ℕ)
     → let slots : SlotState =

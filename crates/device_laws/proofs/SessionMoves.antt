@@ -11,6 +11,7 @@ use Rattle.tab_spec.specs.Reply.{response}
 use Rattle.tab_spec.specs.Session.{Session, IsSession, session_bytes}
 use Rattle.tab_spec.specs.Shape.{number_of_session, octet_of}
 use Rattle.tab_spec.specs.Values.{Reading, sized_bytes}
+use Rattle.tab_spec.specs.declared.contexts.TheConstants.{PROFILE_CONTEXTS}
 use Rattle.tab_laws.proofs.ReadBack.{Gives}
 use Rattle.tab_laws.proofs.Sessions.{session_small}
 use Rattle.effect_spec.specs.Contexts.{Context, context_encrypted, context_integrity, context_of, opened_session, session_context, blob_fits}
@@ -28,17 +29,17 @@ use Rattle.device_laws.proofs.Standing.{IsLoadedAs, is_loaded_as}
 -- ---- ContextSave
 
 context_fits : (handle : ℕ) (context : List ℕ) (c : Context) → (octet_of handle == HT_TRANSIENT) ≡ false → (c.saved_handle == handle) ≡ true
-    → length context ≤ 256 → is_context_of handle context (Ok (c, [])) ≡ true
+    → length context ≤ 256 → is_context_of PROFILE_CONTEXTS handle context (Ok (c, [])) ≡ true
 context_fits handle context c other is few = rw (other, is, le-leb (length context) 256 few) refl
 
 session_context_fits : (handle : ℕ) (seed : List ℕ) (sequence : ℕ) (s : Session) → is_session_handle handle ≡ true → handle < 2 ^ 32 → sequence < 2 ^ 64
-    → IsSession s → (let context = session_context seed handle sequence s in is_context_of handle context (context_of context)) ≡ true
+    → IsSession s → (let context = session_context seed handle sequence s in is_context_of PROFILE_CONTEXTS handle context (context_of context)) ≡ true
 session_context_fits handle seed sequence s session handle_fits fits is =
     let context = session_context seed handle sequence s in
     let bytes = context_encrypted seed sequence handle (session_bytes s) in
     let blob = sized_bytes (context_integrity seed sequence handle RH_NULL bytes) ++ bytes in
     let few : length context ≤ 128 = session_context_small seed handle sequence s is in
-    ap (is_context_of handle context) (context_reads seed sequence handle RH_NULL (session_bytes s) fits handle_fits (omega arith) (omega (arith, session_small s is)))
+    ap (is_context_of PROFILE_CONTEXTS handle context) (context_reads seed sequence handle RH_NULL (session_bytes s) fits handle_fits (omega arith) (omega (arith, session_small s is)))
     ∙ context_fits handle context (record { sequence = sequence; saved_handle = handle; hierarchy = RH_NULL; blob = blob }) (not_transient handle session)
     (eq-eqb handle handle refl) (omega (arith, few))
 
@@ -63,12 +64,12 @@ session_out_step slots handle s started fits session there more narrow =
 
 pub session_save_taken : (slots : SlotState) (handle : ℕ) (s : Session) → IsSlots slots → slots.started ≡ true → handle < 2 ^ 32
     → is_session_handle handle ≡ true → loaded_session slots handle ≡ Some s → slots.counter < CONTEXT_LIMIT → gap_of slots < slots.numbers.gap
-    → takes true true (context_save_command handle) (slot_step slots (context_save_command handle)).1 ≡ true
+    → takes PROFILE_CONTEXTS true true (context_save_command handle) (slot_step slots (context_save_command handle)).1 ≡ true
 session_save_taken slots handle s sound started fits session there more narrow =
     let seed = slots.persist.seed in
     let is : IsLoadedAs slots.sessions handle s =
     subst (λ (found : Option Session). IfSome found (IsLoadedAs slots.sessions handle)) there (is_loaded_as slots handle sound) in
-    ap (λ (step : Step). takes true true (context_save_command handle) step.1) (session_out_step slots handle s started fits session there more narrow)
+    ap (λ (step : Step). takes PROFILE_CONTEXTS true true (context_save_command handle) step.1) (session_out_step slots handle s started fits session there more narrow)
     ∙ saved_form handle (session_context seed handle slots.counter s) fits (omega (arith, session_context_small seed handle slots.counter s is.1.1))
     (session_context_fits handle seed slots.counter s session fits (omega (arith, more)) is.1.1)
 
@@ -89,9 +90,9 @@ session_gone_step slots handle started fits session active =
 
 pub session_flush_taken : (slots : SlotState) (handle : ℕ) → slots.started ≡ true → handle < 2 ^ 32 → is_session_handle handle ≡ true
     → is_active_with (octet_of handle) (place_of slots handle) ≡ true
-    → takes true true (flush_context_command handle) (slot_step slots (flush_context_command handle)).1 ≡ true
+    → takes PROFILE_CONTEXTS true true (flush_context_command handle) (slot_step slots (flush_context_command handle)).1 ≡ true
 session_flush_taken slots handle started fits session active =
-    ap (λ (step : Step). takes true true (flush_context_command handle) step.1) (session_gone_step slots handle started fits session active) ∙ flushed_form handle
+    ap (λ (step : Step). takes PROFILE_CONTEXTS true true (flush_context_command handle) step.1) (session_gone_step slots handle started fits session active) ∙ flushed_form handle
 
 -- ---- ContextLoad
 
@@ -131,7 +132,7 @@ load_fits context handle is session =
 pub session_load_taken : (slots : SlotState) (context : List ℕ) (handle number : ℕ) (s : Session) → IsSlots slots → slots.started ≡ true
     → length context ≤ 4086 → handle < 2 ^ 32 → is_session_handle handle ≡ true → place_of slots handle ≡ saved (octet_of handle) number
     → loaded_count slots.sessions < slots.numbers.loaded → session_at slots handle (Some context) ≡ Some s
-    → takes true true (context_load_command context) (slot_step slots (context_load_command context)).1 ≡ true
+    → takes PROFILE_CONTEXTS true true (context_load_command context) (slot_step slots (context_load_command context)).1 ≡ true
 session_load_taken slots context handle number s sound started small fits session there room is =
     let seed = slots.persist.seed in
     let command = context_load_command context in
@@ -144,7 +145,7 @@ session_load_taken slots context handle number s sound started small fits sessio
     let word : word_at 10 last ≡ Some handle =
     ap (λ (body : List ℕ). word_at 10 (response ST_NO_SESSIONS RC_SUCCESS body)) (sym (append-nil (to_be_bytes w32 handle)))
     ∙ handle_of_response ST_NO_SESSIONS handle [] fits in
-    ap (λ (step : Step). takes true true command step.1) steps
+    ap (λ (step : Step). takes PROFILE_CONTEXTS true true command step.1) steps
     ∙ success_taken true true command last true frame refl refl refl
     (record {
       handled = ap (is_word (fits_handle true command)) word ∙ load_fits context handle (saved_word context handle has.0 has.1) session;

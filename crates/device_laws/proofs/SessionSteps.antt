@@ -11,6 +11,7 @@ use Rattle.tab_spec.specs.Reply.{response}
 use Rattle.tab_spec.specs.Session.{Session}
 use Rattle.tab_spec.specs.Values.{Reading, fixed_bytes, number32, number64, require, sized}
 use Rattle.tab_spec.specs.Parameters.{in_parameter, when_read}
+use Rattle.tab_spec.specs.declared.contexts.TheConstants.{PROFILE_CONTEXTS}
 use Rattle.effect_spec.specs.Contexts.{Context, context_of, opened_object, opened_session, blob_fits}
 use Rattle.device_spec.specs.ContextCommands.{context_load_command, context_save_command, flush_context_command}
 use Rattle.device_spec.specs.Slots.{SlotState, SessionPlace, loaded, saved, Step, context_session, in_slot, is_saved_under, is_saved_with, loaded_count, loaded_session, object_flushed, object_loaded, object_saved, place_of, session_at, session_flushed, session_in_place, session_loaded, session_saved, slot_step, slot_tables, step_by, with_place}
@@ -139,7 +140,7 @@ other_handle : (handle : ℕ) → is_session_handle handle ≡ true → (handle 
 other_handle handle session = other_handle_by (handle == TRANSIENT_FIRST) handle refl session
 
 loads_none : (context : List ℕ) (c : Context) (rest : List ℕ) → context_of context ≡ Ok (c, rest) → is_session_handle c.saved_handle ≡ true
-    → loads_object (context_load_command context) ≡ false
+    → loads_object PROFILE_CONTEXTS (context_load_command context) ≡ false
 loads_none context c rest is session =
     let there : c.saved_handle ≡ from_be_bytes w32 (take 4 (drop 8 context)) = left_so (HandleThere context) (context_of context) c rest (handle_there context) is in
     no_object_by (not (nat_lt (length (context_load_command context)) 22)) (from_be_bytes w32 (take 4 (drop 8 context)) == TRANSIENT_FIRST)
@@ -200,8 +201,8 @@ loaded_back slots context handle number s (Ok read) is found started fits sessio
     let its : is_session_handle c.saved_handle ≡ true = ap (λ (h : ℕ). is_session_handle h) same ∙ session in
     let under : is_saved_under slots c.saved_handle c.sequence ≡ true =
     ap (λ (h : ℕ). is_saved_under slots h c.sequence) same ∙ ap (λ (n : ℕ). is_saved_under slots handle n) last ∙ saved_under slots handle number there in
-    let none : loads_object (context_load_command context) ≡ false = loads_none context c read.1 is its in
-    load_goes slots context started fits (no_room_needed (loads_object (context_load_command context)) (slot_tables slots).is_full none)
+    let none : loads_object PROFILE_CONTEXTS (context_load_command context) ≡ false = loads_none context c read.1 is its in
+    load_goes slots context started fits (no_room_needed (loads_object PROFILE_CONTEXTS (context_load_command context)) (slot_tables slots).is_full none)
     ∙ ap (λ (r : Reading Context). step_by slots (loaded_by slots context r)) is
     ∙ ap (step_by slots)
     (read_back slots read (object_loaded slots (opened_object seed context)) (opened_session seed context) s gives.whole gives.fits (other_handle c.saved_handle its) its

@@ -9,6 +9,7 @@ use Rattle.tab_spec.specs.declared.TheConstants.{CC_GET_CAPABILITY, RC_SUCCESS, 
 use Rattle.tab_spec.specs.Auths.{auths_of}
 use Rattle.tab_spec.specs.Frame.{is_frame}
 use Rattle.tab_spec.specs.Reply.{response}
+use Rattle.tab_spec.specs.declared.contexts.TheConstants.{PROFILE_CONTEXTS}
 use Rattle.effect_spec.specs.Capabilities.{device_limits, listed, property_items, property_pairs, transient_from}
 use Rattle.device_spec.specs.declared.TheConstants.{PT_ACTIVE_SESSIONS_MAX, PT_CONTEXT_GAP_MAX, PT_HR_LOADED_MIN, PT_HR_TRANSIENT_MIN}
 use Rattle.device_spec.specs.Answers.{is_success_form, is_word, takes, tells_property, value_told, word_at}
@@ -35,14 +36,14 @@ told_response more property value = response ST_NO_SESSIONS RC_SUCCESS (told_bod
 tells_by : (first property : ℕ) → first ≡ property → (true && true && first == property && true) ≡ true
 tells_by first property is = rw (eq-eqb first property is) refl
 
-told_taken : (more property value : ℕ) → property < 2 ^ 32 → takes true true (number_command property) (told_response more property value) ≡ true
+told_taken : (more property value : ℕ) → property < 2 ^ 32 → takes PROFILE_CONTEXTS true true (number_command property) (told_response more property value) ≡ true
 told_taken more property value fits =
     let asked = number_command property in
     let last = told_response more property value in
     let same : from_be_bytes w32 (to_be_bytes w32 property) ≡ property = from_be_bytes-to_be_bytes_4 property fits in
     let from : word_at 14 asked ≡ Some property = ap (λ (p : ℕ). Some p) same in
     let tells : tells_property last property ≡ true = tells_by (from_be_bytes w32 (to_be_bytes w32 property)) property same in
-    and_from (is_frame last) (is_success_form true asked last) (response_is_frame ST_NO_SESSIONS RC_SUCCESS (told_body more property value) (omega arith))
+    and_from (is_frame last) (is_success_form PROFILE_CONTEXTS true asked last) (response_is_frame ST_NO_SESSIONS RC_SUCCESS (told_body more property value) (omega arith))
     (lists_form (is_word (tells_property last) (word_at 14 asked)) (ap (is_word (tells_property last)) from ∙ tells))
 
 -- ---- the step
@@ -91,7 +92,7 @@ told_by slots property value rest started fits small items =
     ∙ ap (λ (body : List ℕ). (slots, response ST_NO_SESSIONS RC_SUCCESS body)) (first_listed property value rest) in
     record {
       same = ap (λ (step : Step). step.0) steps;
-      taken = ap (λ (step : Step). takes true true (number_command property) step.1) steps ∙ told_taken more property value fits;
+      taken = ap (λ (step : Step). takes PROFILE_CONTEXTS true true (number_command property) step.1) steps ∙ told_taken more property value fits;
       value_is = ap (λ (step : Step). value_told step.1) steps ∙ from_be_bytes-to_be_bytes_4 value small;
     }
 

@@ -5,7 +5,7 @@ ghost use Rattle.std.specs.Int.{w32, to_be_bytes};
 ghost use Rattle.tab_spec.specs.declared.TheConstants.{CC_CONTEXT_LOAD, CC_FLUSH_CONTEXT};
 ghost use Rattle.tab_spec.specs.declared.TheConstants.{CC_START_AUTH_SESSION, CC_STARTUP};
 ghost use Rattle.tab_spec.specs.declared.TheConstants.{CONTEXT_LIMIT, HT_TRANSIENT};
-ghost use Rattle.tab_spec.specs.declared.TheConstants.{RC_SUCCESS, ST_NO_SESSIONS};
+ghost use Rattle.tab_spec.specs.declared.TheConstants.{RC_SUCCESS, ST_NO_SESSIONS, CC_CONTEXT_SAVE};
 ghost use Rattle.tab_spec.specs.Frame.{code_of, is_frame};
 ghost use Rattle.effect_spec.specs.Contexts.{Context, context_bytes, object_context, opened_object};
 ghost use Rattle.effect_spec.specs.Contexts.{opened_session, session_context};
@@ -34,6 +34,8 @@ ghost use Rattle.device_spec.specs.Slots.{slot_step, step_by};
 ghost use Rattle.tab_spec.specs.Commands.{row_of, startup_command};
 ghost use Rattle.device_laws.specs.Effects.{is_managed, is_of_effects};
 ghost use Rattle.tab_spec.specs.Values.{AreBytes};
+ghost use Rattle.tab_spec.specs.declared.contexts.TheConstants.{PROFILE_CONTEXTS};
+ghost use Rattle.tab_spec.specs.declared.contexts.ContextLimits.{ContextLimits};
 
 /// Whatever bytes a device is given, its reply is exactly one frame.
 pub fn slot_replies_are_frames()
@@ -84,7 +86,8 @@ pub fn startup_starts()
     ensures state { (slots : SlotState)
         → (slot_step slots startup_command).0 ≡ record slots { started = true } }
     ensures taken { (slots : SlotState)
-        → takes true true startup_command (slot_step slots startup_command).1 ≡ true }
+        → takes PROFILE_CONTEXTS true true startup_command (slot_step slots startup_command).1
+        ≡ true }
 {}
 
 /// A started device gives no wrong answer to a command that it admits, where that is one of those
@@ -96,7 +99,7 @@ pub fn devices_answer_rightly()
         → slots.started ≡ true
         → admitted_by (slot_tables slots) (row_in row_of bytes) bytes ≡ Ok a
         → is_of_effects a.shape.row.code ≡ true
-        → takes false false bytes (slot_step slots bytes).1 ≡ true }
+        → takes PROFILE_CONTEXTS false false bytes (slot_step slots bytes).1 ≡ true }
     ensures clients { (code : ℕ) → is_managed code ≡ false → (code == CC_STARTUP) ≡ false
         → (code == CC_START_AUTH_SESSION) ≡ false → is_of_effects code ≡ true }
 {}
@@ -104,18 +107,29 @@ pub fn devices_answer_rightly()
 /// Which responses a broker takes depends on what it holds for ContextLoad and StartAuthSession
 /// alone.
 pub fn two_commands_are_answered_by_what_is_held()
-    ensures { (is_kept is_taken : Bool) (asked last : List ℕ)
+    ensures { (contexts : ContextLimits) (is_kept is_taken : Bool) (asked last : List ℕ)
         → (code_of asked == CC_CONTEXT_LOAD) ≡ false
         → (code_of asked == CC_START_AUTH_SESSION) ≡ false
-        → takes is_kept is_taken asked last ≡ takes true true asked last }
+        → takes contexts is_kept is_taken asked last ≡ takes contexts true true asked last }
 {}
 
 /// A broker takes each response that some broker takes, where it doesn't keep the context that the
-/// command loads and no client has a session with the number of the response's handle: by holding
-/// less it has less reason to call a response wrong.
+/// command loads, and no client has a session with the number of the response's handle, nor was one
+/// left with it: by holding less it has less reason to call a response wrong.
 pub fn brokers_that_hold_less_take_more()
-    ensures { (is_kept is_taken : Bool) (asked last : List ℕ)
-        → takes is_kept is_taken asked last ≡ true → takes false false asked last ≡ true }
+    ensures { (contexts : ContextLimits) (is_kept is_taken : Bool) (asked last : List ℕ)
+        → takes contexts is_kept is_taken asked last ≡ true → takes contexts false false asked last
+        ≡ true }
+{}
+
+/// What the contexts of a device may be matters to the answers of ContextSave and ContextLoad
+/// alone.
+pub fn two_commands_are_answered_by_contexts()
+    ensures { (contexts : ContextLimits) (is_kept is_taken : Bool) (asked last : List ℕ)
+        → (code_of asked == CC_CONTEXT_SAVE) ≡ false
+        → (code_of asked == CC_CONTEXT_LOAD) ≡ false
+        → takes contexts is_kept is_taken asked last
+        ≡ takes PROFILE_CONTEXTS is_kept is_taken asked last }
 {}
 
 /// No command lowers the number that the next context of an object gets, nor that of the next
@@ -207,16 +221,16 @@ pub fn moved_objects_are_taken()
     ensures save { (slots : SlotState) (handle : ℕ) (o : Object) → IsSlots slots
         → slots.started ≡ true → handle < 2 ^ 32 → (octet_of handle == HT_TRANSIENT) ≡ true
         → in_slot slots handle ≡ Some o → slots.object_counter < CONTEXT_LIMIT
-        → takes true true (context_save_command handle)
+        → takes PROFILE_CONTEXTS true true (context_save_command handle)
         (slot_step slots (context_save_command handle)).1 ≡ true }
     ensures flush { (slots : SlotState) (handle : ℕ) (o : Object) → slots.started ≡ true
         → handle < 2 ^ 32 → (octet_of handle == HT_TRANSIENT) ≡ true → in_slot slots handle ≡ Some o
-        → takes true true (flush_context_command handle)
+        → takes PROFILE_CONTEXTS true true (flush_context_command handle)
         (slot_step slots (flush_context_command handle)).1 ≡ true }
     ensures load { (slots : SlotState) (context : List ℕ) (o : Object) → IsSlots slots
         → slots.started ≡ true → length context ≤ 4086 → list_any is_free slots.slots ≡ true
         → object_at slots None (Some context) ≡ Some o
-        → takes true true (context_load_command context)
+        → takes PROFILE_CONTEXTS true true (context_load_command context)
         (slot_step slots (context_load_command context)).1 ≡ true }
 {}
 
@@ -252,12 +266,12 @@ pub fn moved_sessions_are_taken()
         → slots.started ≡ true → handle < 2 ^ 32 → is_session_handle handle ≡ true
         → loaded_session slots handle ≡ Some s → slots.counter < CONTEXT_LIMIT
         → gap_of slots < slots.numbers.gap
-        → takes true true (context_save_command handle)
+        → takes PROFILE_CONTEXTS true true (context_save_command handle)
         (slot_step slots (context_save_command handle)).1 ≡ true }
     ensures flush { (slots : SlotState) (handle : ℕ) → slots.started ≡ true → handle < 2 ^ 32
         → is_session_handle handle ≡ true
         → is_active_with (octet_of handle) (place_of slots handle) ≡ true
-        → takes true true (flush_context_command handle)
+        → takes PROFILE_CONTEXTS true true (flush_context_command handle)
         (slot_step slots (flush_context_command handle)).1 ≡ true }
     ensures load { (slots : SlotState) (context : List ℕ) (handle number : ℕ) (s : Session)
         → IsSlots slots → slots.started ≡ true → length context ≤ 4086 → handle < 2 ^ 32
@@ -265,6 +279,6 @@ pub fn moved_sessions_are_taken()
         → place_of slots handle ≡ saved (octet_of handle) number
         → loaded_count slots.sessions < slots.numbers.loaded
         → session_at slots handle (Some context) ≡ Some s
-        → takes true true (context_load_command context)
+        → takes PROFILE_CONTEXTS true true (context_load_command context)
         (slot_step slots (context_load_command context)).1 ≡ true }
 {}

@@ -18,6 +18,6 @@ pub use laws::{
     effects_fill_the_least_slot, fresh_contexts_are_found, made_objects_have_a_handle,
     moved_objects_are_taken, moved_sessions_are_taken, objects_are_moved,
     session_contexts_are_opened, sessions_are_moved, slot_replies_are_frames, startup_starts,
-    two_commands_are_answered_by_what_is_held,
+    two_commands_are_answered_by_contexts, two_commands_are_answered_by_what_is_held,
 };
 pub use remains::{numbers_are_told, remains_are_flushed, remains_are_listed};

@@ -1,5 +1,6 @@
 ghost use Rattle.std.specs.Prelude.{refl, ◌≡◌, IsTrue};
 ghost use Rattle.tab_spec.specs.Frame.{is_frame};
+ghost use Rattle.tab_spec.specs.declared.contexts.TheConstants.{PROFILE_CONTEXTS};
 ghost use Rattle.device_port.specs.Device.{Transmits};
 ghost use Rattle.device_link.specs.Link.{Carries, ends_of, new_device, told_by};
 
@@ -9,6 +10,7 @@ use device_port::{Device, DeviceFailed, Trace};
 use link_port::{Sink, Source};
 use std::marker::Model;
 use tab_bytes::Buffer;
+use tab_spec::{ContextLimits, PROFILE_CONTEXTS};
 
 /// A TPM behind a byte stream: commands go to the sink, and responses come from the source (Part 1,
 /// "Command/Response Structure"). It shows no state. Of a response it reads the tag and the size
@@ -63,7 +65,15 @@ impl<S: Source, K: Sink> LinkDevice<S, K> {
 impl<S: Source, K: Sink> Device for LinkDevice<S, K> {
     ghost seen = { told_by };
 
+    ghost CONTEXTS = { PROFILE_CONTEXTS };
+
+    const CONTEXTS: ContextLimits = PROFILE_CONTEXTS;
+
     ghost told_together = { λ d. refl };
+
+    ghost profile = { λ d. tt };
+
+    ghost short = { refl };
 
     // The trait's clause, and what goes over the two ends.
     fn transmit(&mut self, command: &[u8], reply: &mut Buffer) -> Result<(), DeviceFailed>

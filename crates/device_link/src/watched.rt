@@ -1,5 +1,6 @@
 ghost use Rattle.std.specs.Prelude.{refl, ◌≡◌, IsTrue, OnOk, OnErr, None, Some};
 ghost use Rattle.tab_spec.specs.Frame.{is_frame};
+ghost use Rattle.tab_spec.specs.declared.contexts.TheConstants.{PROFILE_CONTEXTS};
 ghost use Rattle.device_port.specs.Device.{Transmits};
 ghost use Rattle.device_link.specs.Link.{Carries, ends_of, has_failed, told_by};
 ghost use Rattle.device_link.specs.Watched.{answer_of, new_watched};
@@ -9,6 +10,7 @@ use device_port::{Device, DeviceFailed};
 use link_port::{Sink, Source};
 use std::marker::Model;
 use tab_bytes::Buffer;
+use tab_spec::{ContextLimits, PROFILE_CONTEXTS};
 use tab_wire::code_of;
 
 /// Is told that a link to a device has failed.
@@ -18,16 +20,22 @@ pub trait Watcher: Sync {
         requires { IsTrue (has_failed fault) };
 }
 
+impl<W: Watcher> Watcher for &W {
+    fn link_failed(&self, fault: LinkFault) {
+        (**self).link_failed(fault);
+    }
+}
+
 /// A [`LinkDevice`] that tells a watcher of its first failure, once, and keeps what it answered to
 /// the newest command.
 #[derive(Drop)]
-pub struct WatchedLink<'a, S: Source, K: Sink, W: Watcher> {
+pub struct WatchedLink<S: Source, K: Sink, W: Watcher> {
     device: LinkDevice<S, K>,
-    watcher: &'a W,
+    watcher: W,
     newest: Option<Answered>,
 }
 
-impl<'a, S: Source, K: Sink, W: Watcher> Model for WatchedLink<'a, S, K, W> {
+impl<S: Source, K: Sink, W: Watcher> Model for WatchedLink<S, K, W> {
     ghost use Rattle.device_link.specs.Watched.{WatchedAtLink};
 
     ghost Value = { WatchedAtLink S K };
@@ -35,9 +43,9 @@ impl<'a, S: Source, K: Sink, W: Watcher> Model for WatchedLink<'a, S, K, W> {
     ghost view = { λ w. record { device = w.device; newest = w.newest } };
 }
 
-impl<'a, S: Source, K: Sink, W: Watcher> WatchedLink<'a, S, K, W> {
+impl<S: Source, K: Sink, W: Watcher> WatchedLink<S, K, W> {
     /// This device, with this watcher.
-    pub fn new(device: LinkDevice<S, K>, watcher: &'a W) -> WatchedLink<'a, S, K, W>
+    pub fn new(device: LinkDevice<S, K>, watcher: W) -> WatchedLink<S, K, W>
         ensures { result ≡ new_watched device }
     {
         WatchedLink {
@@ -56,10 +64,18 @@ impl<'a, S: Source, K: Sink, W: Watcher> WatchedLink<'a, S, K, W> {
     }
 }
 
-impl<'a, S: Source, K: Sink, W: Watcher> Device for WatchedLink<'a, S, K, W> {
+impl<S: Source, K: Sink, W: Watcher> Device for WatchedLink<S, K, W> {
     ghost seen = { λ w. told_by w.device };
 
+    ghost CONTEXTS = { PROFILE_CONTEXTS };
+
+    const CONTEXTS: ContextLimits = PROFILE_CONTEXTS;
+
     ghost told_together = { λ w. refl };
+
+    ghost profile = { λ w. tt };
+
+    ghost short = { refl };
 
     // The trait's clause, that of the device within, and what is kept of the answer.
     fn transmit(&mut self, command: &[u8], reply: &mut Buffer) -> Result<(), DeviceFailed>

@@ -3,6 +3,7 @@ ghost use Rattle.tab_spec.specs.Count.{one_more};
 ghost use Rattle.tab_spec.specs.Frame.{is_frame};
 ghost use Rattle.tab_spec.specs.Numbers.{profile_numbers};
 ghost use Rattle.tab_spec.specs.Persist.{IsPersist};
+ghost use Rattle.tab_spec.specs.declared.contexts.TheConstants.{PROFILE_CONTEXTS};
 ghost use Rattle.device_spec.specs.Slots.{slot_step};
 ghost use Rattle.device_port.specs.Device.{Transmits, count_of};
 ghost use Rattle.device_memory.specs.Memory.{fresh_device, told_by};
@@ -12,7 +13,7 @@ use device_slots::SlotMachine;
 use std::alloc::{AllocError, Global};
 use std::marker::Model;
 use tab_bytes::Buffer;
-use tab_spec::Numbers;
+use tab_spec::{ContextLimits, Numbers, PROFILE_CONTEXTS};
 use tab_values::Persist;
 
 /// A device in memory, which is the project's profile byte for byte, with any numbers of slots,
@@ -75,7 +76,15 @@ impl MemoryDevice {
 impl Device for MemoryDevice {
     ghost seen = { told_by };
 
+    ghost CONTEXTS = { PROFILE_CONTEXTS };
+
+    const CONTEXTS: ContextLimits = PROFILE_CONTEXTS;
+
     ghost told_together = { λ d. refl };
+
+    ghost profile = { λ d. refl };
+
+    ghost short = { refl };
 
     // The trait's clauses, and that it fails exactly at the listed transmissions.
     fn transmit(&mut self, command: &[u8], reply: &mut Buffer) -> Result<(), DeviceFailed>

@@ -5,6 +5,8 @@ use Rattle.std.proofs.lemmas.Bool.{eqb-true}
 use Rattle.tab_spec.specs.declared.TheConstants.{CC_STARTUP, CC_START_AUTH_SESSION, CC_CONTEXT_SAVE, RC_INITIALIZE, RC_SUCCESS, ST_SESSIONS, HEADER_BYTES}
 use Rattle.tab_spec.specs.Frame.{code_of, is_frame, reported_code, tag_of}
 use Rattle.tab_spec.specs.Commands.{row_of}
+use Rattle.tab_spec.specs.declared.contexts.ContextLimits.{ContextLimits}
+use Rattle.tab_spec.specs.declared.contexts.TheConstants.{PROFILE_CONTEXTS}
 use Rattle.device_spec.specs.Answers.{IsWrongAnswer, answer_area, fits_handle, has_response_handle, is_context, is_whole, is_word, word_at, is_error_form, is_own, is_success_form, lists_asked, may_refuse, takes, wrong}
 use Rattle.device_spec.specs.Slots.{SlotState, slot_step}
 use Rattle.device_port.specs.Device.{Answered, Transmission, newest_response}
@@ -20,8 +22,9 @@ fits_either : (asked : List ℕ) (handle : ℕ) → (code_of asked == CC_START_A
 fits_either asked handle none = fits_by (code_of asked == CC_START_AUTH_SESSION) _ _ _ none
 
 -- which numbers clients have doesn't matter where no session starts
-pub takes_either : (asked last : List ℕ) → (code_of asked == CC_START_AUTH_SESSION) ≡ false → takes true false asked last ≡ takes true true asked last
-takes_either asked last none =
+pub takes_either : (contexts : ContextLimits) (asked last : List ℕ) → (code_of asked == CC_START_AUTH_SESSION) ≡ false
+    → takes contexts true false asked last ≡ takes contexts true true asked last
+takes_either contexts asked last none =
     let same : fits_handle false asked ≡ fits_handle true asked = λ i. λ handle. fits_either asked handle none i in
     let has_handle = has_response_handle (row_of (code_of asked)) in
     ap (λ (fits : ℕ → Bool).
@@ -31,8 +34,8 @@ takes_either asked last none =
     && tag_of last == tag_of asked
     && (not has_handle || is_word fits (word_at HEADER_BYTES last))
     && (not (tag_of asked == ST_SESSIONS) || is_whole (answer_area (drop (if has_handle then HEADER_BYTES + 4 else HEADER_BYTES) last)))
-    && (not (code_of asked == CC_CONTEXT_SAVE) || is_context asked (drop HEADER_BYTES last))
-    else is_error_form last && may_refuse true asked (code_of last))) same
+    && (not (code_of asked == CC_CONTEXT_SAVE) || is_context contexts asked (drop HEADER_BYTES last))
+    else is_error_form last && may_refuse contexts true asked (code_of last))) same
 
 succeeds_by : (frame code form error own own_refuses refuses : Bool) → (frame && (if code then form else error && (if own then own_refuses else refuses))) ≡ true
     → own ≡ true → own_refuses ≡ false → (code ≡ true) × (form ≡ true)
@@ -48,9 +51,9 @@ never_by true refused is = absurd cc
 never_by false refused is = refl
 
 -- a broker's own command succeeds, where its response is taken
-pub succeeds : (asked last : List ℕ) → IsOwn asked → takes true true asked last ≡ true → Succeeds asked last
-succeeds asked last own is =
-    let parts = succeeds_by (is_frame last) (code_of last == RC_SUCCESS) (is_success_form true asked last) (is_error_form last) (is_own true asked)
+pub succeeds : (contexts : ContextLimits) (asked last : List ℕ) → IsOwn contexts asked → takes contexts true true asked last ≡ true → Succeeds contexts asked last
+succeeds contexts asked last own is =
+    let parts = succeeds_by (is_frame last) (code_of last == RC_SUCCESS) (is_success_form contexts true asked last) (is_error_form last) (is_own contexts true asked)
     (code_of asked == CC_STARTUP && code_of last == RC_INITIALIZE) _ is own.own (never_by (code_of asked == CC_STARTUP) (code_of last == RC_INITIALIZE) own.later) in
     record { code = eqb-true (code_of last) RC_SUCCESS parts.0; form = parts.1 }
 
@@ -72,21 +75,21 @@ pub sent_as : (command : List ℕ) (response : Option (List ℕ)) (trace old : L
 sent_as command response trace old is =
     is ∙ ap (λ (last : Option (List ℕ)). record { command = command; response = last } ∷ old) (sym (ap newest_response is))
 
-pub wrong_answer : (command asked : List ℕ) (last : Option (List ℕ)) (reply : List ℕ) (code : ℕ) → asked ≡ command → last ≡ Some reply
-    → takes true true command reply ≡ false → code ≡ reported_code reply → IsWrongAnswer asked last code
-wrong_answer command asked last reply code asked_is last_is not_taken code_is = record {
-  is_wrong = (λ i. wrong (asked_is i) (last_is i)) ∙ ap not not_taken;
+pub wrong_answer : (contexts : ContextLimits) (command asked : List ℕ) (last : Option (List ℕ)) (reply : List ℕ) (code : ℕ) → asked ≡ command → last ≡ Some reply
+    → takes contexts true true command reply ≡ false → code ≡ reported_code reply → IsWrongAnswer contexts asked last code
+wrong_answer contexts command asked last reply code asked_is last_is not_taken code_is = record {
+  is_wrong = (λ i. wrong contexts (asked_is i) (last_is i)) ∙ ap not not_taken;
   response = reply;
   last_is = last_is;
   code_is = code_is;
 }
 
-pub answered : (command asked : List ℕ) (last : Option (List ℕ)) (reply : List ℕ) → IsOwn command → asked ≡ command → last ≡ Some reply
-    → takes true true command reply ≡ true → IsAnswered asked last
-answered command asked last reply own asked_is last_is taken =
-    subst (λ (o : Option (List ℕ)). IsAnswered asked o) (sym last_is) (
-      ap (is_own true) asked_is ∙ own.own,
-      ap (λ (asked : List ℕ). takes true true asked reply) asked_is ∙ taken,
+pub answered : (contexts : ContextLimits) (command asked : List ℕ) (last : Option (List ℕ)) (reply : List ℕ) → IsOwn contexts command → asked ≡ command
+    → last ≡ Some reply → takes contexts true true command reply ≡ true → IsAnswered contexts asked last
+answered contexts command asked last reply own asked_is last_is taken =
+    subst (λ (o : Option (List ℕ)). IsAnswered contexts asked o) (sym last_is) (
+      ap (is_own contexts true) asked_is ∙ own.own,
+      ap (λ (asked : List ℕ). takes contexts true true asked reply) asked_is ∙ taken,
     )
 
 -- ---- a wrong answer
@@ -95,10 +98,11 @@ pub record Untold (state new_state : Option SlotState) : Type 0 where
   pub none : new_state ≡ None
   pub same : new_state ≡ state
 
--- no device that tells its state gives one
-pub untold : (state new_state : Option SlotState) (asked last : List ℕ) → IfSome state (λ slots. takes true true asked (slot_step slots asked).1 ≡ true)
-    → Answered state asked new_state last → takes true true asked last ≡ false → Untold state new_state
-untold None new_state asked last told answered not = record { none = answered; same = answered }
-untold (Some slots) new_state asked last told answered not =
-    let yes : takes true true asked last ≡ true = ap (takes true true asked) answered.1 ∙ told in
+-- no device that tells its state gives one, since it is of the profile
+pub untold : (contexts : ContextLimits) (state new_state : Option SlotState) (asked last : List ℕ)
+    → IfSome state (λ slots. takes PROFILE_CONTEXTS true true asked (slot_step slots asked).1 ≡ true) → IfSome state (λ slots. contexts ≡ PROFILE_CONTEXTS)
+    → Answered state asked new_state last → takes contexts true true asked last ≡ false → Untold state new_state
+untold contexts None new_state asked last told profile answered not = record { none = answered; same = answered }
+untold contexts (Some slots) new_state asked last told profile answered not =
+    let yes : takes contexts true true asked last ≡ true = (λ i. takes (profile i) true true asked (answered.1 i)) ∙ told in
     absurd cc

@@ -11,39 +11,44 @@ ghost use Rattle.tab_spec.specs.Session.{is_kind_number, kind_of, kind_octet};
 ghost use Rattle.effect_spec.specs.Contexts.{context_of};
 ghost use Rattle.device_spec.specs.Answers as answers;
 
-use device_spec::{MOST_OBJECT_CONTEXT_BYTES, MOST_SESSION_CONTEXT_BYTES};
 use tab_bytes::Reader;
 use tab_spec::{
     CC_CONTEXT_LOAD, CC_CONTEXT_SAVE, CC_FLUSH_CONTEXT, CC_GET_CAPABILITY, CC_START_AUTH_SESSION,
-    CC_STARTUP, HEADER_BYTES, HT_HMAC_SESSION, HT_POLICY_SESSION, HT_TRANSIENT, RC_CANCELED,
-    RC_CONTEXT_GAP, RC_DEVICE_ANSWER, RC_DEVICE_FAULT, RC_INITIALIZE, RC_INSUFFICIENT,
+    CC_STARTUP, ContextLimits, HEADER_BYTES, HT_HMAC_SESSION, HT_POLICY_SESSION, HT_TRANSIENT,
+    RC_CANCELED, RC_CONTEXT_GAP, RC_DEVICE_ANSWER, RC_DEVICE_FAULT, RC_INITIALIZE, RC_INSUFFICIENT,
     RC_JOURNAL_FULL, RC_MEMORY, RC_OBJECT_MEMORY, RC_REFERENCE_H0, RC_REFERENCE_S0,
-    RC_SESSION_MEMORY, RC_SUCCESS, SESSION_NUMBERS, ST_NO_SESSIONS, ST_SESSIONS, TRANSIENT_FIRST,
+    RC_SESSION_MEMORY, RC_SUCCESS, SESSION_NUMBERS, ST_NO_SESSIONS, ST_SESSIONS,
 };
 use tab_values::{read_context, read_sized};
-use tab_wire::{code_of, is_session_handle, octet_of, row_of, tag_of};
+use tab_wire::{code_of, is_saved_object, is_session_handle, octet_of, row_of, tag_of};
 
-/// Whether a broker takes a response as the answer to the command that it sent (Part 1,
-/// "Command/Response Structure"). A success has the command's tag, the handle, the authorization
-/// and the context that the command asks for, each of them whole, and of GetCapability the handles
-/// or the one property that it asks for. An error is ten bytes, and has none of the codes that the
-/// broker sees to. Every other response is a wrong answer.
+/// Whether a broker takes a response as the answer to the command that it sent to a device with
+/// these contexts (Part 1, "Command/Response Structure"). A success has the command's tag, the
+/// handle, the authorization and the context that the command asks for, each of them whole, and of
+/// GetCapability the handles or the one property that it asks for. An error is ten bytes, and has
+/// none of the codes that the broker sees to. Every other response is a wrong answer.
 ///
 /// Two things the broker tells that no bytes show: whether a context that the command loads is one
-/// that it kept itself, and whether no new session can have the number of the response's handle,
-/// since a client has one with it, or clients have as many as may be active.
-pub fn takes(asked: &[u8], last: &[u8], is_kept: bool, is_taken: bool) -> bool
+/// that it kept itself, and whether no new session can have the number of the response's handle:
+/// a client has one with it, one was left with it, or as many are active as may be.
+pub fn takes(
+    contexts: ContextLimits,
+    asked: &[u8],
+    last: &[u8],
+    is_kept: bool,
+    is_taken: bool,
+) -> bool
     requires { IsTrue (is_frame asked.now) }
-    ensures { result ≡ answers.takes is_kept is_taken asked.now last.now }
+    ensures { result ≡ answers.takes contexts is_kept is_taken asked.now last.now }
 {
     if !tab_wire::is_frame(last) {
         return false;
     }
     let code = code_of(last);
     if code == RC_SUCCESS {
-        return is_success_form(asked, last, is_taken);
+        return is_success_form(contexts, asked, last, is_taken);
     }
-    is_error_form(last) && may_refuse(asked, code, is_kept)
+    is_error_form(last) && may_refuse(contexts, asked, code, is_kept)
 }
 
 // ---- what was asked
@@ -86,16 +91,16 @@ fn loads_session(asked: &[u8]) -> bool
 }
 
 // Whether it is a ContextLoad of an object.
-fn loads_object(asked: &[u8]) -> bool
+fn loads_object(contexts: ContextLimits, asked: &[u8]) -> bool
     requires { IsTrue (is_frame asked.now) }
-    ensures { result ≡ answers.loads_object asked.now }
+    ensures { result ≡ answers.loads_object contexts asked.now }
 {
     if code_of(asked) != CC_CONTEXT_LOAD {
         return false;
     }
     match word_at(asked, SAVED_HANDLE_PLACE) {
         None => false,
-        Some(handle) => handle == TRANSIENT_FIRST,
+        Some(handle) => is_saved_object(contexts, handle),
     }
 }
 
@@ -126,16 +131,16 @@ fn asks_of_handles(asked: &[u8]) -> bool
 }
 
 // Whether a command is the broker's own, so that the device has no reason to refuse it.
-fn is_own(asked: &[u8], is_kept: bool) -> bool
+fn is_own(contexts: ContextLimits, asked: &[u8], is_kept: bool) -> bool
     requires { IsTrue (is_frame asked.now) }
-    ensures { result ≡ answers.is_own is_kept asked.now }
+    ensures { result ≡ answers.is_own contexts is_kept asked.now }
 {
     let code = code_of(asked);
     code == CC_STARTUP
         || code == CC_CONTEXT_SAVE
         || code == CC_FLUSH_CONTEXT
         || loads_session(asked)
-        || (loads_object(asked) && is_kept)
+        || (loads_object(contexts, asked) && is_kept)
         || asks_of_tables(asked)
 }
 
@@ -169,11 +174,11 @@ fn is_hidden(code: u32) -> bool
 
 // Whether a device may refuse a command with this code: a client's with any that isn't hidden, and
 // of the broker's own Startup alone, where it had started before.
-fn may_refuse(asked: &[u8], code: u32, is_kept: bool) -> bool
+fn may_refuse(contexts: ContextLimits, asked: &[u8], code: u32, is_kept: bool) -> bool
     requires { IsTrue (is_frame asked.now) }
-    ensures { result ≡ answers.may_refuse is_kept asked.now code }
+    ensures { result ≡ answers.may_refuse contexts is_kept asked.now code }
 {
-    if is_own(asked, is_kept) {
+    if is_own(contexts, asked, is_kept) {
         return code_of(asked) == CC_STARTUP && code == RC_INITIALIZE;
     }
     !is_hidden(code)
@@ -233,8 +238,8 @@ fn octet_of_type(kind: u8) -> Option<u32>
     }
 }
 
-// Whether a handle is that of a session that StartAuthSession asked for, where no client has one
-// with its number.
+// Whether a handle is that of a session that StartAuthSession asked for, where neither a client's
+// session nor a left one has its number.
 fn is_started_handle(asked: &[u8], handle: u32, is_taken: bool) -> bool
     ensures { result ≡ answers.is_started_handle is_taken
         (answers.session_type_of (drop 18 asked.now)) handle }
@@ -328,8 +333,9 @@ fn is_authorized(named: bool, asked: &[u8], last: &[u8]) -> bool
 
 // Whether the bytes are one whole context of this object or session (Part 2, "TPMS_CONTEXT"), of
 // the size and the savedHandle that it has.
-fn is_context_of(handle: u32, context: &[u8]) -> bool
-    ensures { result ≡ answers.is_context_of handle context.now (context_of context.now) }
+fn is_context_of(contexts: ContextLimits, handle: u32, context: &[u8]) -> bool
+    ensures { result
+        ≡ answers.is_context_of contexts handle context.now (context_of context.now) }
 {
     let mut r = Reader::new(context);
     let Ok(read) = read_context(&mut r) else {
@@ -339,32 +345,32 @@ fn is_context_of(handle: u32, context: &[u8]) -> bool
         return false;
     }
     if octet_of(handle) == HT_TRANSIENT {
-        return read.saved_handle == TRANSIENT_FIRST
-            && context.len() <= MOST_OBJECT_CONTEXT_BYTES as usize;
+        return is_saved_object(contexts, read.saved_handle)
+            && context.len() <= usize::from(contexts.object_bytes);
     }
-    read.saved_handle == handle && context.len() <= MOST_SESSION_CONTEXT_BYTES as usize
+    read.saved_handle == handle && context.len() <= usize::from(contexts.session_bytes)
 }
 
 // Whether they are that of the handle that ContextSave names.
-fn is_context(asked: &[u8], context: &[u8]) -> bool
-    ensures { result ≡ answers.is_context asked.now context.now }
+fn is_context(contexts: ContextLimits, asked: &[u8], context: &[u8]) -> bool
+    ensures { result ≡ answers.is_context contexts asked.now context.now }
 {
     match word_at(asked, HEADER_BYTES as usize) {
         None => false,
-        Some(handle) => is_context_of(handle, context),
+        Some(handle) => is_context_of(contexts, handle, context),
     }
 }
 
 // Whether the response has the context that was asked for, where one was.
-fn is_saved(asked: &[u8], last: &[u8]) -> bool
+fn is_saved(contexts: ContextLimits, asked: &[u8], last: &[u8]) -> bool
     requires { IsTrue (is_frame asked.now) }
     ensures { result ≡ (not (code_of asked.now == CC_CONTEXT_SAVE)
-        || answers.is_context asked.now (drop 10 last.now)) }
+        || answers.is_context contexts asked.now (drop 10 last.now)) }
 {
     if code_of(asked) != CC_CONTEXT_SAVE {
         return true;
     }
-    is_context(asked, after(last, HEADER_BYTES as usize))
+    is_context(contexts, asked, after(last, HEADER_BYTES as usize))
 }
 
 // Whether GetCapability asks for handles of objects or of sessions.
@@ -499,15 +505,15 @@ fn lists_asked(asked: &[u8], last: &[u8]) -> bool
 }
 
 // Whether a response has the form of a success.
-fn is_success_form(asked: &[u8], last: &[u8], is_taken: bool) -> bool
+fn is_success_form(contexts: ContextLimits, asked: &[u8], last: &[u8], is_taken: bool) -> bool
     requires asked { IsTrue (is_frame asked.now) }
     requires last { IsTrue (is_frame last.now) }
-    ensures { result ≡ answers.is_success_form is_taken asked.now last.now }
+    ensures { result ≡ answers.is_success_form contexts is_taken asked.now last.now }
 {
     let named = has_response_handle(code_of(asked));
     lists_asked(asked, last)
         && tag_of(last) == tag_of(asked)
         && is_handled(named, asked, last, is_taken)
         && is_authorized(named, asked, last)
-        && is_saved(asked, last)
+        && is_saved(contexts, asked, last)
 }

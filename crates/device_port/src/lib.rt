@@ -9,5 +9,5 @@ mod trace;
 
 pub use answers::{takes, word_at};
 pub use device::{Device, DeviceFailed};
-pub use own::{SwapError, ask, command_of, handle_of, value_told};
+pub use own::{SwapError, ask, command_of, handle_of, load_command, value_told};
 pub use trace::Trace;

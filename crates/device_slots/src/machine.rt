@@ -24,9 +24,9 @@ use std::marker::Model;
 use tab_bytes::{Buffer, Reader};
 use tab_spec::{
     Auths, CC_CONTEXT_LOAD, CC_CONTEXT_SAVE, CC_FLUSH_CONTEXT, CC_GET_CAPABILITY,
-    CC_START_AUTH_SESSION, CC_STARTUP, CommandRow, Numbers, RC_INITIALIZE, RC_INSUFFICIENT,
-    RC_SESSION_HANDLES, RC_SESSION_MEMORY, RC_SUCCESS, RC_VALUE, SESSION_NUMBERS, ST_NO_SESSIONS,
-    Shape,
+    CC_START_AUTH_SESSION, CC_STARTUP, CommandRow, ContextLimits, Numbers, PROFILE_CONTEXTS,
+    RC_INITIALIZE, RC_INSUFFICIENT, RC_SESSION_HANDLES, RC_SESSION_MEMORY, RC_SUCCESS, RC_VALUE,
+    SESSION_NUMBERS, ST_NO_SESSIONS, Shape,
 };
 use tab_values::{Object, Persist, end_parameters, in_parameter};
 use tab_wire::{Tables, admit, command_row, error_reply, start_response};
@@ -266,6 +266,10 @@ impl Tables for SlotMachine {
 
     fn is_full(&self) -> bool {
         is_full(&self.slots)
+    }
+
+    fn contexts(&self) -> ContextLimits {
+        PROFILE_CONTEXTS
     }
 }
 

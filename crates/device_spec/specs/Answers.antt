@@ -4,10 +4,12 @@ use Rattle.std.specs.Prelude.{◌≡◌, ℕ, zero, suc, ◌+◌, ◌*◌, ◌==
 use Rattle.std.specs.List.{list_all, list_any}
 use Rattle.std.specs.Int.{w32, from_be_bytes}
 use Rattle.tab_spec.specs.declared.CommandRow.{CommandRow}
-use Rattle.tab_spec.specs.declared.TheConstants.{HEADER_BYTES, ST_NO_SESSIONS, ST_SESSIONS, CC_STARTUP, CC_CONTEXT_LOAD, CC_CONTEXT_SAVE, CC_FLUSH_CONTEXT, CC_GET_CAPABILITY, CC_START_AUTH_SESSION, HT_TRANSIENT, TRANSIENT_FIRST, SESSION_NUMBERS, RC_SUCCESS, RC_INITIALIZE, RC_INSUFFICIENT, RC_CANCELED, RC_CONTEXT_GAP, RC_OBJECT_MEMORY, RC_SESSION_MEMORY, RC_REFERENCE_H0, RC_REFERENCE_S0, RC_MEMORY, RC_DEVICE_FAULT, RC_JOURNAL_FULL, RC_DEVICE_ANSWER}
-use Rattle.device_spec.specs.declared.TheConstants.{MOST_OBJECT_CONTEXT_BYTES, MOST_SESSION_CONTEXT_BYTES}
+use Rattle.tab_spec.specs.declared.TheConstants.{HEADER_BYTES, ST_NO_SESSIONS, ST_SESSIONS, CC_STARTUP, CC_CONTEXT_LOAD, CC_CONTEXT_SAVE, CC_FLUSH_CONTEXT, CC_GET_CAPABILITY, CC_START_AUTH_SESSION, HT_TRANSIENT, SESSION_NUMBERS, RC_SUCCESS, RC_INITIALIZE, RC_INSUFFICIENT, RC_CANCELED, RC_CONTEXT_GAP, RC_OBJECT_MEMORY, RC_SESSION_MEMORY, RC_REFERENCE_H0, RC_REFERENCE_S0, RC_MEMORY, RC_DEVICE_FAULT, RC_JOURNAL_FULL, RC_DEVICE_ANSWER}
+use Rattle.tab_spec.specs.declared.contexts.ContextLimits.{ContextLimits}
+use Rattle.tab_spec.specs.declared.contexts.TheConstants.{PROFILE_CONTEXTS}
 use Rattle.tab_spec.specs.Admission.{is_session_handle}
 use Rattle.tab_spec.specs.Commands.{row_of}
+use Rattle.tab_spec.specs.Contexts.{is_saved_object}
 use Rattle.tab_spec.specs.Frame.{code_of, is_frame, reported_code, tag_of}
 use Rattle.tab_spec.specs.Session.{is_kind_number, kind_of, kind_octet}
 use Rattle.tab_spec.specs.Shape.{octet_of, number_of_session}
@@ -32,9 +34,9 @@ saved_handle_place = HEADER_BYTES + 8
 abbrev pub loads_session : List ℕ → Bool
 loads_session asked = code_of asked == CC_CONTEXT_LOAD && is_word is_session_handle (word_at saved_handle_place asked)
 
-abbrev pub loads_object : List ℕ → Bool
-loads_object asked =
-    code_of asked == CC_CONTEXT_LOAD && is_word (λ handle. handle == TRANSIENT_FIRST) (word_at saved_handle_place asked)
+abbrev pub loads_object : ContextLimits → List ℕ → Bool
+loads_object contexts asked =
+    code_of asked == CC_CONTEXT_LOAD && is_word (is_saved_object contexts) (word_at saved_handle_place asked)
 
 -- what GetCapability asks of the tables of a client: handles of objects and of sessions, and properties
 abbrev pub is_of_tables : ℕ → Bool
@@ -48,10 +50,10 @@ asks_of_tables asked =
 
 -- Whether a command is the broker's own: it knows beforehand that the device has no reason to refuse it. A ContextLoad of an
 -- object is one exactly where the context is kept by the broker, and not a client's.
-abbrev pub is_own : Bool → List ℕ → Bool
-is_own is_kept asked =
+abbrev pub is_own : ContextLimits → Bool → List ℕ → Bool
+is_own contexts is_kept asked =
     code_of asked == CC_STARTUP || code_of asked == CC_CONTEXT_SAVE || code_of asked == CC_FLUSH_CONTEXT
-    || loads_session asked || (loads_object asked && is_kept) || asks_of_tables asked
+    || loads_session asked || (loads_object contexts asked && is_kept) || asks_of_tables asked
 
 -- ---- errors
 
@@ -69,9 +71,9 @@ is_hidden code =
     || is_reference code
 
 -- the broker's own commands succeed, but a device may have started before
-abbrev pub may_refuse : Bool → List ℕ → ℕ → Bool
-may_refuse is_kept asked code =
-    if is_own is_kept asked then code_of asked == CC_STARTUP && code == RC_INITIALIZE else not (is_hidden code)
+abbrev pub may_refuse : ContextLimits → Bool → List ℕ → ℕ → Bool
+may_refuse contexts is_kept asked code =
+    if is_own contexts is_kept asked then code_of asked == CC_STARTUP && code == RC_INITIALIZE else not (is_hidden code)
 
 -- an error is ten bytes
 abbrev pub is_error_form : List ℕ → Bool
@@ -88,7 +90,8 @@ abbrev pub session_type_of : List ℕ → Reading ℕ
 session_type_of params =
     then_read (sized RC_INSUFFICIENT params) (λ nonce rest. then_read (sized RC_INSUFFICIENT rest) (λ salt rest. number8 RC_INSUFFICIENT rest))
 
--- the handle of a session that started: of the type that was asked for, with a number that a session may have and no client has
+-- the handle of a session that started: of the type that was asked for, with a number that a session may have and that neither a client's
+-- nor a left one has
 abbrev pub is_started_handle : Bool → Reading ℕ → ℕ → Bool
 is_started_handle is_taken (Err code) handle = false
 is_started_handle is_taken (Ok read) handle =
@@ -118,15 +121,17 @@ answer_area bytes =
     then_read (sized RC_INSUFFICIENT rest) (λ hmac rest. Ok (size, rest))))))
 
 -- the context of a saved object or session: one whole TPMS_CONTEXT of the size and the savedHandle that it has
-abbrev pub is_context_of : ℕ → List ℕ → Reading Context → Bool
-is_context_of handle context (Err code) = false
-is_context_of handle context (Ok read) =
+abbrev pub is_context_of : ContextLimits → ℕ → List ℕ → Reading Context → Bool
+is_context_of contexts handle context (Err code) = false
+is_context_of contexts handle context (Ok read) =
     length read.1 == 0
-    && (if octet_of handle == HT_TRANSIENT then read.0.saved_handle == TRANSIENT_FIRST && nat_le (length context) MOST_OBJECT_CONTEXT_BYTES
-    else read.0.saved_handle == handle && nat_le (length context) MOST_SESSION_CONTEXT_BYTES)
+    && (if octet_of handle == HT_TRANSIENT
+    then is_saved_object contexts read.0.saved_handle && nat_le (length context) contexts.object_bytes
+    else read.0.saved_handle == handle && nat_le (length context) contexts.session_bytes)
 
-abbrev pub is_context : List ℕ → List ℕ → Bool
-is_context asked context = is_word (λ handle. is_context_of handle context (context_of context)) (word_at HEADER_BYTES asked)
+abbrev pub is_context : ContextLimits → List ℕ → List ℕ → Bool
+is_context contexts asked context =
+    is_word (λ handle. is_context_of contexts handle context (context_of context)) (word_at HEADER_BYTES asked)
 
 -- ---- lists of handles (Part 2, "TPMS_CAPABILITY_DATA")
 
@@ -201,39 +206,43 @@ lists_asked asked last = lists_handles asked last && tells_asked asked last
 
 -- the list of handles or the property that was asked for, the command's tag, a handle where there has to be one, an authorization where the
 -- command has one, and the context that was asked for
-abbrev pub is_success_form : Bool → List ℕ → List ℕ → Bool
-is_success_form is_taken asked last =
+abbrev pub is_success_form : ContextLimits → Bool → List ℕ → List ℕ → Bool
+is_success_form contexts is_taken asked last =
     let has_handle = has_response_handle (row_of (code_of asked)) in
     lists_asked asked last
     && tag_of last == tag_of asked
     && (not has_handle || is_word (fits_handle is_taken asked) (word_at HEADER_BYTES last))
     && (not (tag_of asked == ST_SESSIONS) || is_whole (answer_area (drop (if has_handle then HEADER_BYTES + 4 else HEADER_BYTES) last)))
-    && (not (code_of asked == CC_CONTEXT_SAVE) || is_context asked (drop HEADER_BYTES last))
+    && (not (code_of asked == CC_CONTEXT_SAVE) || is_context contexts asked (drop HEADER_BYTES last))
 
 -- ---- right and wrong
 
--- Whether a response is taken as the answer to a command, by what the broker holds: whether the context that the command loads is
--- kept by it, and whether no new session can have the number of the response's handle.
-abbrev pub takes : Bool → Bool → List ℕ → List ℕ → Bool
-takes is_kept is_taken asked last =
+-- Whether a response is taken as the answer to a command, of a device with these contexts, by what the broker holds: whether the
+-- context that the command loads is kept by it, and whether no new session can have the number of the response's handle.
+abbrev pub takes : ContextLimits → Bool → Bool → List ℕ → List ℕ → Bool
+takes contexts is_kept is_taken asked last =
     is_frame last
-    && (if code_of last == RC_SUCCESS then is_success_form is_taken asked last
-    else is_error_form last && may_refuse is_kept asked (code_of last))
+    && (if code_of last == RC_SUCCESS then is_success_form contexts is_taken asked last
+    else is_error_form last && may_refuse contexts is_kept asked (code_of last))
+
+-- the same of a device of the profile. What Startup, FlushContext and GetCapability are answered is so taken of any device
+abbrev pub profile_takes : Bool → Bool → List ℕ → List ℕ → Bool
+profile_takes is_kept is_taken asked last = takes PROFILE_CONTEXTS is_kept is_taken asked last
 
 -- whether the last response may be a wrong answer to what was asked: it is one by what some broker may hold
-abbrev pub wrong : List ℕ → Option (List ℕ) → Bool
-wrong asked None = false
-wrong asked (Some last) = not (takes true true asked last)
+abbrev pub wrong : ContextLimits → List ℕ → Option (List ℕ) → Bool
+wrong contexts asked None = false
+wrong contexts asked (Some last) = not (takes contexts true true asked last)
 
 -- the last response is a wrong answer to what was asked, and this is its code
-pub record IsWrongAnswer (asked : List ℕ) (last : Option (List ℕ)) (code : ℕ) : Type 0 where
-  pub is_wrong : wrong asked last ≡ true
+pub record IsWrongAnswer (contexts : ContextLimits) (asked : List ℕ) (last : Option (List ℕ)) (code : ℕ) : Type 0 where
+  pub is_wrong : wrong contexts asked last ≡ true
   pub response : List ℕ
   pub last_is : last ≡ Some response
   pub code_is : code ≡ reported_code response
 
 -- the last response isn't refused by every broker: one takes it that keeps no context which the command loads, and whose clients
 -- have no session with its handle's number
-abbrev pub IsRight : List ℕ → Option (List ℕ) → Type 0
-IsRight asked None = Unit {0}
-IsRight asked (Some last) = takes false false asked last ≡ true
+abbrev pub IsRight : ContextLimits → List ℕ → Option (List ℕ) → Type 0
+IsRight contexts asked None = Unit {0}
+IsRight contexts asked (Some last) = takes contexts false false asked last ≡ true

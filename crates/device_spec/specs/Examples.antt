@@ -21,6 +21,8 @@ use Rattle.device_spec.specs.Slots.{SessionPlace, inactive, loaded, saved, SlotS
 use Rattle.device_spec.specs.Answers.{takes}
 use Rattle.tab_spec.specs.Examples.{bytes_of, extended_persist, frame, policy_session, save, sealed, u32, with_indexes}
 use Rattle.tab_spec.specs.SessionExamples.{hmac_session, next_32, session_auth}
+use Rattle.tab_spec.specs.declared.contexts.TheConstants.{PROFILE_CONTEXTS}
+use Rattle.tab_spec.specs.declared.contexts.ContextLimits.{ContextLimits}
 use Rattle.effect_spec.specs.Examples.{another_device}
 use Rattle.effect_spec.specs.SessionExamples.{read_by_session, start_parameter_bytes, unsealed_by_policy, usual_start_parameters}
 
@@ -262,25 +264,25 @@ password_response_auth = 0 ∷ 0 ∷ 1 ∷ 0 ∷ 0 ∷ []
 
 -- of these codes those that a broker takes as the error to a command, where it keeps the context that the command loads, or not
 abbrev pub codes_taken : Bool → List ℕ → List ℕ → List ℕ
-codes_taken is_kept asked codes = filter (λ code. takes is_kept false asked (frame 0x8001 code [])) codes
+codes_taken is_kept asked codes = filter (λ code. takes PROFILE_CONTEXTS is_kept false asked (frame 0x8001 code [])) codes
 
 -- of these handles those that it takes of a response that has a handle and nothing else
 abbrev pub handles_taken : List ℕ → List ℕ → List ℕ
-handles_taken asked handles = filter (λ handle. takes false false asked (frame 0x8001 0 (u32 handle))) handles
+handles_taken asked handles = filter (λ handle. takes PROFILE_CONTEXTS false false asked (frame 0x8001 0 (u32 handle))) handles
 
 -- and of these handles those that it takes of a session that started
 abbrev pub starts_taken : ℕ → List ℕ → List ℕ
-starts_taken kind handles = filter (λ handle. takes false false (start_session kind) (start_reply handle next_32)) handles
+starts_taken kind handles = filter (λ handle. takes PROFILE_CONTEXTS false false (start_session kind) (start_reply handle next_32)) handles
 
 -- whether it takes a list of these handles, where those from this one on were asked for
 abbrev pub lists_taken : ℕ → List ℕ → Bool
 lists_taken property handles =
-    takes true true (ask 1 property 254) (answer 0 1 (u32 (length handles) ++ joined_items (map (λ handle. u32 handle) handles)))
+    takes PROFILE_CONTEXTS true true (ask 1 property 254) (answer 0 1 (u32 (length handles) ++ joined_items (map (λ handle. u32 handle) handles)))
 
 -- objects in the first and the last slot, and a loaded session of each type and a saved one
 abbrev pub left_behind : SlotState
 left_behind = record three_sessions { slots = Some sealed ∷ None ∷ Some sealed ∷ [] }
 
 -- whether it takes a context as that of a handle
-abbrev pub saves : ℕ → List ℕ → Bool
-saves handle context = takes true true (save handle) (frame 0x8001 0 context)
+abbrev pub saves : ContextLimits → ℕ → List ℕ → Bool
+saves contexts handle context = takes contexts true true (save handle) (frame 0x8001 0 context)

@@ -22,6 +22,7 @@ use Rattle.effect_spec.specs.Sessions.{StartParameters, start_check}
 use Rattle.tab_spec.specs.Values.{Reading, number16, number32}
 use Rattle.tab_spec.specs.Reply.{error_reply, response, with_response_handle}
 use Rattle.tab_spec.specs.Parameters.{in_parameter, when_read, nothing_of}
+use Rattle.tab_spec.specs.declared.contexts.TheConstants.{PROFILE_CONTEXTS}
 use Rattle.effect_spec.specs.Effect.{Effect, effect_of}
 
 -- what a session number is: unused, that of a loaded session, with the first octet of its handle, or that of one that
@@ -161,6 +162,7 @@ slot_tables slots = record {
   has_object = λ handle. is_some (in_slot slots handle);
   has_session = λ handle. is_some (loaded_session slots handle);
   is_full = not (list_any is_free slots.slots);
+  contexts = PROFILE_CONTEXTS;
 }
 
 -- what a command's handles and its authorization stand for

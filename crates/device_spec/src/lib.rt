@@ -2,11 +2,6 @@
 //! command makes of it. Definitions alone, which contracts cite.
 #![tactic(auto)]
 
-/// The most bytes of the context of an object, and of a session (the project's own).
-pub const MOST_OBJECT_CONTEXT_BYTES: u32 = 512;
-
-pub const MOST_SESSION_CONTEXT_BYTES: u32 = 256;
-
 /// The properties that are a device's numbers (Part 2, "TPM_PT"): its slots for objects.
 pub const PT_HR_TRANSIENT_MIN: u32 = 0x10e;
 

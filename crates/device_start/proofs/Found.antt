@@ -5,7 +5,7 @@ use Rattle.tab_spec.specs.Commands.{startup_command}
 use Rattle.tab_spec.specs.declared.numbers.Numbers.{Numbers}
 use Rattle.tab_spec.specs.Numbers.{AreInRange}
 use Rattle.tab_spec.specs.Values.{AreBytes}
-use Rattle.device_spec.specs.Answers.{listed_handles, takes}
+use Rattle.device_spec.specs.Answers.{listed_handles, profile_takes as takes}
 use Rattle.device_spec.specs.Remains.{handles_command, object_handles, session_handles}
 use Rattle.device_spec.specs.Slots.{IsSlots, SlotState, slot_step}
 use Rattle.device_port.specs.Device.{Answered}

@@ -4,7 +4,8 @@ use Rattle.std.specs.Prelude.{Option, Some, None, IfSome, is_some}
 use Rattle.std.specs.Int.{w32, from_be_bytes, to_be_bytes}
 use Rattle.std.proofs.lemmas.List.{append-nil}
 use Rattle.tab_spec.specs.declared.TheConstants.{CC_FLUSH_CONTEXT, ST_NO_SESSIONS}
-use Rattle.device_spec.specs.Answers.{handles_from, listed_handles, takes, word_at}
+use Rattle.tab_spec.specs.declared.contexts.ContextLimits.{ContextLimits}
+use Rattle.device_spec.specs.Answers.{handles_from, listed_handles, profile_takes as takes, word_at}
 use Rattle.device_spec.specs.ContextCommands.{flush_context_command}
 use Rattle.device_spec.specs.Slots.{SlotState, held, slot_step}
 use Rattle.device_port.specs.Device.{Answered}
@@ -17,8 +18,8 @@ use Rattle.device_start.proofs.Reading.{count_read}
 use Rattle.device_port.proofs.Listing.{rest_of}
 use Rattle.std.specs.Option.{unwrap_or}
 
-pub flush_is_own : (handle : ℕ) → IsOwn (flush_context_command handle)
-flush_is_own handle = record {
+pub flush_is_own : (contexts : ContextLimits) (handle : ℕ) → IsOwn contexts (flush_context_command handle)
+flush_is_own contexts handle = record {
   frame = response_is_frame ST_NO_SESSIONS CC_FLUSH_CONTEXT (to_be_bytes w32 handle) (omega arith);
   own = refl;
   later = refl;

@@ -6,7 +6,8 @@ use Rattle.std.specs.Option.{unwrap_or}
 use Rattle.std.specs.Int.{w32, from_be_bytes}
 use Rattle.std.proofs.lemmas.Bool.{and_parts, eqb-true, leb-true}
 use Rattle.tab_spec.specs.Frame.{is_frame, size_of, tag_of}
-use Rattle.device_spec.specs.Answers.{handles_from, is_list_from, is_success_form, is_word, listed_handles, may_be_listed, takes, word_at}
+use Rattle.tab_spec.specs.declared.contexts.ContextLimits.{ContextLimits}
+use Rattle.device_spec.specs.Answers.{handles_from, is_list_from, is_success_form, is_word, listed_handles, may_be_listed, profile_takes as takes, word_at}
 use Rattle.device_port.proofs.Listing.{next_of, rest_of, word_there}
 use Rattle.device_start.specs.Start.{IsList}
 
@@ -34,9 +35,9 @@ form_lists : (lists tag : Bool) → (lists && true && tag && true && true && tru
 form_lists true tag is = refl
 form_lists false tag is = absurd cc
 
-pub taken_fills : (asked last : List ℕ) (property : ℕ) → takes true true asked last ≡ true → is_success_form true asked last ≡ true
-    → is_success_form true asked last ≡ (is_list_from last property && true && tag_of last == tag_of asked && true && true && true) → IsList last
-taken_fills asked last property taken form computes =
+pub taken_fills : (contexts : ContextLimits) (asked last : List ℕ) (property : ℕ) → takes true true asked last ≡ true → is_success_form contexts true asked last ≡ true
+    → is_success_form contexts true asked last ≡ (is_list_from last property && true && tag_of last == tag_of asked && true && true && true) → IsList last
+taken_fills contexts asked last property taken form computes =
     let frame = and_parts (is_frame last) _ taken in
     list_fills last property frame.0 (form_lists (is_list_from last property) (tag_of last == tag_of asked) (sym computes ∙ form))
 

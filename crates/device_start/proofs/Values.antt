@@ -7,7 +7,8 @@ use Rattle.tab_spec.specs.declared.numbers.Numbers.{Numbers}
 use Rattle.tab_spec.specs.declared.TheConstants.{CONTEXT_GAP, LOADED_SESSIONS, OBJECT_SLOTS, SESSION_NUMBERS}
 use Rattle.tab_spec.specs.Commands.{startup_command}
 use Rattle.tab_spec.specs.Numbers.{AreInRange}
-use Rattle.device_spec.specs.Answers.{takes, value_told}
+use Rattle.tab_spec.specs.declared.contexts.ContextLimits.{ContextLimits}
+use Rattle.device_spec.specs.Answers.{profile_takes as takes, value_told}
 use Rattle.device_spec.specs.Numbers.{FitWords, are_in, is_out, number_command, number_properties, values_of}
 use Rattle.device_spec.specs.Slots.{SlotState, slot_step}
 use Rattle.device_port.specs.Device.{Answered, Seen, Transmission, asked_of, last_of}
@@ -82,14 +83,14 @@ number_is place value (Some s) now new response law fit runs answered is =
     sym (law.told (running s) refl fit).value_is ∙ sym (ap value_told at.1) ∙ is
 
 -- a question was answered
-pub has_number : {D : Type 0} (seen : D → Seen) (old new : D) (property value : ℕ) (response : List ℕ) {command : List ℕ} → command ≡ number_command property
-    → Asks {A = Unit {0}} seen old new command (Ok tt) → Answered (seen old).state command (seen new).state response → last_of (seen new) ≡ Some response
+pub has_number : {contexts : ContextLimits} {D : Type 0} (seen : D → Seen) (old new : D) (property value : ℕ) (response : List ℕ) {command : List ℕ} → command ≡ number_command property
+    → Asks {A = Unit {0}} contexts seen old new command (Ok tt) → Answered (seen old).state command (seen new).state response → last_of (seen new) ≡ Some response
     → value ≡ value_told response → HasNumber seen old new property value
-has_number seen old new property value response {command = command} is asks state last value_is =
+has_number {contexts = contexts} seen old new property value response {command = command} is asks state last value_is =
     let one = asks.one ∙ ap (λ (bytes : List ℕ). record { command = bytes; response = last_of (seen new) } ∷ (seen old).trace) is in
     record {
       response = response;
-      taken = taken_as (asked_of (seen new)) (last_of (seen new)) (number_command property) response (asks.asked ∙ is) last asks.answered;
+      taken = taken_as contexts (asked_of (seen new)) (last_of (seen new)) (number_command property) response (asks.asked ∙ is) last asks.answered refl refl;
       value_is = sym value_is;
       trace_is = answered_one (number_command property) response (last_of (seen new)) (seen new).trace (seen old).trace one last;
       state = subst (λ (bytes : List ℕ). Answered (seen old).state bytes (seen new).state response) is state;
@@ -147,8 +148,8 @@ none_own None = tt
 none_own (Some s) = refl
 
 -- Startup came first
-pub no_values : {D : Type 0} (seen : D → Seen) (old new : D) (reply : List ℕ) → Sends {A = Unit {0}} seen old new startup_command (Ok tt)
-    → Answered (seen old).state startup_command (seen new).state reply → HasValues seen old new []
+pub no_values : {contexts : ContextLimits} {D : Type 0} (seen : D → Seen) (old new : D) (reply : List ℕ) → Sends {A = Unit {0}} contexts seen old new startup_command (Ok tt)
+    → Answered (seen old).state startup_command (seen new).state reply → HasValues contexts seen old new []
 no_values seen old new reply sends answered =
     let (startup, startup_is, taken) = some_of (last_of (seen new)) sends.taken in
     let runs = runs_now _ _ _ answered in
@@ -162,21 +163,21 @@ no_values seen old new reply sends answered =
       attempts = startup_attempts {A = Unit {0}} seen old new (Ok tt) sends (runs_few _ _ runs);
     }
 
-number_attempts : {D : Type 0} (seen : D → Seen) (old mid new : D) (values : List ℕ) (property value : ℕ) → property < 2 ^ 32 → HasValues seen old mid values
-    → HasNumber seen mid new property value → Runs (seen old).state (seen new).state → Attempts seen old new
-number_attempts seen old mid new values property value word has number runs =
+number_attempts : {contexts : ContextLimits} {D : Type 0} (seen : D → Seen) (old mid new : D) (values : List ℕ) (property value : ℕ) → property < 2 ^ 32 → HasValues contexts seen old mid values
+    → HasNumber seen mid new property value → Runs (seen old).state (seen new).state → Attempts contexts seen old new
+number_attempts {contexts = contexts} seen old mid new values property value word has number runs =
     attempts_then seen old mid new has.attempts
     (record {
       sent = answered (number_command property) number.response ∷ [];
       trace_is = number.trace_is;
-      own = (own_number property word, tt);
+      own = (own_number contexts property word, tt);
     })
     number.base number.count (runs_few _ _ runs)
 
 -- its value is in range
-pub values_more : {D : Type 0} (seen : D → Seen) (old mid new : D) (values : List ℕ) (value : ℕ) → IsToldAt (length values) → FitIf (seen old).state
-    → HasValues seen old mid values → HasNumber seen mid new (property_at (length values)) value → is_out values value ≡ false
-    → HasValues seen old new (values ++ value ∷ [])
+pub values_more : {contexts : ContextLimits} {D : Type 0} (seen : D → Seen) (old mid new : D) (values : List ℕ) (value : ℕ) → IsToldAt (length values) → FitIf (seen old).state
+    → HasValues contexts seen old mid values → HasNumber seen mid new (property_at (length values)) value → is_out values value ≡ false
+    → HasValues contexts seen old new (values ++ value ∷ [])
 values_more seen old mid new values value law fit has number inside =
     let place = length values in
     let runs = number_runs place _ _ _ number.response law fit has.runs number.state in
@@ -250,9 +251,9 @@ not_in_range values value (Some s) less own is out =
     λ range. true≢false (sym out ∙ never_out values value s.numbers less all range)
 
 -- the start ends at such a value
-number_stops : {D : Type 0} (seen : D → Seen) (old mid new : D) (values : List ℕ) (value : ℕ) → IsToldAt (length values) → FitIf (seen old).state
-    → HasValues seen old mid values → HasNumber seen mid new (property_at (length values)) value → is_out values value ≡ true
-    → NotStarted seen old new (errors.Numbers (property_at (length values)) value)
+number_stops : {contexts : ContextLimits} {D : Type 0} (seen : D → Seen) (old mid new : D) (values : List ℕ) (value : ℕ) → IsToldAt (length values) → FitIf (seen old).state
+    → HasValues contexts seen old mid values → HasNumber seen mid new (property_at (length values)) value → is_out values value ≡ true
+    → NotStarted contexts seen old new (errors.Numbers (property_at (length values)) value)
 number_stops seen old mid new values value law fit has number out =
     let place = length values in
     let runs = number_runs place _ _ _ number.response law fit has.runs number.state in
@@ -271,13 +272,13 @@ number_stops seen old mid new values value law fit has number out =
     }
 
 -- and at a question that isn't answered
-number_fails : {D : Type 0} (seen : D → Seen) (old mid new : D) (values : List ℕ) (e : SwapError) → length values < 4 → HasValues seen old mid values
-    → Asks {A = Unit {0}} seen mid new (number_command (property_at (length values))) (Err e) → NotStarted seen old new (errors.Unanswered e)
-number_fails seen old mid new values e within has asks = record {
-  attempts = attempts_then seen old mid new has.attempts (sends_one seen mid new (number_command (property_at (length values))) (Err e) asks) asks.base asks.count
+number_fails : {contexts : ContextLimits} {D : Type 0} (seen : D → Seen) (old mid new : D) (values : List ℕ) (e : SwapError) → length values < 4 → HasValues contexts seen old mid values
+    → Asks {A = Unit {0}} contexts seen mid new (number_command (property_at (length values))) (Err e) → NotStarted contexts seen old new (errors.Unanswered e)
+number_fails {contexts = contexts} seen old mid new values e within has asks = record {
+  attempts = attempts_then seen old mid new has.attempts (sends_one contexts seen mid new (number_command (property_at (length values))) (Err e) asks) asks.base asks.count
       (few_then _ (seen mid).state _ (runs_few _ _ has.runs) (stays_few _ _ asks.err));
   cause = (
-    cause_then seen old mid new e has.attempts.count asks.cause,
+    cause_then contexts seen old mid new e has.attempts.count asks.cause,
     inr (record {
       startup = has.startup;
       values = values;
@@ -293,10 +294,10 @@ number_fails seen old mid new values e within has asks = record {
 }
 
 -- and at a command that isn't answered, behind all numbers
-pub later_fails : {D : Type 0} (seen : D → Seen) (old mid new : D) (numbers : Numbers) (e : SwapError) → HasValues seen old mid (values_of numbers)
-    → AsksSome {A = Unit {0}} seen mid new (Err e) → HasStartCause seen (errors.Unanswered e) old new
-later_fails seen old mid new numbers e has asks = (
-  cause_then seen old mid new e has.attempts.count asks.cause,
+pub later_fails : {contexts : ContextLimits} {D : Type 0} (seen : D → Seen) (old mid new : D) (numbers : Numbers) (e : SwapError) → HasValues contexts seen old mid (values_of numbers)
+    → AsksSome {A = Unit {0}} contexts seen mid new (Err e) → HasStartCause contexts seen (errors.Unanswered e) old new
+later_fails {contexts = contexts} seen old mid new numbers e has asks = (
+  cause_then contexts seen old mid new e has.attempts.count asks.cause,
   inr (record {
     startup = has.startup;
     values = values_of numbers;
@@ -310,19 +311,19 @@ later_fails seen old mid new numbers e has asks = (
   }),
 )
 
-pub number_misses : {D : Type 0} (seen : D → Seen) (old mid new : D) (values : List ℕ) (least most : ℕ) (e : StartError) → IsToldAt (length values)
-    → FitIf (seen old).state → HasValues seen old mid values
+pub number_misses : {contexts : ContextLimits} {D : Type 0} (seen : D → Seen) (old mid new : D) (values : List ℕ) (least most : ℕ) (e : StartError) → IsToldAt (length values)
+    → FitIf (seen old).state → HasValues contexts seen old mid values
     → ((value : ℕ) → value < 2 ^ 32 → (nat_lt value least || nat_lt most value) ≡ true → is_out values value ≡ true)
-    → MissesNumber seen mid new (property_at (length values)) least most e → NotStarted seen old new e
+    → MissesNumber contexts seen mid new (property_at (length values)) least most e → NotStarted contexts seen old new e
 number_misses seen old mid new values least most (errors.Unanswered e) law fit has outside asks =
     number_fails seen old mid new values e law.within has asks
-number_misses seen old mid new values least most (errors.Numbers property value) law fit has outside (same, number, out, word) =
-    subst (λ (p : ℕ). NotStarted seen old new (errors.Numbers p value)) (sym same)
+number_misses {contexts = contexts} seen old mid new values least most (errors.Numbers property value) law fit has outside (same, number, out, word) =
+    subst (λ (p : ℕ). NotStarted contexts seen old new (errors.Numbers p value)) (sym same)
     (number_stops seen old mid new values value law fit has number (outside value word out))
 
 -- nothing but Startup was sent
-pub startup_fails : {D : Type 0} (seen : D → Seen) (old new : D) (e : SwapError) → Sends {A = Unit {0}} seen old new startup_command (Err e)
-    → NotStarted seen old new (errors.Unanswered e)
+pub startup_fails : {contexts : ContextLimits} {D : Type 0} (seen : D → Seen) (old new : D) (e : SwapError) → Sends {A = Unit {0}} contexts seen old new startup_command (Err e)
+    → NotStarted contexts seen old new (errors.Unanswered e)
 startup_fails seen old new e sends = record {
   attempts = startup_attempts {A = Unit {0}} seen old new (Err e) sends (stays_few _ _ sends.err);
   cause = (sends.cause, inl (last_of (seen new), sends.one));

@@ -5,7 +5,8 @@ use Rattle.std.specs.Int.{w32, from_be_bytes}
 use Rattle.tab_spec.specs.declared.numbers.Numbers.{Numbers}
 use Rattle.tab_spec.specs.Numbers.{AreInRange}
 use Rattle.tab_spec.specs.Commands.{startup_command}
-use Rattle.device_spec.specs.Answers.{count_place, list_place, listed_handles, takes, value_told}
+use Rattle.tab_spec.specs.declared.contexts.ContextLimits.{ContextLimits}
+use Rattle.device_spec.specs.Answers.{count_place, list_place, listed_handles, profile_takes as takes, value_told}
 use Rattle.device_spec.specs.ContextCommands.{flush_context_command}
 use Rattle.device_spec.specs.Numbers.{FitWords, IsOutOfRange, are_in, number_command, number_properties, values_of}
 use Rattle.device_spec.specs.Remains.{emptied, handles_command, remains}
@@ -58,18 +59,18 @@ pub record IsStarted (old new : List Transmission) (numbers : Numbers) : Type 0 
       ∷ answered (handles_command 0x80000000) objects ∷ asked) new
 
 -- Startup was sent, and after it nothing but commands of the broker's own
-pub record SendsStart (old new : List Transmission) : Type 0 where
+pub record SendsStart (contexts : ContextLimits) (old new : List Transmission) : Type 0 where
   pub startup : Option (List ℕ)
   pub later : List Transmission
   pub trace_is : new ≡ later ++ record { command = startup_command; response = startup } ∷ old
-  pub own : AllByRecursion (λ one. IsOwn one.command) later
+  pub own : AllByRecursion (λ one. IsOwn contexts one.command) later
 
 -- what holds after a call that sends one command: after an error the device is in its state
-pub record Sends {D A : Type 0} (seen : D → Seen) (old new : D) (command : List ℕ) (result : Result A SwapError) : Type 0 where
+pub record Sends {D A : Type 0} (contexts : ContextLimits) (seen : D → Seen) (old new : D) (command : List ℕ) (result : Result A SwapError) : Type 0 where
   pub one : (seen new).trace ≡ record { command = command; response = last_of (seen new) } ∷ (seen old).trace
   pub taken : OnOk result (IsSomeAnd (last_of (seen new)) (λ response. takes true true command response ≡ true))
   pub err : OnErr result ((seen new).state ≡ (seen old).state)
-  pub cause : IfErr result (λ e. HasCause seen e old new)
+  pub cause : IfErr result (λ e. HasCause contexts seen e old new)
   pub base : (seen new).base ≡ (seen old).base
   pub count : (seen old).faults ≤ (seen new).faults
 
@@ -122,9 +123,9 @@ abbrev pub HoldsNoMoreIf : Option SlotState → Option SlotState → Type 0
 HoldsNoMoreIf old new = (slots : SlotState) → old ≡ Some slots → (after : SlotState) × (new ≡ Some after) × HoldsNoMore slots after
 
 -- what each call of a start leaves of a device, also one that failed
-pub record Attempts {D : Type 0} (seen : D → Seen) (old new : D) : Type 0 where
+pub record Attempts {D : Type 0} (contexts : ContextLimits) (seen : D → Seen) (old new : D) : Type 0 where
   pub few : HoldsNoMoreIf (seen old).state (seen new).state
-  pub sent : SendsStart (seen old).trace (seen new).trace
+  pub sent : SendsStart contexts (seen old).trace (seen new).trace
   pub base : (seen new).base ≡ (seen old).base
   pub count : (seen old).faults ≤ (seen new).faults
 
@@ -149,12 +150,12 @@ AsksNext values later =
     × (later ≡ record { command = number_command (get_or number_properties (length values) 0); response = response } ∷ []))
 
 -- behind all four values commands of the broker's own were sent, and the response to each but the newest was taken
-abbrev pub AsksLater : List ℕ → List Transmission → Type 0
-AsksLater values later = (length values ≡ 4) × AllByRecursion (λ one. IsOwn one.command) later × EndAtNewest later
+abbrev pub AsksLater : ContextLimits → List ℕ → List Transmission → Type 0
+AsksLater contexts values later = (length values ≡ 4) × AllByRecursion (λ one. IsOwn contexts one.command) later × EndAtNewest contexts later
 
 -- Startup was sent, and the device was asked for its first numbers. All responses were taken, and the numbers are in range. Then came
 -- the question for the next number, or commands behind all four. The start ended at that question, or at the newest of these.
-pub record StopsLater (old new : List Transmission) : Type 0 where
+pub record StopsLater (contexts : ContextLimits) (old new : List Transmission) : Type 0 where
   pub startup : List ℕ
   pub values : List ℕ
   -- the trace when these had come, and what was sent then
@@ -164,18 +165,18 @@ pub record StopsLater (old new : List Transmission) : Type 0 where
   pub told : Tells number_properties values (answered startup_command startup ∷ old) asked
   pub range : are_in [] values ≡ true
   pub trace_is : new ≡ later ++ asked
-  pub next : AsksNext values later ⊎ AsksLater values later
+  pub next : AsksNext values later ⊎ AsksLater contexts values later
 
 -- how far a start came that ended at a command which wasn't answered: this was Startup, and nothing else was sent, or it came later
-abbrev pub StopsUnanswered : List Transmission → List Transmission → Type 0
-StopsUnanswered old new =
-    ((response : Option (List ℕ)) × (new ≡ record { command = startup_command; response = response } ∷ old)) ⊎ StopsLater old new
+abbrev pub StopsUnanswered : ContextLimits → List Transmission → List Transmission → Type 0
+StopsUnanswered contexts old new =
+    ((response : Option (List ℕ)) × (new ≡ record { command = startup_command; response = response } ∷ old)) ⊎ StopsLater contexts old new
 
 -- why a device wasn't started, and how far it came: a transmission failed or the response to it is a wrong answer, and what the
 -- device told of its numbers before is in range; or a number of the device is out of range
-abbrev pub HasStartCause : {D : Type 0} (seen : D → Seen) → StartError → (old new : D) → Type 0
-HasStartCause seen (errors.Unanswered e) old new = HasCause seen e old new × StopsUnanswered (seen old).trace (seen new).trace
-HasStartCause seen (errors.Numbers property value) old new =
+abbrev pub HasStartCause : {D : Type 0} (contexts : ContextLimits) (seen : D → Seen) → StartError → (old new : D) → Type 0
+HasStartCause contexts seen (errors.Unanswered e) old new = HasCause contexts seen e old new × StopsUnanswered contexts (seen old).trace (seen new).trace
+HasStartCause contexts seen (errors.Numbers property value) old new =
     StopsAtNumber (seen old).trace (seen new).trace property value
     × IfSome (seen old).state (λ slots. AreInRange slots.numbers → ⊥)
 
@@ -196,26 +197,26 @@ pub record HasNumber {D : Type 0} (seen : D → Seen) (old new : D) (property va
   pub count : (seen old).faults ≤ (seen new).faults
 
 -- why a number didn't come: the question wasn't answered, or the value is out of these bounds
-abbrev pub MissesNumber : {D : Type 0} (seen : D → Seen) (old new : D) (property least most : ℕ) → StartError → Type 0
-MissesNumber seen old new property least most (errors.Unanswered e) = Asks {A = Unit {0}} seen old new (number_command property) (Err e)
-MissesNumber seen old new property least most (errors.Numbers asked value) =
+abbrev pub MissesNumber : {D : Type 0} (contexts : ContextLimits) (seen : D → Seen) (old new : D) (property least most : ℕ) → StartError → Type 0
+MissesNumber contexts seen old new property least most (errors.Unanswered e) = Asks {A = Unit {0}} contexts seen old new (number_command property) (Err e)
+MissesNumber contexts seen old new property least most (errors.Numbers asked value) =
     (asked ≡ property) × HasNumber seen old new property value × (nat_lt value least || nat_lt most value) ≡ true × value < 2 ^ 32
 
 -- Startup was sent, and the device was asked for its first numbers. All responses were taken, and have these values, which are in
 -- range. Where the device tells its state, these are its numbers, and it is as it was, but started.
-pub record HasValues {D : Type 0} (seen : D → Seen) (old new : D) (values : List ℕ) : Type 0 where
+pub record HasValues {D : Type 0} (contexts : ContextLimits) (seen : D → Seen) (old new : D) (values : List ℕ) : Type 0 where
   pub startup : List ℕ
   pub startup_taken : takes true true startup_command startup ≡ true
   pub told : Tells number_properties values (answered startup_command startup ∷ (seen old).trace) (seen new).trace
   pub range : are_in [] values ≡ true
   pub own : IfSome (seen old).state (λ slots. take (length values) (values_of slots.numbers) ≡ values)
   pub runs : Runs (seen old).state (seen new).state
-  pub attempts : Attempts seen old new
+  pub attempts : Attempts contexts seen old new
 
 -- what is left where no start came about
-pub record NotStarted {D : Type 0} (seen : D → Seen) (old new : D) (e : StartError) : Type 0 where
-  pub attempts : Attempts seen old new
-  pub cause : HasStartCause seen e old new
+pub record NotStarted {D : Type 0} (contexts : ContextLimits) (seen : D → Seen) (old new : D) (e : StartError) : Type 0 where
+  pub attempts : Attempts contexts seen old new
+  pub cause : HasStartCause contexts seen e old new
 
 -- a sound device that was started
 pub record IsRunning (slots : SlotState) : Type 0 where

@@ -1,7 +1,7 @@
 ghost use Rattle.std.specs.Prelude.{◌≡◌, ◌≤◌, true, IfErr, IfOk, IfSome, OnOk};
 ghost use Rattle.tab_spec.specs.Commands.{startup_command};
 ghost use Rattle.tab_spec.specs.Numbers.{AreInRange};
-ghost use Rattle.device_spec.specs.Answers.{IsRight, listed_handles, takes};
+ghost use Rattle.device_spec.specs.Answers.{IsRight, listed_handles, profile_takes as takes};
 ghost use Rattle.device_spec.specs.Numbers.{FitWords, number_command, values_of};
 ghost use Rattle.device_port.specs.Device.{Answered, asked_of, last_of};
 ghost use Rattle.device_port.specs.Own.{AsksSome};
@@ -19,7 +19,7 @@ use device_spec::{
 use tab_bytes::Buffer;
 use tab_spec::{
     CC_FLUSH_CONTEXT, CONTEXT_GAP, HEADER_BYTES, LOADED_SESSIONS, Numbers, OBJECT_SLOTS,
-    SESSION_NUMBERS,
+    PROFILE_CONTEXTS, SESSION_NUMBERS,
 };
 
 /// Why a device wasn't started.
@@ -79,14 +79,14 @@ const LIST_PLACE: usize = HEADER_BYTES as usize + 9;
 fn is_started(response: &[u8]) -> bool
     ensures { result ≡ takes true true startup_command response.now }
 {
-    takes(&STARTUP, response, false, false)
+    takes(PROFILE_CONTEXTS, &STARTUP, response, false, false)
 }
 
 // Sends Startup.
 fn start_up<D: Device>(device: &mut D, scratch: &mut Buffer) -> Result<(), SwapError>
-    ensures sends { Sends D.seen device.old device.new startup_command result }
-    ensures ok { OnOk result (Answered
-        (D.seen device.old).state startup_command (D.seen device.new).state scratch.new) }
+    ensures sends { Sends D.CONTEXTS D.seen device.old device.new startup_command result }
+    ensures ok { OnOk result
+        (Answered (D.seen device.old).state startup_command (D.seen device.new).state scratch.new) }
 {
     if device.transmit(&STARTUP, scratch).is_err() {
         return Err(SwapError::Failed(DeviceFailed));
@@ -112,7 +112,7 @@ fn ask_number<D: Device>(
         HasNumber D.seen device.old device.new property value) }
     ensures range { IfOk result (λ value. least ≤ value × value ≤ most) }
     ensures err { IfErr result (λ e.
-        MissesNumber D.seen device.old device.new property least most e) }
+        MissesNumber D.CONTEXTS D.seen device.old device.new property least most e) }
 {
     if let Err(e) = ask(device, command, scratch) {
         return Err(StartError::Unanswered(e));
@@ -128,8 +128,8 @@ fn ask_number<D: Device>(
 fn ask_numbers<D: Device>(device: &mut D, scratch: &mut Buffer) -> Result<Numbers, StartError>
     requires fit { IfSome (D.seen device.old).state (λ slots. FitWords slots.numbers) }
     ensures values { IfOk result (λ numbers.
-        HasValues D.seen device.old device.new (values_of numbers)) }
-    ensures err { IfErr result (NotStarted D.seen device.old device.new) }
+        HasValues D.CONTEXTS D.seen device.old device.new (values_of numbers)) }
+    ensures err { IfErr result (NotStarted D.CONTEXTS D.seen device.old device.new) }
 {
     if let Err(e) = start_up(device, scratch) {
         return Err(StartError::Unanswered(e));
@@ -185,7 +185,7 @@ fn find<D: Device>(device: &mut D, lists: &mut Lists) -> Result<(), SwapError>
     ensures lists { OnOk result (IsList lists.new.objects × IsList lists.new.loaded
         × IsList lists.new.saved) }
     ensures few { HoldsNoMoreIf (D.seen device.old).state (D.seen device.new).state }
-    ensures asks { AsksSome D.seen device.old device.new result }
+    ensures asks { AsksSome D.CONTEXTS D.seen device.old device.new result }
 {
     ask(device, &LIST_OBJECTS, &mut lists.objects)?;
     ask(device, &LIST_LOADED, &mut lists.loaded)?;
@@ -206,7 +206,7 @@ fn flush_listed<D: Device>(
     ensures left { OnOk result (LosesFirst (listed_handles list.now)
         (D.seen device.old).state (D.seen device.new).state) }
     ensures few { HoldsNoMoreIf (D.seen device.old).state (D.seen device.new).state }
-    ensures asks { AsksSome D.seen device.old device.new result }
+    ensures asks { AsksSome D.CONTEXTS D.seen device.old device.new result }
 {
     let count = word_at(list, COUNT_PLACE).unwrap_or(0);
     for place in 0..count {
@@ -234,7 +234,7 @@ fn flush_all<D: Device>(
         (all_listed lists.now.objects lists.now.loaded lists.now.saved)
         (D.seen device.old).state (D.seen device.new).state) }
     ensures few { HoldsNoMoreIf (D.seen device.old).state (D.seen device.new).state }
-    ensures asks { AsksSome D.seen device.old device.new result }
+    ensures asks { AsksSome D.CONTEXTS D.seen device.old device.new result }
 {
     flush_listed(device, lists.objects.as_slice(), scratch)?;
     flush_listed(device, lists.loaded.as_slice(), scratch)?;
@@ -267,12 +267,13 @@ pub fn start<D: Device>(
     ensures cleared { OnOk result
         (ClearedIf (D.seen device.old).state (D.seen device.new).state) }
     ensures answered { OnOk result
-        (IsRight (asked_of (D.seen device.new)) (last_of (D.seen device.new))) }
+        (IsRight D.CONTEXTS (asked_of (D.seen device.new)) (last_of (D.seen device.new))) }
     // Also after an error it holds no more than it did, and what was sent is known.
-    ensures attempts { Attempts D.seen device.old device.new }
+    ensures attempts { Attempts D.CONTEXTS D.seen device.old device.new }
     // Why it ended, and at which command. Each one before it was answered, and the numbers that
     // these answers tell are in range.
-    ensures cause { IfErr result (λ e. HasStartCause D.seen e device.old device.new) }
+    ensures cause { IfErr result
+        (λ e. HasStartCause D.CONTEXTS D.seen e device.old device.new) }
 {
     let numbers = ask_numbers(device, scratch)?;
     if let Err(e) = find(device, lists) {

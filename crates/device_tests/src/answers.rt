@@ -2,10 +2,12 @@
 //!
 //! A line is a word, a command and a response to it: `takes` and `refuses` where the broker holds
 //! nothing, and `taken` where a client has a session with the number of the response's handle, so
-//! that the response is refused.
+//! that the response is refused. These hold of each device; `other` is of one that is taken from a
+//! TPM that isn't of the profile, and from no device that is.
 use device_port::takes;
 use std::alloc::Global;
 use std::test::Fail;
+use tab_spec::{PROFILE_CONTEXTS, TPM_CONTEXTS};
 use tab_wire::is_frame;
 
 const RESPONSES: &str = "\
@@ -34,7 +36,11 @@ taken 8001000000170000017640000007400000070000000000 800100000010000000000200000
 takes 80010000000e0000016202000000 80010000001c00000000000000000000000502000000400000070000
 takes 80010000000e0000016280000001 80010000001c00000000000000000000000580000000400000070000
 refuses 80010000000e0000016202000000 80010000001c00000000000000000000000503000000400000070000
-refuses 80010000000e0000016280000001 80010000001c00000000000000000000000502000000400000070000";
+refuses 80010000000e0000016280000001 80010000001c00000000000000000000000502000000400000070000
+# an object is saved as 0x80000002 where it goes with a reset
+other 80010000000e0000016280000001 80010000001c00000000000000000000000580000002400000070000
+refuses 80010000000e0000016280000001 80010000001c00000000000000000000000580000001400000070000
+refuses 80010000000e0000016202000002 80010000001c00000000000000000000000580000002400000070000";
 
 const BAD_LINE: &str = "a line has three words";
 
@@ -47,8 +53,11 @@ fn holds(alloc: Global, line: &str) -> Result<bool, Fail> {
     if !is_frame(asked.as_slice()) {
         return Ok(false);
     }
+    let (asked, last) = (asked.as_slice(), last.as_slice());
     let is_taken = word == "taken";
-    Ok(takes(asked.as_slice(), last.as_slice(), false, is_taken) == (word == "takes"))
+    let profile = takes(PROFILE_CONTEXTS, asked, last, false, is_taken);
+    let other = takes(TPM_CONTEXTS, asked, last, false, is_taken);
+    Ok(profile == (word == "takes") && other == (word == "takes" || word == "other"))
 }
 
 #[test]

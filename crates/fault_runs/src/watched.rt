@@ -59,6 +59,7 @@ impl<D: Device> Recorded for Watched<D> {
           w.played.broker.held.sessions.numbers;
       limit = w.played.broker.limit;
       began = w.played.broker.began;
+      contexts = D.CONTEXTS;
     } };
 
     ghost wrong = { λ w. is_some w.played.broker.wrong_code };

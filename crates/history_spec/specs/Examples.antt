@@ -1,8 +1,10 @@
 -- Frames and histories that the worked examples speak of.
 use Rattle.std.specs.Prelude.{ℕ, List, [], ◌∷◌, replicate}
 use Rattle.tab_spec.specs.Persist.{Persist, fresh_persist}
+use Rattle.tab_spec.specs.declared.contexts.TheConstants.{PROFILE_CONTEXTS, TPM_CONTEXTS}
 use Rattle.history_spec.specs.declared.Pick.TheVariants.{Nothing}
 use Rattle.history_spec.specs.Entry.{Entry, canceled_entry, close_entry, command_entry, fault_entry, open_entry}
+use Rattle.history_spec.specs.Told.{Limits}
 
 -- GetRandom of so many bytes, below 256
 abbrev pub get_random : ℕ → List ℕ
@@ -11,6 +13,17 @@ get_random count = 0x80 ∷ 0x01 ∷ 0 ∷ 0 ∷ 0 ∷ 0x0c ∷ 0 ∷ 0 ∷ 0x01
 -- Load under the object of the handle 0x80000000
 abbrev pub load_object : List ℕ
 load_object = 0x80 ∷ 0x02 ∷ 0 ∷ 0 ∷ 0 ∷ 0x0e ∷ 0 ∷ 0 ∷ 0x01 ∷ 0x57 ∷ 0x80 ∷ 0 ∷ 0 ∷ 0 ∷ []
+
+-- ContextLoad of an object whose savedHandle is 0x80000002, as far as that
+abbrev pub load_st_clear : List ℕ
+load_st_clear = 0x80 ∷ 0x01 ∷ 0 ∷ 0 ∷ 0 ∷ 0x16 ∷ 0 ∷ 0 ∷ 0x01 ∷ 0x61 ∷ 0 ∷ 0 ∷ 0 ∷ 0 ∷ 0 ∷ 0 ∷ 0 ∷ 0 ∷ 0x80 ∷ 0 ∷ 0 ∷ 0x02 ∷ []
+
+-- a journal of so many bytes, over a device of the profile, and over another TPM
+abbrev pub limit_of : ℕ → Limits
+limit_of bytes = record { bytes = bytes; contexts = PROFILE_CONTEXTS }
+
+abbrev pub tpm_limit_of : ℕ → Limits
+tpm_limit_of bytes = record { bytes = bytes; contexts = TPM_CONTEXTS }
 
 abbrev pub cancel_frame : List ℕ
 cancel_frame = 0x80 ∷ 0x01 ∷ 0 ∷ 0 ∷ 0 ∷ 0x0a ∷ 0x20 ∷ 0 ∷ 0 ∷ 0x01 ∷ []

@@ -5,6 +5,7 @@ use Rattle.tab_spec.specs.declared.TheConstants.{RC_JOURNAL_FULL, RC_MEMORY}
 use Rattle.history_spec.specs.Entry.{Entry, LacksRoom, own, part_before}
 use Rattle.tab_spec.specs.Reply.{error_reply}
 use Rattle.tab_spec.specs.Shape.{makes_object}
+use Rattle.tab_spec.specs.declared.contexts.ContextLimits.{ContextLimits}
 
 -- a client's entry of this number
 abbrev pub entry_of : List Entry → ℕ → ℕ → Option Entry
@@ -14,32 +15,38 @@ pub record IsEntryOf (command reply : List ℕ) (e : Entry) : Type 0 where
   pub command_is : e.command ≡ command
   pub reply_is : e.reply ≡ reply
 
+-- what a client may be told without an entry goes by these: the most bytes that the journal may keep, and what the contexts of the device
+-- may be, one of which may make an object
+pub record Limits : Type 0 where
+  pub bytes : ℕ
+  pub contexts : ContextLimits
+
 -- the journal had no room for the command after this part of its history
 pub record IsToldFull (limit : ℕ) (before : List Entry) (command reply : List ℕ) : Type 0 where
   pub reply_is : reply ≡ error_reply RC_JOURNAL_FULL
   pub lacks : LacksRoom limit before command
 
 -- memory lacked for the object that the command makes: no other command is told so
-pub record IsToldMemory (command reply : List ℕ) : Type 0 where
+pub record IsToldMemory (contexts : ContextLimits) (command reply : List ℕ) : Type 0 where
   pub reply_is : reply ≡ error_reply RC_MEMORY
-  pub makes : makes_object command ≡ true
+  pub makes : makes_object contexts command ≡ true
 
 -- what is told where there is an entry, and where there is none: that memory lacked, or room
-abbrev pub ToldBy : Option Entry → ℕ → List Entry → List ℕ → List ℕ → Type 0
+abbrev pub ToldBy : Option Entry → Limits → List Entry → List ℕ → List ℕ → Type 0
 ToldBy (Some e) limit before command reply = IsEntryOf command reply e
-ToldBy None limit before command reply = IsToldMemory command reply ⊎ IsToldFull limit before command reply
+ToldBy None limit before command reply = IsToldMemory limit.contexts command reply ⊎ IsToldFull limit.bytes before command reply
 
--- with a journal of this limit the reply may be told to the client for its command of this number
-abbrev pub Told : List Entry → ℕ → ℕ → ℕ → List ℕ → List ℕ → Type 0
+-- within these limits the reply may be told to the client for its command of this number
+abbrev pub Told : List Entry → Limits → ℕ → ℕ → List ℕ → List ℕ → Type 0
 Told history limit client number command reply =
     ToldBy (entry_of history client number) limit (part_before client number history) command reply
 
-abbrev pub AnswersFrom : List Entry → ℕ → ℕ → ℕ → List (List ℕ) → List ℕ → Type 0
+abbrev pub AnswersFrom : List Entry → Limits → ℕ → ℕ → List (List ℕ) → List ℕ → Type 0
 AnswersFrom history limit client number [] bytes = bytes ≡ []
 AnswersFrom history limit client number (command ∷ commands) bytes =
     (reply : List ℕ) × (more : List ℕ) × (bytes ≡ reply ++ more) × Told history limit client number command reply
     × AnswersFrom history limit client (number + 1) commands more
 
 -- the bytes are one told reply for each command, one after another
-abbrev pub Answers : List Entry → ℕ → ℕ → List (List ℕ) → List ℕ → Type 0
+abbrev pub Answers : List Entry → Limits → ℕ → List (List ℕ) → List ℕ → Type 0
 Answers history limit client commands bytes = AnswersFrom history limit client 1 commands bytes

@@ -11,7 +11,8 @@ ghost use Rattle.history_spec.specs.Told.{Answers, Told};
 ghost use Rattle.history_spec.specs.Examples.{canceled_before, eight_reply, failed_entry};
 ghost use Rattle.history_spec.specs.Examples.{four_reply, full_reply, get_random, load_object};
 ghost use Rattle.history_spec.specs.Examples.{memory_reply};
-ghost use Rattle.history_spec.specs.Examples.{plain_entry, two_clients};
+ghost use Rattle.history_spec.specs.Examples.{plain_entry, two_clients, limit_of, tpm_limit_of};
+ghost use Rattle.history_spec.specs.Examples.{load_st_clear};
 
 // Each of the seven entries counts as 64 bytes, beside the 36 of the commands and the 54 of the
 // replies.
@@ -25,14 +26,17 @@ fn a_history_has_entries_and_bytes()
 // Only a command without an entry is told that memory lacked, and that only where it makes an
 // object, or the journal's room: that was told after the history up to the client's next entry.
 fn a_client_is_told_its_entry()
-    ensures entry { Told two_clients 538 0 2 (get_random 4) four_reply }
-    ensures no_entry { Told two_clients 538 0 3 load_object memory_reply }
-    ensures makes_none { Told two_clients 538 0 3 (get_random 4) memory_reply → ⊥ }
-    ensures other { Told two_clients 538 0 2 (get_random 4) memory_reply → ⊥ }
-    ensures in_order { Answers two_clients 538 0 (get_random 8 ∷ get_random 4 ∷ [])
+    ensures entry { Told two_clients (limit_of 538) 0 2 (get_random 4) four_reply }
+    ensures no_entry { Told two_clients (limit_of 538) 0 3 load_object memory_reply }
+    ensures makes_none { Told two_clients (limit_of 538) 0 3 (get_random 4) memory_reply → ⊥ }
+    ensures other { Told two_clients (limit_of 538) 0 2 (get_random 4) memory_reply → ⊥ }
+    ensures in_order { Answers two_clients (limit_of 538) 0 (get_random 8 ∷ get_random 4 ∷ [])
         (eight_reply ++ four_reply) }
-    ensures full { Told two_clients 4709 0 3 (get_random 4) full_reply }
-    ensures not_full { Told two_clients 4710 0 3 (get_random 4) full_reply → ⊥ }
+    ensures full { Told two_clients (limit_of 4709) 0 3 (get_random 4) full_reply }
+    ensures not_full { Told two_clients (limit_of 4710) 0 3 (get_random 4) full_reply → ⊥ }
+    // A context with the handle 0x80000002 makes an object on other TPMs alone.
+    ensures no_object { Told two_clients (limit_of 538) 0 3 load_st_clear memory_reply → ⊥ }
+    ensures tpm { Told two_clients (tpm_limit_of 538) 0 3 load_st_clear memory_reply }
     ensures full_before { part_before 0 1 two_clients ≡ take 4 two_clients }
 {}
 

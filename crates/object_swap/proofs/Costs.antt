@@ -2,6 +2,7 @@
 use Rattle.std.proofs.Common.{◌≡◌, ◌+◌, ◌<◌, ◌≤◌, ℕ, Bool, true, false, List, length, get_or, set, refl, ap, ◌∙◌, arith}
 use Rattle.std.specs.Prelude.{Some, None, Result, Ok, Err, OnErr, OnOk, if◌then◌else◌}
 use Rattle.std.proofs.lemmas.List.{map-set}
+use Rattle.tab_spec.specs.declared.contexts.ContextLimits.{ContextLimits}
 use Rattle.device_port.specs.Device.{Seen, sent_of}
 use Rattle.device_port.specs.Own.{Asks, AsksSome}
 use Rattle.device_port.specs.declared.own.SwapError.{SwapError}
@@ -13,13 +14,13 @@ use Rattle.object_swap.proofs.Counts.{count_set}
 use Rattle.object_swap.proofs.Listed.{get_or_any, item_listed}
 use Rattle.object_swap.proofs.Recorded.{inside_items, item_there, out_item, saved_item}
 
-pub sent_one : {D A : Type 0} (seen : D → Seen) (a b : D) (command : List ℕ) (result : Result A SwapError) → Asks seen a b command result
+pub sent_one : {D A : Type 0} {contexts : ContextLimits} (seen : D → Seen) (a b : D) (command : List ℕ) (result : Result A SwapError) → Asks contexts seen a b command result
     → sent_of (seen b) ≤ sent_of (seen a) + 1
 sent_one seen a b command result asks = omega (arith, asks.once)
 
 -- a call that gives another value
-pub some_ok : {D A B : Type 0} (seen : D → Seen) (old new : D) (x : A) (y : B) → AsksSome seen old new (Ok x) → AsksSome seen old new (Ok y)
-some_ok seen old new x y asks = record {
+pub some_ok : {D A B : Type 0} (contexts : ContextLimits) (seen : D → Seen) (old new : D) (x : A) (y : B) → AsksSome contexts seen old new (Ok x) → AsksSome contexts seen old new (Ok y)
+some_ok contexts seen old new x y asks = record {
   own = asks.own;
   answered = asks.answered;
   all = asks.all;

@@ -7,6 +7,7 @@ use Rattle.std.proofs.lemmas.List.{map-set, get_or-map, get_or-set_same, get_or-
 use Rattle.std.proofs.lemmas.List.Elements.{All-set}
 use Rattle.tab_spec.specs.declared.TheConstants.{CONTEXT_LIMIT, HT_TRANSIENT, TRANSIENT_FIRST}
 use Rattle.tab_spec.specs.Shape.{octet_of}
+use Rattle.tab_spec.specs.declared.contexts.ContextLimits.{ContextLimits}
 use Rattle.device_spec.specs.Slots.{SlotState, free_slot, in_slot, is_free, object_at, slot_of}
 use Rattle.device_port.specs.Device.{Seen}
 use Rattle.object_swap.specs.declared.record.Record.{Record}
@@ -62,8 +63,8 @@ keeps_then a b c xs ys zs others first second = record {
 }
 
 -- one move after another
-pub swaps_then : {D : Type 0} (seen : D → Seen) (a b c : D) (xs ys zs : List Record)
-    → Swaps seen a b xs ys → Swaps seen b c ys zs → Swaps seen a c xs zs
+pub swaps_then : {D : Type 0} {contexts : ContextLimits} (seen : D → Seen) (a b c : D) (xs ys zs : List Record)
+    → Swaps contexts seen a b xs ys → Swaps contexts seen b c ys zs → Swaps contexts seen a c xs zs
 swaps_then seen a b c xs ys zs first second = record {
   keeps = keeps_then (seen a).state (seen b).state (seen c).state (items_of xs) (items_of ys) (items_of zs) [] first.keeps second.keeps;
   sound = second.sound;
@@ -78,16 +79,16 @@ keeps_same state new_state xs ys others stand same kept =
     subst (λ (st : Option SlotState). Keeps state st xs ys others) (sym same) (subst (λ (items : List Item). Keeps state state xs items others) (sym kept) at_rest)
 
 -- nothing was moved yet
-pub swaps_none : {D : Type 0} (seen : D → Seen) (device : D) (records : List Record) → Ready (seen device).state records
-    → Swaps seen device device records records
+pub swaps_none : {D : Type 0} {contexts : ContextLimits} (seen : D → Seen) (device : D) (records : List Record) → Ready contexts (seen device).state records
+    → Swaps contexts seen device device records records
 swaps_none seen device records ready = record {
   keeps = keeps_same (seen device).state (seen device).state (items_of records) (items_of records) [] ready.stand refl refl;
   sound = ready.sound;
 }
 
 -- it is ready again
-pub ready_again : (state new_state : Option SlotState) (records new_records : List Record) → Ready state records
-    → Keeps state new_state (items_of records) (items_of new_records) [] → AreRecords new_records → Ready new_state new_records
+pub ready_again : {contexts : ContextLimits} (state new_state : Option SlotState) (records new_records : List Record) → Ready contexts state records
+    → Keeps state new_state (items_of records) (items_of new_records) [] → AreRecords contexts new_records → Ready contexts new_state new_records
 ready_again state new_state records new_records ready keeps sound = record {
   sound = sound;
   stand = keeps.stand;
@@ -128,7 +129,7 @@ pub record Was (records : List Record) (index : ℕ) (r : Record) : Type 0 where
 pub was : (records : List Record) (index : ℕ) (d : Record) → index < length records → Was records index (get_or records index d)
 was records index d inside = record { at = item_there records index d inside; inside = inside_items records index inside }
 
-pub saved_swap : (state new_state : Option SlotState) (records : List Record) (index handle : ℕ) (r n : Record) → Was records index r → Ready state records
+pub saved_swap : {contexts : ContextLimits} (state new_state : Option SlotState) (records : List Record) (index handle : ℕ) (r n : Record) → Was records index r → Ready contexts state records
     → r.handle ≡ Some handle → r.kept ≡ false → n.client ≡ r.client → n.handle ≡ Some handle → n.kept ≡ true
     → new_state ≡ counted state → IfSome state (λ slots. object_at slots None (Some n.blob.items) ≡ in_slot slots handle)
     → Keeps state new_state (items_of records) (items_of (set records index n)) []
@@ -137,7 +138,7 @@ saved_swap state new_state records index handle r n was ready handle_is kept_is 
     (with_client n r.client (Some (slot_of handle)) (Some n.blob.items) (saved_item n handle true handle_new kept_new) client_is)
     (saved_keeps state (items_of records) [] index r.client handle n.blob.items ready.stand was.inside (was.at ∙ saved_item r handle false handle_is kept_is) ready.below same)
 
-pub flushed_swap : (state new_state : Option SlotState) (records : List Record) (index handle : ℕ) (r n : Record) → Was records index r → Ready state records
+pub flushed_swap : {contexts : ContextLimits} (state new_state : Option SlotState) (records : List Record) (index handle : ℕ) (r n : Record) → Was records index r → Ready contexts state records
     → r.handle ≡ Some handle → r.kept ≡ true → n.client ≡ r.client → n.handle ≡ None → n.kept ≡ true → n.blob.items ≡ r.blob.items
     → new_state ≡ emptied handle state → Keeps state new_state (items_of records) (items_of (set records index n)) []
 flushed_swap state new_state records index handle r n was ready handle_is kept_is client_is handle_new kept_new blob_is state_is =
@@ -150,7 +151,7 @@ least_slot : (state : Option SlotState) (handle : ℕ) → IsLeast state handle 
 least_slot None handle least = tt
 least_slot (Some slots) handle least = omega (arith, least)
 
-pub loaded_swap : (state new_state : Option SlotState) (records : List Record) (index handle : ℕ) (r n : Record) → Was records index r → Ready state records
+pub loaded_swap : {contexts : ContextLimits} (state new_state : Option SlotState) (records : List Record) (index handle : ℕ) (r n : Record) → Was records index r → Ready contexts state records
     → r.handle ≡ None → r.kept ≡ true → n.client ≡ r.client → n.handle ≡ Some handle → n.kept ≡ true → n.blob.items ≡ r.blob.items
     → IfSome state (λ slots. list_any is_free slots.slots ≡ true) → IsLeast state handle
     → new_state ≡ filled r.blob.items state → Keeps state new_state (items_of records) (items_of (set records index n)) []
@@ -195,11 +196,11 @@ can_load (Some slots) items others index client context stand inside is room =
 
 -- ---- records
 
-pub record_at : (records : List Record) (index : ℕ) (d : Record) → AreRecords records → index < length records → IsRecord (get_or records index d)
+pub record_at : {contexts : ContextLimits} (records : List Record) (index : ℕ) (d : Record) → AreRecords contexts records → index < length records → IsRecord contexts (get_or records index d)
 record_at records index d sound inside = sound index d inside
 
-pub records_set : (records : List Record) (index : ℕ) (n : Record) → AreRecords records → IsRecord n → AreRecords (set records index n)
-records_set records index n sound is = All-set (λ (r : Record). IsRecord r) records index n is sound
+pub records_set : {contexts : ContextLimits} (records : List Record) (index : ℕ) (n : Record) → AreRecords contexts records → IsRecord contexts n → AreRecords contexts (set records index n)
+records_set {contexts = contexts} records index n sound is = All-set (λ (r : Record). IsRecord contexts r) records index n is sound
 
 unsaved_item : (r : Record) → r.kept ≡ false → item_of r ≡ record { client = r.client; slot = slot_in r.handle; blob = None }
 unsaved_item r is = λ i. record { client = r.client; slot = slot_in r.handle; blob = if is i then Some r.blob.items else None }

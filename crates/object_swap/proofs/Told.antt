@@ -4,21 +4,19 @@ use Rattle.std.specs.Prelude.{◌==◌, nat_le, Option, Some, None, is_some, IfS
 use Rattle.std.specs.Int.{w32, from_be_bytes}
 use Rattle.std.proofs.lemmas.Bool.{lt-leb}
 use Rattle.std.proofs.lemmas.Nat.{from_be_bytes-to_be_bytes_4}
-use Rattle.tab_spec.specs.declared.TheConstants.{CONTEXT_LIMIT, HT_TRANSIENT, RC_SUCCESS, ST_NO_SESSIONS, TRANSIENT_FIRST}
+use Rattle.tab_spec.specs.declared.TheConstants.{CONTEXT_LIMIT, HT_TRANSIENT, RC_SUCCESS, ST_NO_SESSIONS, TRANSIENT_FIRST, MOST_CONTEXT_BYTES}
 use Rattle.tab_spec.specs.Object.{Object, IsObject}
 use Rattle.tab_spec.specs.Reply.{response, with_response_handle}
 use Rattle.tab_spec.specs.Shape.{octet_of}
 use Rattle.effect_spec.specs.Contexts.{object_context}
 use Rattle.device_spec.specs.ContextCommands.{context_load_command, context_save_command, flush_context_command}
-use Rattle.device_spec.specs.Answers.{takes}
+use Rattle.device_spec.specs.Answers.{profile_takes as takes}
 use Rattle.device_spec.specs.Slots.{SlotState, Step, free_slot, in_slot, object_at, object_saved, slot_of, slot_step, step_by, with_slot}
 use Rattle.device_port.specs.Device.{Answered}
 use Rattle.device_laws.proofs.ContextSteps.{object_flush_step, object_load_step, object_save_step}
 use Rattle.device_laws.proofs.Moves.{flush_taken, load_taken, save_taken}
 use Rattle.device_laws.proofs.FreshContexts.{fresh_object_at, object_at_is}
 use Rattle.object_swap.specs.Moves.{IsIn, IsLeast, IsOut, counted, emptied, filled}
-use Rattle.object_swap.specs.Records.{IsContext}
-use Rattle.object_swap.proofs.Commands.{saved}
 use Rattle.object_swap.proofs.Moved.{free}
 
 -- what is there
@@ -120,31 +118,30 @@ flush_answered (Some slots) new_state handle last fits transient can answered =
 
 -- ---- ContextLoad
 
-load_of : (slots : SlotState) (context : List ℕ) (o : Object) → IsContext context → IsOut slots context → object_at slots None (Some context) ≡ Some o
+load_of : (slots : SlotState) (context : List ℕ) (o : Object) → length context ≤ MOST_CONTEXT_BYTES → IsOut slots context → object_at slots None (Some context) ≡ Some o
     → Steps slots (context_load_command context) (with_slot slots (free_slot slots.slots) (Some o))
     (with_response_handle (response ST_NO_SESSIONS RC_SUCCESS (0 ∷ 0 ∷ 0 ∷ 0 ∷ [])) (TRANSIENT_FIRST + free_slot slots.slots))
-load_of slots context o is out there =
-    let few = (saved context is).most in
+load_of slots context o few out there =
     steps_from slots (context_load_command context) _ _ (object_load_step slots context o out.started (omega (arith, few)) out.room there)
     (load_taken slots context o out.sound out.started (omega (arith, few)) out.room there)
 
-pub load_told : (state : Option SlotState) (context : List ℕ) → IsContext context → IfSome state (λ slots. IsOut slots context)
+pub load_told : (state : Option SlotState) (context : List ℕ) → length context ≤ MOST_CONTEXT_BYTES → IfSome state (λ slots. IsOut slots context)
     → IfSome state (λ slots. takes true true (context_load_command context) (slot_step slots (context_load_command context)).1 ≡ true)
-load_told None context is can = tt
-load_told (Some slots) context is can =
+load_told None context few can = tt
+load_told (Some slots) context few can =
     let there = some_of (object_at slots None (Some context)) can.there in
-    (load_of slots context there.0 is can there.1).taken
+    (load_of slots context there.0 few can there.1).taken
 
 pub record LoadTold (state new_state : Option SlotState) (context last : List ℕ) : Type 0 where
   pub state_is : new_state ≡ filled context state
   pub least : IsLeast state (from_be_bytes w32 (take 4 (drop 10 last)))
 
-pub load_answered : (state new_state : Option SlotState) (context last : List ℕ) → IsContext context → IfSome state (λ slots. IsOut slots context)
+pub load_answered : (state new_state : Option SlotState) (context last : List ℕ) → length context ≤ MOST_CONTEXT_BYTES → IfSome state (λ slots. IsOut slots context)
     → Answered state (context_load_command context) new_state last → LoadTold state new_state context last
-load_answered None new_state context last is can answered = record { state_is = answered; least = tt }
-load_answered (Some slots) new_state context last is can answered =
+load_answered None new_state context last small can answered = record { state_is = answered; least = tt }
+load_answered (Some slots) new_state context last small can answered =
     let there = some_of (object_at slots None (Some context)) can.there in
-    let steps = load_of slots context there.0 is can there.1 in
+    let steps = load_of slots context there.0 small can there.1 in
     let free = free slots.slots can.room in
     let few : length slots.slots ≤ 254 = omega (arith, can.sound.count, can.sound.range.slots_most) in
     record {

@@ -7,6 +7,7 @@ use Rattle.std.proofs.lemmas.List.{map-set, set-get_or, length-map, map_push}
 use Rattle.std.proofs.lemmas.Bool.{cases_lt, eqb-true}
 use Rattle.tab_spec.specs.declared.TheConstants.{HT_TRANSIENT}
 use Rattle.tab_spec.specs.Shape.{octet_of}
+use Rattle.tab_spec.specs.declared.contexts.ContextLimits.{ContextLimits}
 use Rattle.device_spec.specs.Slots.{slot_of}
 use Rattle.linked_records.specs.View.{IsListed, RecordsView, record_count}
 use Rattle.object_swap.specs.declared.record.Record.{Record}
@@ -91,10 +92,10 @@ handle_again (Some h) is =
 -- ---- what holds of the residents
 
 -- an object comes
-pub held_adopted : (records : List Record) (loaded left : List ℕ) (loaded_room new_loaded_room left_room slots item client slot : ℕ) (n : Record)
-    → HoldsResidents records loaded left loaded_room left_room slots → item < length records → is_resident (item_at (items_of records) item) ≡ false
-    → item_of n ≡ new_item client slot → IsRecord n → loaded_room ≤ new_loaded_room → residents (items_of records) + length left < slots
-    → HoldsResidents (set records item n) (loaded ++ item ∷ []) left new_loaded_room left_room slots
+pub held_adopted : {contexts : ContextLimits} (records : List Record) (loaded left : List ℕ) (loaded_room new_loaded_room left_room slots item client slot : ℕ) (n : Record)
+    → HoldsResidents contexts records loaded left loaded_room left_room slots → item < length records → is_resident (item_at (items_of records) item) ≡ false
+    → item_of n ≡ new_item client slot → IsRecord contexts n → loaded_room ≤ new_loaded_room → residents (items_of records) + length left < slots
+    → HoldsResidents contexts (set records item n) (loaded ++ item ∷ []) left new_loaded_room left_room slots
 held_adopted records loaded left loaded_room new_loaded_room left_room slots item client slot n holds inside out item_is sound more free = record {
   sound = records_set records item n holds.sound sound;
   residents = subst (λ (flags : List Bool). ListsFlags flags (loaded ++ item ∷ []))
@@ -112,11 +113,11 @@ forgotten_flags : (records new_records : List Record) (item : ℕ) → items_of 
     → residency new_records ≡ set (residency records) item false
 forgotten_flags records new_records item is = ap (map is_resident) is ∙ map-set is_resident (items_of records) item no_item
 
-module _ (records new_records : List Record) (loaded left : List ℕ) (loaded_room left_room slots item : ℕ)
-    (holds : HoldsResidents records loaded left loaded_room left_room slots) (is : items_of new_records ≡ set (items_of records) item no_item)
-    (sound : AreRecords new_records) (count : length new_records ≡ length records) where
+module _ {contexts : ContextLimits} (records new_records : List Record) (loaded left : List ℕ) (loaded_room left_room slots item : ℕ)
+    (holds : HoldsResidents contexts records loaded left loaded_room left_room slots) (is : items_of new_records ≡ set (items_of records) item no_item)
+    (sound : AreRecords contexts new_records) (count : length new_records ≡ length records) where
   -- where it was in no slot
-  pub held_out : is_resident (item_at (items_of records) item) ≡ false → HoldsResidents new_records loaded left loaded_room left_room slots
+  pub held_out : is_resident (item_at (items_of records) item) ≡ false → HoldsResidents contexts new_records loaded left loaded_room left_room slots
   held_out out =
       let same : set (residency records) item false ≡ residency records =
       ap (set (residency records) item) (sym (out_flag records item out)) ∙ set-get_or (residency records) item false in
@@ -145,7 +146,7 @@ module _ (records new_records : List Record) (loaded left : List ℕ) (loaded_ro
         )
 
     -- where it was in one
-    pub held_flushed : HoldsResidents new_records new_loaded left new_loaded_room left_room slots
+    pub held_flushed : HoldsResidents contexts new_records new_loaded left new_loaded_room left_room slots
     held_flushed = record {
       sound = sound;
       residents = subst (λ (flags : List Bool). ListsFlags flags new_loaded) (sym (forgotten_flags records new_records item is)) lists;
@@ -158,7 +159,7 @@ module _ (records new_records : List Record) (loaded left : List ℕ) (loaded_ro
 
     -- and where that is left to nobody
     pub held_orphaned : (handle new_left_room : ℕ) → (octet_of handle == HT_TRANSIENT) ≡ true → left_room ≤ new_left_room
-        → HoldsResidents new_records new_loaded (left ++ handle ∷ []) new_loaded_room new_left_room slots
+        → HoldsResidents contexts new_records new_loaded (left ++ handle ∷ []) new_loaded_room new_left_room slots
     held_orphaned handle new_left_room is_transient more = record {
       sound = sound;
       residents = held_flushed.residents;
@@ -170,9 +171,9 @@ module _ (records new_records : List Record) (loaded left : List ℕ) (loaded_ro
     }
 
 -- one of those of nobody goes
-pub held_popped : (records : List Record) (loaded left new_left : List ℕ) (loaded_room left_room new_left_room slots handle : ℕ)
-    → HoldsResidents records loaded left loaded_room left_room slots → left ≡ new_left ++ handle ∷ [] → new_left_room ≡ left_room
-    → HoldsResidents records loaded new_left loaded_room new_left_room slots
+pub held_popped : {contexts : ContextLimits} (records : List Record) (loaded left new_left : List ℕ) (loaded_room left_room new_left_room slots handle : ℕ)
+    → HoldsResidents contexts records loaded left loaded_room left_room slots → left ≡ new_left ++ handle ∷ [] → new_left_room ≡ left_room
+    → HoldsResidents contexts records loaded new_left loaded_room new_left_room slots
 held_popped records loaded left new_left loaded_room left_room new_left_room slots handle holds is same =
     let count = ap (λ (l : List ℕ). length l) is in
     record {
@@ -188,14 +189,14 @@ held_popped records loaded left new_left loaded_room left_room new_left_room slo
     }
 
 -- one record more
-pub held_more : (records : List Record) (loaded left : List ℕ) (loaded_room new_loaded_room left_room slots : ℕ) (n : Record)
-    → HoldsResidents records loaded left loaded_room left_room slots → IsRecord n → item_of n ≡ no_item → length records + 1 ≤ new_loaded_room
-    → length records + 1 < 2 ^ 32 → HoldsResidents (records ++ n ∷ []) loaded left new_loaded_room left_room slots
-held_more records loaded left loaded_room new_loaded_room left_room slots n holds is item more few =
+pub held_more : {contexts : ContextLimits} (records : List Record) (loaded left : List ℕ) (loaded_room new_loaded_room left_room slots : ℕ) (n : Record)
+    → HoldsResidents contexts records loaded left loaded_room left_room slots → IsRecord contexts n → item_of n ≡ no_item → length records + 1 ≤ new_loaded_room
+    → length records + 1 < 2 ^ 32 → HoldsResidents contexts (records ++ n ∷ []) loaded left new_loaded_room left_room slots
+held_more {contexts = contexts} records loaded left loaded_room new_loaded_room left_room slots n holds is item more few =
     let items = map_push item_of records n ∙ ap (λ (i : Item). items_of records ++ i ∷ []) item in
     let flags = ap (map is_resident) items ∙ map_push is_resident (items_of records) no_item in
     record {
-      sound = All-push (λ (r : Record). IsRecord r) records n holds.sound is;
+      sound = All-push (λ (r : Record). IsRecord contexts r) records n holds.sound is;
       residents = subst (λ (f : List Bool). ListsFlags f loaded) (sym flags) (lists_false (residency records) loaded holds.residents);
       room_for_loaded = omega (arith, length-append records (n ∷ []), more);
       few = omega (arith, length-append records (n ∷ []), few);
@@ -222,10 +223,10 @@ pub same_items : (records new_records : List Record) → owners (items_of new_re
 same_items records new_records same =
     omega (arith, same_length records new_records same, length-map records item_of, length-map new_records item_of)
 
-pub swapped_held : (records new_records : List Record) (loaded new_loaded left : List ℕ) (loaded_room new_loaded_room left_room slots : ℕ)
-    → HoldsResidents records loaded left loaded_room left_room slots → owners (items_of new_records) ≡ owners (items_of records) → AreRecords new_records
+pub swapped_held : {contexts : ContextLimits} (records new_records : List Record) (loaded new_loaded left : List ℕ) (loaded_room new_loaded_room left_room slots : ℕ)
+    → HoldsResidents contexts records loaded left loaded_room left_room slots → owners (items_of new_records) ≡ owners (items_of records) → AreRecords contexts new_records
     → ListsResidents new_records new_loaded new_loaded_room → length new_loaded + length left ≤ slots
-    → HoldsResidents new_records new_loaded left new_loaded_room left_room slots
+    → HoldsResidents contexts new_records new_loaded left new_loaded_room left_room slots
 swapped_held records new_records loaded new_loaded left loaded_room new_loaded_room left_room slots holds same sound listed fits =
     let count = same_length records new_records same in
     record {

@@ -5,6 +5,7 @@ use Rattle.std.proofs.lemmas.Bool.{eqb-true}
 use Rattle.std.proofs.lemmas.List.{get_or_push, map_push, take_at}
 use Rattle.tab_spec.specs.declared.TheConstants.{HT_TRANSIENT, TRANSIENT_FIRST}
 use Rattle.tab_spec.specs.Shape.{octet_of}
+use Rattle.tab_spec.specs.declared.contexts.ContextLimits.{ContextLimits}
 use Rattle.device_spec.specs.Slots.{SlotState, slot_of}
 use Rattle.device_port.specs.Device.{Seen}
 use Rattle.device_port.specs.Own.{AsksSome}
@@ -27,10 +28,10 @@ pub written_back : (old lent new : List Record) (len : ℕ) → lent ≡ old →
 written_back old lent new len lent_is len_is same =
     take_at new (drop (length new) old) len (omega (arith, len_is, ap (λ (l : List Record). length l) lent_is, same_length lent new same))
 
-pub swapped : {D A : Type 0} (seen : D → Seen) (a b : D) (result : Result A SwapError) (records new_records : List Record) (old new : ObjectsView)
-    → Swaps seen a b records new_records → AsksSome seen a b result → items_of records ≡ old.items → new.items ≡ items_of new_records → new.slots ≡ old.slots
-    → new.owners ≡ old.owners → new.left ≡ old.left → Moved seen a b old new
-swapped seen a b result records new_records old new swaps asks old_is new_is slots owners left =
+pub swapped : {D A : Type 0} {contexts : ContextLimits} (seen : D → Seen) (a b : D) (result : Result A SwapError) (records new_records : List Record) (old new : ObjectsView)
+    → Swaps contexts seen a b records new_records → AsksSome contexts seen a b result → items_of records ≡ old.items → new.items ≡ items_of new_records → new.slots ≡ old.slots
+    → new.owners ≡ old.owners → new.left ≡ old.left → new.contexts ≡ old.contexts → Moved seen a b old new
+swapped seen a b result records new_records old new swaps asks old_is new_is slots owners left room =
     let keeps : Keeps (seen a).state (seen b).state old.items new.items [] =
     subst (λ (l : List Item). Keeps (seen a).state (seen b).state l new.items []) old_is
     (subst (λ (l : List Item). Keeps (seen a).state (seen b).state (items_of records) l []) (sym new_is) swaps.keeps) in
@@ -38,6 +39,7 @@ swapped seen a b result records new_records old new swaps asks old_is new_is slo
       slots = slots;
       owners = owners;
       left = left;
+      contexts = room;
       objects = keeps.objects;
       stand = keeps.stand;
       rest = record { base_is = asks.base; rest = keeps.rest; rises = keeps.rises; count = asks.count };
@@ -57,10 +59,10 @@ have_slots seen a b needed new_slots items old new fit has stand moved new_is al
 
 -- how much room is made has to do with items, slots and order alone
 pub room_seen : {D : Type 0} (seen : D → Seen) (a b : D) (needed : List ℕ) (new_slots : ℕ) (records new_records : List Record) (loaded new_loaded : List ℕ)
-    (slots : ℕ) (owners : List (Option ℕ)) (left : List ℕ) (result : Result (Unit {0}) SwapError)
+    (slots : ℕ) (owners : List (Option ℕ)) (left : List ℕ) (contexts : ContextLimits) (result : Result (Unit {0}) SwapError)
     → MakesRoom seen a b needed new_slots (view_of records loaded slots) (view_of new_records new_loaded slots) result
-    → MakesRoom seen a b needed new_slots (view_with records loaded slots owners left) (view_with new_records new_loaded slots owners left) result
-room_seen seen a b needed new_slots records new_records loaded new_loaded slots owners left result made = record {
+    → MakesRoom seen a b needed new_slots (view_with records loaded slots owners left contexts) (view_with new_records new_loaded slots owners left contexts) result
+room_seen seen a b needed new_slots records new_records loaded new_loaded slots owners left contexts result made = record {
   sent = made.sent;
   few = made.few;
   full = made.full;
@@ -132,7 +134,7 @@ pub record Met (items : List Item) (index handle : ℕ) : Type 0 where
   pub slot : (item_at items index).slot ≡ Some (slot_of handle)
   pub transient : (octet_of handle == HT_TRANSIENT) ≡ true
 
-pub met : (records : List Record) (items : List Item) (index handle : ℕ) (d : Record) → AreRecords records → items_of records ≡ items → Names items index
+pub met : {contexts : ContextLimits} (records : List Record) (items : List Item) (index handle : ℕ) (d : Record) → AreRecords contexts records → items_of records ≡ items → Names items index
     → d ≡ get_or records index d → d.handle ≡ Some handle → Met items index handle
 met records items index handle d sound view names d_is handle_is =
     let inside = named_inside records index (subst (λ (l : List Item). Names l index) (sym view) names) in
@@ -165,11 +167,12 @@ flushed_loses state new_state others index handle old new stand inside slot stat
 
 pub left_dropped : {D : Type 0} (seen : D → Seen) (a : D) (index : ℕ) (old new : ObjectsView) → index < length old.items
     → (item_at old.items index).slot ≡ None → new.items ≡ set old.items index no_item → new.slots ≡ old.slots
-    → new.owners ≡ old.owners → new.left ≡ old.left → Dropped seen a a old new
-left_dropped seen a index old new inside slot items slots owners left = record {
+    → new.owners ≡ old.owners → new.left ≡ old.left → new.contexts ≡ old.contexts → Dropped seen a a old new
+left_dropped seen a index old new inside slot items slots owners left room = record {
   slots = slots;
   owners = owners;
   left = left;
+  contexts = room;
   stand = λ others stand. subst (λ (l : List Item). Stand (seen a).state l others) (sym items) (left_drops (seen a).state old.items others index stand inside slot).stand;
   counter = refl;
   rest = record { base_is = refl; rest = refl; rises = omega arith; count = omega arith };
@@ -178,13 +181,14 @@ left_dropped seen a index old new inside slot items slots owners left = record {
 pub flushed_dropped : {D : Type 0} (seen : D → Seen) (a b : D) (index handle : ℕ) (old new : ObjectsView) → index < length old.items
     → (item_at old.items index).slot ≡ Some (slot_of handle) → (seen b).state ≡ emptied handle (seen a).state → (seen b).base ≡ (seen a).base
     → (seen a).faults ≤ (seen b).faults → new.items ≡ set old.items index no_item → new.slots ≡ old.slots
-    → new.owners ≡ old.owners → new.left ≡ old.left → Dropped seen a b old new
-flushed_dropped seen a b index handle old new inside slot state base count items slots owners left =
+    → new.owners ≡ old.owners → new.left ≡ old.left → new.contexts ≡ old.contexts → Dropped seen a b old new
+flushed_dropped seen a b index handle old new inside slot state base count items slots owners left room =
     let counter : counter_of (seen b).state ≡ counter_of (seen a).state = ap counter_of state ∙ emptied_counter handle (seen a).state in
     record {
       slots = slots;
       owners = owners;
       left = left;
+      contexts = room;
       stand = λ others stand. subst (λ (st : Option SlotState). Stand st new.items others) (sym state)
           (subst (λ (l : List Item). Stand (emptied handle (seen a).state) l others) (sym items) (flushed_drops (seen a).state old.items others index handle stand inside slot).stand);
       counter = counter;

@@ -4,6 +4,7 @@ use Rattle.std.specs.Prelude.{◌≡◌, ◌<◌, ◌≤◌, ℕ, ◌+◌, ◌-�
 use Rattle.std.specs.List.{AllByRecursion, count_by, list_any}
 use Rattle.tab_spec.specs.declared.TheConstants.{CONTEXT_LIMIT, TRANSIENT_FIRST}
 use Rattle.tab_spec.specs.Object.{Object}
+use Rattle.tab_spec.specs.declared.contexts.ContextLimits.{ContextLimits}
 use Rattle.device_spec.specs.Slots.{SlotState, IsSlots, is_free, object_at}
 use Rattle.device_port.specs.Device.{Seen, sent_of}
 use Rattle.device_port.specs.Use.{all_used, first_unneeded, is_among, without_first}
@@ -17,13 +18,14 @@ pub record Item : Type 0 where
   pub blob : Option (List ℕ)
 
 -- what is seen of a swapper: its items, by index, how many slots its device has, the indices of the items in slots, the least
--- recently used first, whose each list is, if anybody's, and the slots with objects of nobody
+-- recently used first, whose each list is, if anybody's, the slots with objects of nobody, and what contexts it has room for
 pub record ObjectsView : Type 0 where
   pub items : List Item
   pub slots : ℕ
   pub order : List ℕ
   pub owners : List (Option ℕ)
   pub left : List ℕ
+  pub contexts : ContextLimits
 
 -- ---- items
 
@@ -286,6 +288,7 @@ pub record Moved {D : Type 0} (seen : D → Seen) (old new : D) (old_view new_vi
   pub slots : new_view.slots ≡ old_view.slots
   pub owners : new_view.owners ≡ old_view.owners
   pub left : new_view.left ≡ old_view.left
+  pub contexts : new_view.contexts ≡ old_view.contexts
   pub objects : KeepsObjects (seen old).state (seen new).state old_view.items new_view.items
   pub stand : Stand (seen new).state new_view.items []
   pub rest : KeepsRest seen old new
@@ -300,6 +303,7 @@ pub record Dropped {D : Type 0} (seen : D → Seen) (old new : D) (old_view new_
   pub slots : new_view.slots ≡ old_view.slots
   pub owners : new_view.owners ≡ old_view.owners
   pub left : new_view.left ≡ old_view.left
+  pub contexts : new_view.contexts ≡ old_view.contexts
   pub stand : (others : List ℕ) → Stand (seen old).state old_view.items others → Stand (seen new).state new_view.items others
   pub counter : counter_of (seen new).state ≡ counter_of (seen old).state
   pub rest : KeepsRest seen old new

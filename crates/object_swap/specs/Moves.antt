@@ -3,6 +3,7 @@
 use Rattle.std.specs.Prelude.{◌≡◌, ◌<◌, ℕ, ◌+◌, ◌-◌, min, ◌==◌, Bool, true, false, List, [], drop, get_or, set, take, length, ◌≤◌, Option, Some, None, is_some, IfSome, IsSomeAnd, Result, Ok, OnErr, OnOk}
 use Rattle.std.specs.List.{list_any, remove}
 use Rattle.tab_spec.specs.declared.TheConstants.{CONTEXT_LIMIT, HEADER_BYTES, TRANSIENT_FIRST}
+use Rattle.tab_spec.specs.declared.contexts.ContextLimits.{ContextLimits}
 use Rattle.device_spec.specs.Answers.{word_at}
 use Rattle.device_spec.specs.Slots.{SlotState, IsSlots, free_slot, in_slot, is_free, object_at, slot_of, with_slot}
 use Rattle.device_port.specs.Device.{Seen, sent_of}
@@ -74,8 +75,8 @@ pub record IsSaved (last : Option (List ℕ)) (item new_item : Item) : Type 0 wh
 -- ---- before and after a move
 
 -- records that moves may begin with: their objects stand, and there are contexts enough to save them all
-pub record Ready (state : Option SlotState) (records : List Record) : Type 0 where
-  pub sound : AreRecords records
+pub record Ready (contexts : ContextLimits) (state : Option SlotState) (records : List Record) : Type 0 where
+  pub sound : AreRecords contexts records
   pub stand : Stand state (items_of records) []
   pub below : pending_of state (items_of records) ≤ CONTEXT_LIMIT
 
@@ -86,9 +87,9 @@ pub record IsItem (records : List Record) (index : ℕ) (resident : Bool) : Type
   pub slot : is_resident (item_at (items_of records) index) ≡ resident
 
 -- what each move of an object keeps, of the records and of the device's state
-pub record Swaps {D : Type 0} (seen : D → Seen) (old new : D) (records new_records : List Record) : Type 0 where
+pub record Swaps {D : Type 0} (contexts : ContextLimits) (seen : D → Seen) (old new : D) (records new_records : List Record) : Type 0 where
   pub keeps : Keeps (seen old).state (seen new).state (items_of records) (items_of new_records) []
-  pub sound : AreRecords new_records
+  pub sound : AreRecords contexts new_records
 
 -- so many objects fit into the slots
 abbrev pub HasRoom : Option SlotState → ℕ → Type 0

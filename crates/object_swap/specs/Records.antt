@@ -3,8 +3,9 @@ use Rattle.std.specs.Prelude.{◌≡◌, ◌≤◌, ◌<◌, ◌^◌, ℕ, ◌==
 use Rattle.std.specs.List.{All, AllByRecursion, count_by}
 use Rattle.tab_spec.specs.declared.TheConstants.{HT_TRANSIENT, TRANSIENT_FIRST}
 use Rattle.tab_spec.specs.Shape.{octet_of}
+use Rattle.tab_spec.specs.declared.contexts.ContextLimits.{ContextLimits}
+use Rattle.tab_spec.specs.declared.contexts.TheConstants.{PROFILE_CONTEXTS}
 use Rattle.effect_spec.specs.Contexts.{context_of}
-use Rattle.device_spec.specs.declared.TheConstants.{MOST_OBJECT_CONTEXT_BYTES}
 use Rattle.device_spec.specs.Answers.{is_context_of}
 use Rattle.device_spec.specs.Slots.{slot_of}
 use Rattle.device_port.specs.Use.{is_among}
@@ -25,17 +26,17 @@ abbrev pub items_of : List Record → List Item
 items_of records = map item_of records
 
 -- the whole context of an object
-abbrev pub IsContext : List ℕ → Type 0
-IsContext bytes = is_context_of TRANSIENT_FIRST bytes (context_of bytes) ≡ true
+abbrev pub IsContext : ContextLimits → List ℕ → Type 0
+IsContext contexts bytes = is_context_of contexts TRANSIENT_FIRST bytes (context_of bytes) ≡ true
 
 -- what holds of a record: its handle is an object's, its room is enough, and holds a context where one is kept
-pub record IsRecord (r : Record) : Type 0 where
+pub record IsRecord (contexts : ContextLimits) (r : Record) : Type 0 where
   pub handle : IfSome r.handle (λ handle. (octet_of handle == HT_TRANSIENT) ≡ true)
-  pub room : MOST_OBJECT_CONTEXT_BYTES ≤ vec_capacity r.blob
-  pub context : r.kept ≡ true → IsContext r.blob.items
+  pub room : contexts.object_bytes ≤ vec_capacity r.blob
+  pub context : r.kept ≡ true → IsContext contexts r.blob.items
 
-abbrev pub AreRecords : List Record → Type 0
-AreRecords records = All (λ r. IsRecord r) records
+abbrev pub AreRecords : ContextLimits → List Record → Type 0
+AreRecords contexts records = All (λ r. IsRecord contexts r) records
 
 -- whether each item is in a slot
 abbrev pub residency : List Record → List Bool
@@ -44,14 +45,15 @@ residency records = map is_resident (items_of records)
 abbrev pub number : Bool → ℕ
 number flag = if flag then 1 else 0
 
--- what is seen of records, of the list of residents, of so many slots, of whose each list is, and of the handles of what nobody has
-abbrev pub view_with : List Record → List ℕ → ℕ → List (Option ℕ) → List ℕ → ObjectsView
-view_with records loaded slots owners left =
-    record { items = items_of records; slots = slots; order = loaded; owners = owners; left = map slot_of left }
+-- what is seen of records, of the list of residents, of so many slots, of whose each list is, of the handles of what nobody has, and
+-- of what contexts there is room for
+abbrev pub view_with : List Record → List ℕ → ℕ → List (Option ℕ) → List ℕ → ContextLimits → ObjectsView
+view_with records loaded slots owners left contexts =
+    record { items = items_of records; slots = slots; order = loaded; owners = owners; left = map slot_of left; contexts = contexts }
 
--- the same where neither lists nor objects of nobody count
+-- the same where neither lists nor objects of nobody count, nor room
 abbrev pub view_of : List Record → List ℕ → ℕ → ObjectsView
-view_of records loaded slots = view_with records loaded slots [] []
+view_of records loaded slots = view_with records loaded slots [] [] PROFILE_CONTEXTS
 
 -- no flag is true that wasn't
 abbrev pub NoMore : List Bool → List Bool → Type 0
@@ -127,8 +129,8 @@ AreTransient handles = All (λ handle. (octet_of handle == HT_TRANSIENT) ≡ tru
 
 -- what holds of the records, of the list of residents and of the handles of what nobody has, how many each of the two has room for, and
 -- how many slots there are
-pub record HoldsResidents (records : List Record) (loaded left : List ℕ) (loaded_room left_room slots : ℕ) : Type 0 where
-  pub sound : AreRecords records
+pub record HoldsResidents (contexts : ContextLimits) (records : List Record) (loaded left : List ℕ) (loaded_room left_room slots : ℕ) : Type 0 where
+  pub sound : AreRecords contexts records
   pub residents : ListsFlags (residency records) loaded
   pub room_for_loaded : length records ≤ loaded_room
   pub few : length records < 2 ^ 32
@@ -137,7 +139,7 @@ pub record HoldsResidents (records : List Record) (loaded left : List ℕ) (load
   pub transient : AreTransient left
 
 -- all that holds
-pub record Holds (records : List Record) (view : RecordsView (Unit {0})) (owners : List (Option ℕ)) (vacant : ℕ) (loaded left : List ℕ)
+pub record Holds (contexts : ContextLimits) (records : List Record) (view : RecordsView (Unit {0})) (owners : List (Option ℕ)) (vacant : ℕ) (loaded left : List ℕ)
     (loaded_room left_room slots : ℕ) : Type 0 where
   pub owned : IsOwnedBy (items_of records) view owners vacant
-  pub held : HoldsResidents records loaded left loaded_room left_room slots
+  pub held : HoldsResidents contexts records loaded left loaded_room left_room slots

@@ -23,8 +23,8 @@ pub fn keep_context<D: Device>(
     scratch: &mut Buffer,
 ) -> Result<(), SwapError>
     requires item { IsItem records.old index true }
-    requires ready { Ready (D.seen device.old).state records.old }
-    ensures swaps { Swaps D.seen device.old device.new records.old records.new }
+    requires ready { Ready D.CONTEXTS (D.seen device.old).state records.old }
+    ensures swaps { Swaps D.CONTEXTS D.seen device.old device.new records.old records.new }
     ensures residency { residency records.new ≡ residency records.old }
     // A new context is that of the response.
     ensures kept { OnOk result (IsSaved (last_of (D.seen device.new))
@@ -36,7 +36,7 @@ pub fn keep_context<D: Device>(
     // The only command that makes no context is one that failed.
     ensures spends { OnOk result (Spends D.seen device.old device.new records.old records.new 0)
         × OnErr result (Spends D.seen device.old device.new records.old records.new 1) }
-    ensures asks { AsksSome D.seen device.old device.new result }
+    ensures asks { AsksSome D.CONTEXTS D.seen device.old device.new result }
 {
     let record = &mut records[index];
     let Some(handle) = record.handle else {
@@ -59,8 +59,8 @@ pub fn leave_slot<D: Device>(
 ) -> Result<(), SwapError>
     requires item { IsItem records.old index true
         × (is_some (item_at (items_of records.old) index).blob ≡ true) }
-    requires ready { Ready (D.seen device.old).state records.old }
-    ensures swaps { Swaps D.seen device.old device.new records.old records.new }
+    requires ready { Ready D.CONTEXTS (D.seen device.old).state records.old }
+    ensures swaps { Swaps D.CONTEXTS D.seen device.old device.new records.old records.new }
     ensures ok { OnOk result (residency records.new ≡ set (residency records.old) index false) }
     ensures err { OnErr result (residency records.new ≡ residency records.old) }
     ensures others { OthersStay index records.old records.new
@@ -68,7 +68,7 @@ pub fn leave_slot<D: Device>(
     // One FlushContext is sent, of a handle that stands for its slot.
     ensures asks { (handle : ℕ)
         × ((item_at (items_of records.old) index).slot ≡ Some (slot_of handle))
-        × Asks D.seen device.old device.new (flush_context_command handle) result }
+        × Asks D.CONTEXTS D.seen device.old device.new (flush_context_command handle) result }
 {
     let record = &mut records[index];
     let Some(handle) = record.handle else {
@@ -87,10 +87,10 @@ pub fn take_slot<D: Device>(
     scratch: &mut Buffer,
 ) -> Result<(), SwapError>
     requires item { IsItem records.old index false }
-    requires ready { Ready (D.seen device.old).state records.old }
+    requires ready { Ready D.CONTEXTS (D.seen device.old).state records.old }
     requires room { IfSome (D.seen device.old).state
         (λ slots. list_any is_free slots.slots ≡ true) }
-    ensures swaps { Swaps D.seen device.old device.new records.old records.new }
+    ensures swaps { Swaps D.CONTEXTS D.seen device.old device.new records.old records.new }
     ensures ok { OnOk result ((residency records.new ≡ set (residency records.old) index true)
         × HasLastSlot (last_of (D.seen device.new)) (item_at (items_of records.new) index)) }
     ensures err { OnErr result (residency records.new ≡ residency records.old) }
@@ -98,7 +98,7 @@ pub fn take_slot<D: Device>(
     // One ContextLoad is sent, of its context.
     ensures asks { (context : List ℕ)
         × ((item_at (items_of records.old) index).blob ≡ Some context)
-        × Asks D.seen device.old device.new (context_load_command context) result }
+        × Asks D.CONTEXTS D.seen device.old device.new (context_load_command context) result }
 {
     let record = &mut records[index];
     let handle = load(device, &record.blob, scratch)?;

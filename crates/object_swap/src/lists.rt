@@ -1,6 +1,7 @@
 //! Lists of the objects of each client: the index of each, so that no call walks the records.
 ghost use Rattle.std.specs.Prelude.{◌≡◌, ◌≤◌, ◌<◌, ◌+◌, ◌^◌, ℕ, List, [], length, get_or, set};
 ghost use Rattle.std.specs.Prelude.{Option, MatchOption};
+ghost use Rattle.tab_spec.specs.declared.contexts.ContextLimits.{ContextLimits};
 ghost use Rattle.linked_records.specs.View.{IsListed, first_index, taken_out};
 ghost use Rattle.object_swap.specs.Items.{Names, no_item};
 ghost use Rattle.object_swap.specs.Records.{AreRecords, IsOwnedBy, items_of};
@@ -93,12 +94,12 @@ pub fn release<C: Visits>(
     steps: &mut C,
 )
     requires named { Names (items_of records.old.items) item }
-    requires sound { AreRecords records.old.items }
     requires few { length records.old.items < 2 ^ 32 }
     requires owned { (owners : List (Option ℕ))
         × IsOwnedBy (items_of records.old.items) lists.old owners vacant.old }
     ensures items { items_of records.new.items ≡ set (items_of records.old.items) item no_item }
-    ensures sound { AreRecords records.new.items }
+    ensures sound { (contexts : ContextLimits) → AreRecords contexts records.old.items
+        → AreRecords contexts records.new.items }
     ensures count { length records.new.items ≡ length records.old.items }
     ensures owned { (owners : List (Option ℕ))
         → IsOwnedBy (items_of records.old.items) lists.old owners vacant.old

@@ -10,9 +10,9 @@ ghost use Rattle.object_swap.specs.Records.{IsContext};
 ghost use Rattle.object_swap.specs.Moves.{IsIn, IsLastContext, IsLastHandle, IsLeast, IsOut};
 ghost use Rattle.object_swap.specs.Moves.{counted, emptied, filled};
 
-use device_port::{Device, SwapError, ask, command_of, handle_of};
+use device_port::{Device, SwapError, ask, command_of, handle_of, load_command};
 use tab_bytes::Buffer;
-use tab_spec::{CC_CONTEXT_LOAD, CC_CONTEXT_SAVE, CC_FLUSH_CONTEXT, HEADER_BYTES};
+use tab_spec::{CC_CONTEXT_SAVE, CC_FLUSH_CONTEXT, HEADER_BYTES};
 
 /// Keeps a context of the object of a handle (Part 3, "TPM2_ContextSave").
 pub fn save<D: Device>(
@@ -22,16 +22,16 @@ pub fn save<D: Device>(
     scratch: &mut Buffer,
 ) -> Result<(), SwapError>
     requires transient { (octet_of handle == HT_TRANSIENT) ≡ true }
-    requires room { 512 ≤ vec_capacity context.old }
+    requires room { D.CONTEXTS.object_bytes ≤ vec_capacity context.old }
     requires told { IfSome (D.seen device.old).state
         (λ slots. IsIn slots handle × (slots.object_counter < CONTEXT_LIMIT)) }
     ensures state { OnOk result ((D.seen device.new).state ≡ counted (D.seen device.old).state) }
     ensures same { OnOk result (IfSome (D.seen device.old).state
         (λ slots. object_at slots None (Some context.new.items) ≡ in_slot slots handle)) }
-    ensures kept { OnOk result (IsContext context.new.items
+    ensures kept { OnOk result (IsContext D.CONTEXTS context.new.items
         × IsLastContext (last_of (D.seen device.new)) context.new.items) }
-    ensures room { 512 ≤ vec_capacity context.new }
-    ensures asks { Asks D.seen device.old device.new (context_save_command handle) result }
+    ensures room { D.CONTEXTS.object_bytes ≤ vec_capacity context.new }
+    ensures asks { Asks D.CONTEXTS D.seen device.old device.new (context_save_command handle) result }
 {
     let command = command_of(CC_CONTEXT_SAVE, &handle.to_be_bytes());
     ask(device, command.as_slice(), scratch)?;
@@ -48,7 +48,8 @@ pub fn flush<D: Device>(device: &mut D, handle: u32, scratch: &mut Buffer) -> Re
     requires told { IfSome (D.seen device.old).state (λ slots. IsIn slots handle) }
     ensures state { OnOk result
         ((D.seen device.new).state ≡ emptied handle (D.seen device.old).state) }
-    ensures asks { Asks D.seen device.old device.new (flush_context_command handle) result }
+    ensures asks { Asks D.CONTEXTS D.seen device.old device.new (flush_context_command handle)
+        result }
 {
     let command = command_of(CC_FLUSH_CONTEXT, &handle.to_be_bytes());
     ask(device, command.as_slice(), scratch)
@@ -60,16 +61,17 @@ pub fn load<D: Device>(
     context: &[u8],
     scratch: &mut Buffer,
 ) -> Result<u32, SwapError>
-    requires kept { IsContext context.now }
+    requires kept { IsContext D.CONTEXTS context.now }
     requires told { IfSome (D.seen device.old).state (λ slots. IsOut slots context.now) }
     ensures state { OnOk result
         ((D.seen device.new).state ≡ filled context.now (D.seen device.old).state) }
     ensures last { IfOk result (λ handle. IsLastHandle (last_of (D.seen device.new)) handle) }
     ensures least { IfOk result (λ handle. IsLeast (D.seen device.old).state handle) }
     ensures transient { IfOk result (λ handle. (octet_of handle == HT_TRANSIENT) ≡ true) }
-    ensures asks { Asks D.seen device.old device.new (context_load_command context.now) result }
+    ensures asks { Asks D.CONTEXTS D.seen device.old device.new (context_load_command context.now)
+        result }
 {
-    let command = command_of(CC_CONTEXT_LOAD, context);
+    let command = load_command(context);
     ask(device, command.as_slice(), scratch)?;
     Ok(handle_of(scratch.as_slice()))
 }

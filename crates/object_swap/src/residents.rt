@@ -92,15 +92,15 @@ fn put_away<D: Device>(
     scratch: &mut Buffer,
 ) -> Result<(), SwapError>
     requires inside { at < length loaded.old.items }
-    requires ready { Ready (D.seen device.old).state records.old }
+    requires ready { Ready D.CONTEXTS (D.seen device.old).state records.old }
     requires listed { ListsResidents records.old loaded.old.items (vec_capacity loaded.old) }
-    ensures swaps { Swaps D.seen device.old device.new records.old records.new }
+    ensures swaps { Swaps D.CONTEXTS D.seen device.old device.new records.old records.new }
     ensures listed { ListsResidents records.new loaded.new.items (vec_capacity loaded.new) }
     ensures leaves { PutsAway D.seen device.old device.new records.old records.new
         loaded.old.items loaded.new.items at result }
     ensures ok { OnOk result
-        (IsAnswered (asked_of (D.seen device.new)) (last_of (D.seen device.new))) }
-    ensures asks { AsksSome D.seen device.old device.new result }
+        (IsAnswered D.CONTEXTS (asked_of (D.seen device.new)) (last_of (D.seen device.new))) }
+    ensures asks { AsksSome D.CONTEXTS D.seen device.old device.new result }
 {
     let index = loaded[at] as usize;
     keep_context(records, index, device, scratch)?;
@@ -120,13 +120,13 @@ fn clear_slots<D: Device>(
     scratch: &mut Buffer,
 ) -> Result<(), SwapError>
     requires fits { length needed.now ≤ most + missing needed.now (items_of records.old) }
-    requires ready { Ready (D.seen device.old).state records.old }
+    requires ready { Ready D.CONTEXTS (D.seen device.old).state records.old }
     requires listed { ListsResidents records.old loaded.old.items (vec_capacity loaded.old) }
-    ensures swaps { Swaps D.seen device.old device.new records.old records.new }
+    ensures swaps { Swaps D.CONTEXTS D.seen device.old device.new records.old records.new }
     ensures listed { ListsResidents records.new loaded.new.items (vec_capacity loaded.new) }
     ensures evicts { Evicts D.seen device.old device.new records.old records.new
         loaded.old.items loaded.new.items needed.now most result }
-    ensures asks { AsksSome D.seen device.old device.new result }
+    ensures asks { AsksSome D.CONTEXTS D.seen device.old device.new result }
 {
     while loaded.len() > most {
         // What is needed alone would fit.
@@ -145,15 +145,15 @@ fn make_resident<D: Device>(
     scratch: &mut Buffer,
 ) -> Result<(), SwapError>
     requires named { Names (items_of records.old) item }
-    requires ready { Ready (D.seen device.old).state records.old }
+    requires ready { Ready D.CONTEXTS (D.seen device.old).state records.old }
     requires listed { ListsResidents records.old loaded.old.items (vec_capacity loaded.old) }
     requires room { is_resident (item_at (items_of records.old) item) ≡ false
         → IfSome (D.seen device.old).state (λ slots. list_any is_free slots.slots ≡ true) }
-    ensures swaps { Swaps D.seen device.old device.new records.old records.new }
+    ensures swaps { Swaps D.CONTEXTS D.seen device.old device.new records.old records.new }
     ensures listed { ListsResidents records.new loaded.new.items (vec_capacity loaded.new) }
     ensures brings { Brings D.seen device.old device.new records.old records.new
         loaded.old.items loaded.new.items item result }
-    ensures asks { AsksSome D.seen device.old device.new result }
+    ensures asks { AsksSome D.CONTEXTS D.seen device.old device.new result }
 {
     if is_in_slot(records, item) {
         move_last(loaded, item);
@@ -173,13 +173,13 @@ fn fill_slots<D: Device>(
     scratch: &mut Buffer,
 ) -> Result<(), SwapError>
     requires needed { CanFill (D.seen device.old).state records.old needed.now }
-    requires ready { Ready (D.seen device.old).state records.old }
+    requires ready { Ready D.CONTEXTS (D.seen device.old).state records.old }
     requires listed { ListsResidents records.old loaded.old.items (vec_capacity loaded.old) }
-    ensures swaps { Swaps D.seen device.old device.new records.old records.new }
+    ensures swaps { Swaps D.CONTEXTS D.seen device.old device.new records.old records.new }
     ensures listed { ListsResidents records.new loaded.new.items (vec_capacity loaded.new) }
     ensures fills { Fills D.seen device.old device.new records.old records.new
         loaded.old.items loaded.new.items needed.now result }
-    ensures asks { AsksSome D.seen device.old device.new result }
+    ensures asks { AsksSome D.CONTEXTS D.seen device.old device.new result }
 {
     for item in needed {
         make_resident(records, loaded, *item, device, scratch)?;
@@ -199,9 +199,9 @@ pub fn swap_objects<D: Device>(
     scratch: &mut Buffer,
 ) -> Result<(), SwapError>
     requires needed { CanSwap (D.seen device.old).state records.old needed.now slots new_slots }
-    requires ready { Ready (D.seen device.old).state records.old }
+    requires ready { Ready D.CONTEXTS (D.seen device.old).state records.old }
     requires listed { ListsResidents records.old loaded.old.items (vec_capacity loaded.old) }
-    ensures swaps { Swaps D.seen device.old device.new records.old records.new }
+    ensures swaps { Swaps D.CONTEXTS D.seen device.old device.new records.old records.new }
     ensures listed { ListsResidents records.new loaded.new.items (vec_capacity loaded.new)
         × (length loaded.new.items ≤ slots) }
     ensures stay { KeepsSlots needed.now (items_of records.old) (items_of records.new)
@@ -209,7 +209,7 @@ pub fn swap_objects<D: Device>(
     ensures room { MakesRoom D.seen device.old device.new needed.now new_slots
         (view_of records.old loaded.old.items slots)
         (view_of records.new loaded.new.items slots) result }
-    ensures asks { AsksSome D.seen device.old device.new result }
+    ensures asks { AsksSome D.CONTEXTS D.seen device.old device.new result }
 {
     let most = usize::from(slots - new_slots);
     let missing = count_missing(records, needed);

@@ -22,12 +22,12 @@ use crate::record::Record;
 use crate::residents::{any_keeps, swap_objects};
 use crate::vacant::{list_last, unlist};
 use device_port::{Device, SwapError};
-use device_spec::MOST_OBJECT_CONTEXT_BYTES;
 use linked_records::{Records, Steps};
 use std::alloc::{AllocError, Global};
 use std::marker::Model;
 use std::sync::ledger::Ledger;
 use tab_bytes::Buffer;
+use tab_spec::ContextLimits;
 
 /// The objects of all clients: more of them than the device has slots. Each stands in a slot, in a
 /// context that the device made of it, or in both. It is seen as its items, by index; an item that
@@ -47,6 +47,8 @@ pub struct Objects {
     // The device's handles of the objects of nobody.
     left: Vec<u32>,
     slots: u8,
+    // What the contexts of the device may be. Each record has room for the largest of an object.
+    contexts: ContextLimits,
 }
 
 impl Model for Objects {
@@ -57,17 +59,23 @@ impl Model for Objects {
     ghost Value = { ObjectsView };
 
     ghost view = { λ o. view_with o.records.items o.loaded.items o.slots
-        o.owners.owners o.left.items };
+        o.owners.owners o.left.items o.contexts };
 
-    ghost invariant = { λ o. Holds o.records.items o.lists o.owners.owners o.vacant
+    ghost invariant = { λ o. Holds o.contexts o.records.items o.lists o.owners.owners o.vacant
         o.loaded.items o.left.items (vec_capacity o.loaded) (vec_capacity o.left) o.slots };
 }
 
 impl Objects {
-    /// No objects, for a device with so many slots.
-    pub fn new(alloc: Global, slots: u8) -> Result<Objects, AllocError>
-        ensures { IfOk result (λ o. o
-            ≡ record { items = []; slots = slots; order = []; owners = []; left = [] }) }
+    /// No objects, for a device with so many slots, whose contexts may be these.
+    pub fn new(alloc: Global, slots: u8, contexts: ContextLimits) -> Result<Objects, AllocError>
+        ensures { IfOk result (λ o. o ≡ record {
+          items = [];
+          slots = slots;
+          order = [];
+          owners = [];
+          left = [];
+          contexts = contexts;
+        }) }
     {
         let lists = Records::new(alloc, 0)?;
         let left = Vec::with_capacity(alloc, usize::from(slots))?;
@@ -80,6 +88,7 @@ impl Objects {
             loaded: Vec::new(alloc),
             left,
             slots,
+            contexts,
         })
     }
 
@@ -142,7 +151,7 @@ impl Objects {
         let count = self.records.len() + 1;
         self.lists.reserve()?;
         self.loaded.reserve(count - self.loaded.len())?;
-        let blob = Vec::with_capacity(self.alloc, MOST_OBJECT_CONTEXT_BYTES as usize)?;
+        let blob = Vec::with_capacity(self.alloc, usize::from(self.contexts.object_bytes))?;
         self.records.push(Record {
             client: None,
             handle: None,
@@ -166,6 +175,7 @@ impl Objects {
         scratch: &mut Buffer,
     ) -> Result<(), SwapError>
         requires needed { AreNeeded needed.now new_slots self.old }
+        requires contexts { self.old.contexts ≡ D.CONTEXTS }
         requires may { MayMove (D.seen device.old).state self.old.slots }
         requires nobodys { self.old.left ≡ [] }
         requires stand { Stand (D.seen device.old).state self.old.items [] }
@@ -175,7 +185,7 @@ impl Objects {
         ensures moved { Moved D.seen device.old device.new self.old self.new }
         ensures room { MakesRoom D.seen device.old device.new
             needed.now new_slots self.old self.new result }
-        ensures asks { AsksSome D.seen device.old device.new result }
+        ensures asks { AsksSome D.CONTEXTS D.seen device.old device.new result }
     {
         swap_objects(
             &mut self.records,
@@ -273,9 +283,10 @@ impl Objects {
         // Exactly one FlushContext is sent where the object is in a slot.
         ensures sent { MatchOption (handle_in (item_at self.old.items item).slot)
             ((result ≡ Ok tt) × (device.new ≡ device.old))
-            (λ handle. Asks D.seen device.old device.new (flush_context_command handle) result) }
+            (λ handle. Asks D.CONTEXTS D.seen device.old device.new (flush_context_command handle)
+            result) }
         ensures dropped { Dropped D.seen device.old device.new self.old self.new }
-        ensures asks { AsksSome D.seen device.old device.new result }
+        ensures asks { AsksSome D.CONTEXTS D.seen device.old device.new result }
     {
         self.drop_by(device, item, scratch, &mut Uncounted)
     }
@@ -299,9 +310,10 @@ impl Objects {
         // Exactly one FlushContext is sent where the object is in a slot.
         ensures sent { MatchOption (handle_in (item_at self.old.items item).slot)
             ((result ≡ Ok tt) × (device.new ≡ device.old))
-            (λ handle. Asks D.seen device.old device.new (flush_context_command handle) result) }
+            (λ handle. Asks D.CONTEXTS D.seen device.old device.new (flush_context_command handle)
+            result) }
         ensures dropped { Dropped D.seen device.old device.new self.old self.new }
-        ensures asks { AsksSome D.seen device.old device.new result }
+        ensures asks { AsksSome D.CONTEXTS D.seen device.old device.new result }
         ensures steps { OnOk result (steps.old + 2 ≤ steps.new)
             × (steps.new ≤ steps.old + 5) }
         ensures few { OnErr result ((steps.old + 1 ≤ steps.new)
@@ -374,10 +386,10 @@ impl Objects {
         ensures some { OnErr result (1 ≤ length self.old.left) }
         // Exactly one FlushContext is sent, of the handle of the last of them.
         ensures sent { (left : List ℕ) (slot : ℕ) → self.old.left ≡ left ++ slot ∷ []
-            → Asks D.seen device.old device.new
+            → Asks D.CONTEXTS D.seen device.old device.new
             (flush_context_command (TRANSIENT_FIRST + slot)) result }
         ensures rest { KeepsRest D.seen device.old device.new }
-        ensures asks { AsksSome D.seen device.old device.new result }
+        ensures asks { AsksSome D.CONTEXTS D.seen device.old device.new result }
     {
         let Some(handle) = self.left.last() else {
             return Ok(false);
@@ -422,9 +434,10 @@ impl Objects {
         // Exactly one FlushContext is sent where the object is in a slot.
         ensures sent { MatchOption (handle_in (item_at self.old.items item).slot)
             ((result ≡ Ok tt) × (device.new ≡ device.old))
-            (λ handle. Asks D.seen device.old device.new (flush_context_command handle) result) }
+            (λ handle. Asks D.CONTEXTS D.seen device.old device.new (flush_context_command handle)
+            result) }
         ensures dropped { Dropped D.seen device.old device.new self.old self.new }
-        ensures asks { AsksSome D.seen device.old device.new result }
+        ensures asks { AsksSome D.CONTEXTS D.seen device.old device.new result }
         ensures steps { OnOk result (C.count steps.old + 2 * C.weight ≤ C.count steps.new)
             × (C.count steps.new ≤ C.count steps.old + 5) }
         ensures few { OnErr result ((C.count steps.old + C.weight ≤ C.count steps.new)

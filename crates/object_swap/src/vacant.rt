@@ -1,6 +1,7 @@
 ghost use Rattle.std.specs.Prelude.{◌≡◌, ◌≤◌, ◌<◌, ◌==◌, List, [], ◌∷◌, ◌++◌, Bool, length, set};
 ghost use Rattle.std.specs.Prelude.{get_or, false, vec_capacity};
 ghost use Rattle.std.specs.List.{count_by, remove};
+ghost use Rattle.tab_spec.specs.declared.contexts.ContextLimits.{ContextLimits};
 ghost use Rattle.device_port.specs.Use.{used_after, without_one};
 ghost use Rattle.object_swap.specs.Items.{Names, no_item};
 ghost use Rattle.object_swap.specs.Records.{AreRecords, ListsFlags, items_of};
@@ -59,9 +60,9 @@ pub fn move_last(indices: &mut Vec<u32>, index: u32)
 /// What was an object becomes a place for another one.
 pub fn forget(records: &mut Vec<Record>, item: u32)
     requires named { Names (items_of records.old.items) item }
-    requires sound { AreRecords records.old.items }
     ensures items { items_of records.new.items ≡ set (items_of records.old.items) item no_item }
-    ensures sound { AreRecords records.new.items }
+    ensures sound { (contexts : ContextLimits) → AreRecords contexts records.old.items
+        → AreRecords contexts records.new.items }
     ensures count { length records.new.items ≡ length records.old.items }
 {
     let record = &mut records[item as usize];

@@ -4,7 +4,8 @@ use Rattle.std.specs.Prelude.{◌==◌, ◌||◌, ◌&&◌, not, nat_lt, Option,
 use Rattle.std.specs.Int.{w32, from_be_bytes}
 use Rattle.std.proofs.lemmas.Bool.{and_from, cond_both, eq-eqb, eqb-true, le-ltb, ltb-false}
 use Rattle.tab_spec.specs.declared.Kind.TheVariants.{Absent}
-use Rattle.tab_spec.specs.declared.TheConstants.{CC_CONTEXT_LOAD, RC_AUTH_CONTEXT, RC_AUTH_MISSING, RC_INSUFFICIENT, RC_OBJECT_MEMORY, RC_SIZE, ST_SESSIONS, TRANSIENT_FIRST}
+use Rattle.tab_spec.specs.declared.TheConstants.{CC_CONTEXT_LOAD, RC_AUTH_CONTEXT, RC_AUTH_MISSING, RC_INSUFFICIENT, RC_OBJECT_MEMORY, RC_SIZE, ST_SESSIONS, TRANSIENT_FIRST, TRANSIENT_ST_CLEAR}
+use Rattle.tab_spec.specs.declared.contexts.ContextLimits.{ContextLimits}
 use Rattle.tab_spec.specs.declared.Admitted.{Admitted}
 use Rattle.tab_spec.specs.declared.Auths.{Auths}
 use Rattle.tab_spec.specs.declared.CommandRow.{CommandRow}
@@ -12,6 +13,7 @@ use Rattle.tab_spec.specs.declared.Shape.{Shape}
 use Rattle.tab_spec.specs.Admission.{Tables, client_admitted}
 use Rattle.tab_spec.specs.Auths.{area_at, auths_of, has_no_area}
 use Rattle.tab_spec.specs.Commands.{command_row, row_of}
+use Rattle.tab_spec.specs.Contexts.{is_saved_object}
 use Rattle.tab_spec.specs.Object.{Object}
 use Rattle.tab_spec.specs.Parameters.{in_parameter, when_read}
 use Rattle.tab_spec.specs.Shape.{IsShape, loads_object, rest_of}
@@ -121,16 +123,22 @@ parameter_of : (P : Context → Type 0) (r : Reading Context) (context : Context
 parameter_of P (Err code) context leaves is = absurd cc
 parameter_of P (Ok read) context leaves is = found_of P (blob_fits read.0) read context leaves is
 
+either : (a b : Bool) → b ≡ true → (a || b) ≡ true
+either true b is = refl
+either false b is = is
+
 -- so the command is one that loads an object, where they have the context of an object
-loads : (bytes : List ℕ) (context : Context) → load_parameters (drop 10 bytes) ≡ Ok context → context.saved_handle ≡ TRANSIENT_FIRST
-    → loads_object bytes ≡ true
-loads bytes context is transient =
+loads : (contexts : ContextLimits) (bytes : List ℕ) (context : Context) → load_parameters (drop 10 bytes) ≡ Ok context → context.saved_handle ≡ TRANSIENT_FIRST
+    → loads_object contexts bytes ≡ true
+loads contexts bytes context is transient =
     let params = drop 10 bytes in
     let there = parameter_of (HasHandle params) (context_of params) context (handle_there params) is in
     let long : 22 ≤ length bytes = omega (arith, there.0, length-drop 10 bytes) in
-    and_from (not (nat_lt (length bytes) 22)) (from_be_bytes w32 (take 4 (drop 18 bytes)) == TRANSIENT_FIRST) (ap not (le-ltb (length bytes) 22 long))
-    (eq-eqb (from_be_bytes w32 (take 4 (drop 18 bytes))) TRANSIENT_FIRST
-    (ap (λ (on : List ℕ). from_be_bytes w32 (take 4 on)) (sym (drop-drop 8 10 bytes)) ∙ sym there.1 ∙ transient))
+    let handle = from_be_bytes w32 (take 4 (drop 18 bytes)) in
+    and_from (not (nat_lt (length bytes) 22)) (is_saved_object contexts handle) (ap not (le-ltb (length bytes) 22 long))
+    (either (contexts.st_clear && handle == TRANSIENT_ST_CLEAR) (handle == TRANSIENT_FIRST)
+    (eq-eqb handle TRANSIENT_FIRST
+    (ap (λ (on : List ℕ). from_be_bytes w32 (take 4 on)) (sym (drop-drop 8 10 bytes)) ∙ sym there.1 ∙ transient)))
 
 -- ---- the room
 
@@ -148,4 +156,4 @@ room_to_load tables bytes a objects admitted is full so = λ context read transi
     let p = passed tables bytes a (client_is tables bytes a admitted).whole in
     let behind : drop a.auths.params bytes ≡ drop 10 bytes = ap (λ (n : ℕ). drop n bytes) (load_params tables bytes a p is so) in
     let read_there : load_parameters (drop 10 bytes) ≡ Ok context = ap load_parameters (sym behind) ∙ read in
-    sym full ∙ room_by _ _ (loads_object bytes) tables.is_full p.given.room so (loads bytes context read_there transient)
+    sym full ∙ room_by _ _ (loads_object tables.contexts bytes) tables.is_full p.given.room so (loads tables.contexts bytes context read_there transient)

@@ -4,6 +4,7 @@ use Rattle.std.proofs.Common.{◌≡◌, ◌≤◌, ◌∙◌, ℕ, Bool, true, 
 use Rattle.std.specs.Prelude.{Option, Some, None, Result, Ok, Err, is_ok, ◌==◌, ◌||◌, ◌&&◌, ◌∷◌, [], if◌then◌else◌}
 use Rattle.std.proofs.lemmas.Bool.{eqb-true, cond_both, or_left, or_right}
 use Rattle.tab_spec.specs.declared.TheConstants.{CC_CONTEXT_LOAD, CC_CREATE_PRIMARY, CC_LOAD, CC_START_AUTH_SESSION, RC_OBJECT_MEMORY, RC_SUCCESS}
+use Rattle.tab_spec.specs.declared.contexts.TheConstants.{PROFILE_CONTEXTS}
 use Rattle.tab_spec.specs.declared.Kind.TheVariants as kinds
 use Rattle.tab_spec.specs.declared.Shape.{Shape}
 use Rattle.tab_spec.specs.declared.Auths.{Auths}
@@ -212,4 +213,4 @@ pub made_placed : (client : ℕ) (state : ClientState) (shape : Shape) (auths : 
 made_placed client state shape auths bytes is few bare =
     placed_by (shape.row.code == CC_START_AUTH_SESSION) client state shape auths bytes
     (starts_session state.persist shape.row.code (drop auths.params bytes)) is
-    (free_by (is_maker shape.row.code) (shape.row.code == CC_CONTEXT_LOAD && loads_object bytes) (is_full state.objects) few) bare refl refl
+    (free_by (is_maker shape.row.code) (shape.row.code == CC_CONTEXT_LOAD && loads_object PROFILE_CONTEXTS bytes) (is_full state.objects) few) bare refl refl

@@ -4,6 +4,7 @@ use Rattle.tab_spec.specs.Admission.{Tables}
 use Rattle.tab_spec.specs.Object as object
 use Rattle.tab_spec.specs.Session.{Session}
 use Rattle.tab_spec.specs.declared.TheConstants.{TRANSIENT_FIRST}
+use Rattle.tab_spec.specs.declared.contexts.TheConstants.{PROFILE_CONTEXTS}
 use Rattle.effect_spec.specs.Contexts.{Context}
 use Rattle.effect_spec.specs.Operands.{Created, nothing, new_object, new_session}
 use Rattle.history_spec.specs.Table.{held_under, is_full}
@@ -48,6 +49,7 @@ tables_seen seen = record {
   has_object = λ handle. is_some (object_seen seen handle);
   has_session = λ handle. is_some (session_seen seen handle);
   is_full = is_full (objects_of seen.places.now);
+  contexts = PROFILE_CONTEXTS;
 }
 
 -- ---- what a command leaves

@@ -1,7 +1,7 @@
 ghost use Rattle.std.specs.Prelude.{◌≡◌, ◌≤◌, ◌+◌, ◌-◌, ◌++◌, ℕ, List, [], IfOk, drop, length, map};
 ghost use Rattle.std.specs.Prelude.{take, vec_capacity};
 ghost use Rattle.tab_spec.specs.declared.TheConstants.{SESSION_NUMBERS};
-ghost use Rattle.tab_spec.specs.Numbers.{left_most};
+ghost use Rattle.tab_spec.specs.Numbers.{leave_limit};
 ghost use Rattle.history_spec.specs.Entry.{without};
 ghost use Rattle.world_spec.specs.World.{left_place, saved_numbers, without_places};
 ghost use Rattle.plain_machine.specs.Left.{place_in};
@@ -10,7 +10,7 @@ ghost use Rattle.plain_machine.specs.Owners.{owners_of};
 use crate::sessions::{Owned, leave_place, put_place};
 use std::alloc::{AllocError, Global};
 use std::marker::Model;
-use tab_spec::{SESSION_NUMBERS, left_most};
+use tab_spec::{SESSION_NUMBERS, leave_limit};
 
 // At most so many sessions are left over any device.
 const MOST: usize = 8;
@@ -59,16 +59,16 @@ impl Left {
     pub(crate) fn close(&mut self, places: &mut [Option<Owned>], client: u32, most: u8)
         requires { length places.old ≤ SESSION_NUMBERS }
         ensures left { let left = self.old ++ saved_numbers client 0 (owners_of places.old) in
-            self.new ≡ drop (length left - left_most most) left }
+            self.new ≡ drop (length left - leave_limit most) left }
         ensures places { let left = self.old ++ saved_numbers client 0 (owners_of places.old) in
-            owners_of places.new ≡ without_places (take (length left - left_most most) left)
+            owners_of places.new ≡ without_places (take (length left - leave_limit most) left)
             (map (left_place client) (owners_of places.old)) }
     {
         leave_saved(places, client, &mut self.numbers);
         let gone = self
             .numbers
             .len()
-            .saturating_sub(usize::from(left_most(most)));
+            .saturating_sub(usize::from(leave_limit(most)));
         drop_first(places, &mut self.numbers, gone);
     }
 }

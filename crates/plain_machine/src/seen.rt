@@ -5,6 +5,7 @@ ghost use Rattle.history_spec.specs.declared.TheConstants.{CLIENT_OBJECTS};
 use crate::sessions::{Owned, listed_session, owned_under, session_of};
 use crate::table::{handle_from, held_count, held_under, is_full};
 use fx_capability::{HeldSession, Holdings};
+use tab_spec::{ContextLimits, PROFILE_CONTEXTS};
 use tab_values::{Object, Session};
 use tab_wire::Tables;
 
@@ -63,6 +64,10 @@ impl Tables for Seen<'_> {
 
     fn is_full(&self) -> bool {
         is_full(self.places)
+    }
+
+    fn contexts(&self) -> ContextLimits {
+        PROFILE_CONTEXTS
     }
 }
 

@@ -4,6 +4,7 @@ use Rattle.std.specs.Prelude.{◌⊎◌, map, is_some, IfSome, IsSome, IsSomeAnd
 use Rattle.std.specs.List.{AllByRecursion}
 use Rattle.std.proofs.lemmas.List.{append-nil}
 use Rattle.history_spec.specs.Entry.{Entry, close_entry, is_close_kind}
+use Rattle.history_spec.specs.Told.{Limits}
 use Rattle.script_spec.specs.Script.{script, end, bad_line}
 use Rattle.script_spec.specs.Calls.{Call, opening, closing, calls_from, labels_from, with_closes}
 use Rattle.script_spec.specs.Plays.{PlaysTo, Plays, Stage, at_start}
@@ -16,7 +17,7 @@ use Rattle.script_player.specs.Ends.{LeavesBy, LeavesCut, LeavesEarly, LeavesFul
 use Rattle.script_player.proofs.Playing.{plays_on}
 
 -- calls, and then the closes of all labels, lead to a history of nobody open
-pub all_closed : (limit : ℕ) (labels : List Label) (history after : List Entry) (done : List Call) (output : List ℕ) → PlaysTo limit at_start done (stage labels history output) → labels_from [] done ≡ map (λ x. x.label) labels
+pub all_closed : (limit : Limits) (labels : List Label) (history after : List Entry) (done : List Call) (output : List ℕ) → PlaysTo limit at_start done (stage labels history output) → labels_from [] done ≡ map (λ x. x.label) labels
     → Leads limit labels history (map closing (map (λ x. x.label) labels)) [] after [] → Plays after limit (with_closes done) output
 all_closed limit labels history after done output plays left_open closes =
     let closed = subst (λ (ns : List ℕ). PlaysTo limit at_start (done ++ map closing ns) (stage [] after (output ++ []))) (sym left_open)
@@ -27,7 +28,7 @@ pub if_given : (given : Option (List ℕ)) (P : List ℕ → Type 0) → ((all :
 if_given None P told = tt
 if_given (Some all) P told = told all refl
 
-makes_closed : (limit : ℕ) (stop : Stop) (labels : List Label) (history after : List Entry) (given left written written_new : Option (List ℕ)) (played : PlayedUpTo limit stop labels history given left written written_new)
+makes_closed : (limit : Limits) (stop : Stop) (labels : List Label) (history after : List Entry) (given left written written_new : Option (List ℕ)) (played : PlayedUpTo limit stop labels history given left written written_new)
     → Leads limit labels history (map closing (map (λ x. x.label) labels)) [] after [] → Makes limit false played.done written written_new after
 makes_closed limit stop labels history after given left written written_new played closes = record {
   output = played.output;
@@ -35,18 +36,18 @@ makes_closed limit stop labels history after given left written written_new play
   plays = all_closed limit labels history after played.done played.output played.plays played.left_open closes;
 }
 
-whole_told : (limit : ℕ) (stop : Stop) (labels : List Label) (history after : List Entry) (given left written written_new : Option (List ℕ)) (played : PlayedUpTo limit stop labels history given left written written_new)
+whole_told : (limit : Limits) (stop : Stop) (labels : List Label) (history after : List Entry) (given left written written_new : Option (List ℕ)) (played : PlayedUpTo limit stop labels history given left written written_new)
     → Leads limit labels history (map closing (map (λ x. x.label) labels)) [] after [] → ((all : List ℕ) → given ≡ Some all → calls_from [] (script all).items ≡ played.done) → LeavesWhole limit false given written written_new after
 whole_told limit stop labels history after given left written written_new played closes made =
     (played.done, if_given given (λ all. calls_from [] (script all).items ≡ played.done) made, makes_closed limit stop labels history after given left written written_new played closes)
 
-part_told : (limit : ℕ) (labels : List Label) (history after : List Entry) (given left written written_new : Option (List ℕ)) (played : PlayedUpTo limit stops.Memory labels history given left written written_new)
+part_told : (limit : Limits) (labels : List Label) (history after : List Entry) (given left written written_new : Option (List ℕ)) (played : PlayedUpTo limit stops.Memory labels history given left written written_new)
     → Leads limit labels history (map closing (map (λ x. x.label) labels)) [] after [] → LeavesPart limit false given written written_new after
 part_told limit labels history after given left written written_new played closes =
     (played.done, if_given given (λ all. (label : ℕ) × (more : List Call) × (calls_from [] (script all).items ≡ played.done ++ opening label ∷ more)) played.stopped, makes_closed limit stops.Memory labels history after given left written written_new played closes)
 
 -- the closes of labels add closes alone
-closes_alone : (limit : ℕ) (labels : List ℕ) (before after : Stage) → PlaysTo limit before (map closing labels) after
+closes_alone : (limit : Limits) (labels : List ℕ) (before after : Stage) → PlaysTo limit before (map closing labels) after
     → (closes : List Entry) × (after.history ≡ before.history ++ closes) × AllByRecursion (λ e. is_close_kind e.kind ≡ true) closes
 closes_alone limit [] before after plays = ([], ap (λ (s : Stage). s.history) plays ∙ sym (append-nil before.history), tt)
 closes_alone limit (label ∷ labels) before after plays =
@@ -57,7 +58,7 @@ closes_alone limit (label ∷ labels) before after plays =
       (refl, later.2),
     )
 
-full_told : (limit : ℕ) (count : ℕ) (labels : List Label) (history after : List Entry) (given left written written_new : Option (List ℕ)) (played : PlayedUpTo limit (stops.Full count) labels history given left written written_new)
+full_told : (limit : Limits) (count : ℕ) (labels : List Label) (history after : List Entry) (given left written written_new : Option (List ℕ)) (played : PlayedUpTo limit (stops.Full count) labels history given left written written_new)
     → Leads limit labels history (map closing (map (λ x. x.label) labels)) [] after [] → LeavesFull limit false given written written_new count after
 full_told limit count labels history after given left written written_new played closes =
     let closing_entries = closes_alone limit (map (λ x. x.label) labels) (stage labels history []) (stage [] after []) (closes []) in
@@ -78,7 +79,7 @@ full_told limit count labels history after given left written written_new played
       },
     )
 
-read_told : (limit : ℕ) (labels : List Label) (history after : List Entry) (given left written written_new : Option (List ℕ)) (count : ℕ) (played : PlayedUpTo limit (stops.Input count) labels history given left written written_new)
+read_told : (limit : Limits) (labels : List Label) (history after : List Entry) (given left written written_new : Option (List ℕ)) (count : ℕ) (played : PlayedUpTo limit (stops.Input count) labels history given left written written_new)
     → Leads limit labels history (map closing (map (λ x. x.label) labels)) [] after [] → LeavesRead limit false given left written written_new after
 read_told limit labels history after given left written written_new count played closes = (
   played.done,
@@ -90,7 +91,7 @@ last_answered : (done : List Call) (last : Option Unanswered) → IsSome last �
 last_answered done last (inl some) none = absurd (let yes : is_some last ≡ true = some in let no : is_some last ≡ false = ap is_some none in cc)
 last_answered done last (inr closes) none = closes
 
-early_told : (limit : ℕ) (labels : List Label) (history after : List Entry) (given written written_new : Option (List ℕ)) (wrong : Bool) → StoppedAt limit stops.Answer labels history given written written_new wrong
+early_told : (limit : Limits) (labels : List Label) (history after : List Entry) (given written written_new : Option (List ℕ)) (wrong : Bool) → StoppedAt limit stops.Answer labels history given written written_new wrong
     → Leads limit labels history (map closing (map (λ x. x.label) labels)) [] after [] → LeavesEarly limit given written written_new after
 early_told limit labels history after given written written_new wrong at closes = (
   at.done,
@@ -100,7 +101,7 @@ early_told limit labels history after given written written_new wrong at closes 
   record { output = at.output; written = at.writes; plays = all_closed limit labels history after at.done at.output at.plays at.left_open closes },
 )
 
-cut_told : (limit : ℕ) (count : ℕ) (labels : List Label) (history after : List Entry) (given written written_new : Option (List ℕ)) (wrong wrong_after : Bool) → StoppedAt limit (stops.Output count) labels history given written written_new wrong
+cut_told : (limit : Limits) (count : ℕ) (labels : List Label) (history after : List Entry) (given written written_new : Option (List ℕ)) (wrong wrong_after : Bool) → StoppedAt limit (stops.Output count) labels history given written written_new wrong
     → Leads limit labels history (map closing (map (λ x. x.label) labels)) [] after [] → (IsTrue wrong → IsTrue wrong_after) → LeavesCut limit wrong_after given written written_new after
 cut_told limit count labels history after given written written_new wrong wrong_after at closes stays = (
   at.done,
@@ -110,7 +111,7 @@ cut_told limit count labels history after given written written_new wrong wrong_
   record { output = at.output; written = at.writes; plays = all_closed limit labels history after at.done at.output at.plays at.left_open closes },
 )
 
-pub leaves_by : (stop : Stop) (limit : ℕ) (labels : List Label) (history after : List Entry) (given left written written_new : Option (List ℕ)) (wrong wrong_after : Bool)
+pub leaves_by : (stop : Stop) (limit : Limits) (labels : List Label) (history after : List Entry) (given left written written_new : Option (List ℕ)) (wrong wrong_after : Bool)
     → (IsEven stop → PlayedUpTo limit stop labels history given left written written_new) → (IsOfRun stop → StoppedAt limit stop labels history given written written_new wrong)
     → Leads limit labels history (map closing (map (λ x. x.label) labels)) [] after [] → (IsTrue wrong → IsTrue wrong_after) → LeavesBy stop limit wrong_after given left written written_new after
 leaves_by stops.End limit labels history after given left written written_new wrong wrong_after played stopped closes stays =

@@ -6,9 +6,9 @@ use Rattle.tab_spec.specs.declared.TheConstants.{RC_DEVICE_ANSWER}
 use Rattle.tab_spec.specs.Reply.{error_reply}
 use Rattle.history_spec.specs.Cancels.{cover}
 use Rattle.history_spec.specs.Entry.{Entry, HasRoom}
-use Rattle.history_spec.specs.Told.{IsToldFull, IsToldMemory}
+use Rattle.history_spec.specs.Told.{IsToldFull, IsToldMemory, Limits}
 use Rattle.script_spec.specs.Plays.{IsEntryFor}
-use Rattle.broker_lock.specs.Known.{Fixed}
+use Rattle.broker_lock.specs.Known.{Fixed, limits_of}
 use Rattle.broker_lock.specs.Serves.{IsAnswered, IsFailed, Opens}
 use Rattle.broker_lock.specs.declared.calls.OpenClientError.{OpenClientError}
 use Rattle.broker_lock.specs.declared.calls.OpenClientError.TheVariants as open_errors
@@ -36,10 +36,10 @@ pub record IsAdded (limit : ℕ) (old new : List Entry) (client number : ℕ) (b
   pub room : HasRoom limit old bytes
 
 -- what a client is told of a command, canceled up to a number or run, where a canceled one meets no wrong answer
-abbrev pub ToldAs : ℕ → ToldOf → (old new : List Entry) (client number : ℕ) (bytes : List ℕ) (covered : Option ℕ) (reply : List ℕ) → Type 0
-ToldAs limit tolds.Entered old new client number bytes covered reply = IsAdded limit old new client number bytes covered reply
-ToldAs limit tolds.Memory old new client number bytes covered reply = (new ≡ old) × IsToldMemory bytes reply
-ToldAs limit (tolds.JournalFull count most) old new client number bytes covered reply = (new ≡ old) × IsToldFull limit old bytes reply
+abbrev pub ToldAs : Limits → ToldOf → (old new : List Entry) (client number : ℕ) (bytes : List ℕ) (covered : Option ℕ) (reply : List ℕ) → Type 0
+ToldAs limit tolds.Entered old new client number bytes covered reply = IsAdded limit.bytes old new client number bytes covered reply
+ToldAs limit tolds.Memory old new client number bytes covered reply = (new ≡ old) × IsToldMemory limit.contexts bytes reply
+ToldAs limit (tolds.JournalFull count most) old new client number bytes covered reply = (new ≡ old) × IsToldFull limit.bytes old bytes reply
 ToldAs limit tolds.Answer old new client number bytes covered reply =
     (new ≡ old) × (reply ≡ error_reply RC_DEVICE_ANSWER) × (covered ≡ None)
 
@@ -50,7 +50,7 @@ entry_for began client number bytes e (inr is) =
     subst (λ (x : Entry). IsEntryFor client number bytes None x) (sym is.form) (record { client_is = refl; number_is = refl; kind_is = tt; command_is = refl })
 
 told_as : (covered : Option ℕ) (fixed : Fixed) (told : ToldOf) (old new : List Entry) (client number : ℕ) (bytes reply : List ℕ) → (told ≡ tolds.Answer → covered ≡ None)
-    → TellsOf covered fixed old new client number bytes reply told → ToldAs fixed.limit told old new client number bytes covered reply
+    → TellsOf covered fixed old new client number bytes reply told → ToldAs (limits_of fixed) told old new client number bytes covered reply
 told_as None fixed tolds.Entered old new client number bytes reply run is =
     record { e = is.e; entered = is.entered; reply_is = is.reply_is; entry = entry_for fixed.began client number bytes is.e is.cause; room = is.room }
 told_as None fixed tolds.Memory old new client number bytes reply run is = (is.0, is.1)
@@ -65,10 +65,10 @@ told_as (Some upto) fixed tolds.Answer old new client number bytes reply run is 
 -- what is told of a label's client, by what the label tells
 pub told_of_label : (fixed : Fixed) (told : ToldOf) (old new : List Entry) (counted_as : ℕ × ℕ) (client number : ℕ) (upto covered : Option ℕ) (bytes reply : List ℕ)
     → counted_as ≡ (client, number) → covered ≡ cover upto counted_as.1 → (told ≡ tolds.Answer → covered ≡ None)
-    → TellsOf covered fixed old new counted_as.0 counted_as.1 bytes reply told → ToldAs fixed.limit told old new client number bytes (cover upto number) reply
+    → TellsOf covered fixed old new counted_as.0 counted_as.1 bytes reply told → ToldAs (limits_of fixed) told old new client number bytes (cover upto number) reply
 told_of_label fixed told old new counted_as client number upto covered bytes reply is covered_is run tells =
-    subst (λ (p : ℕ × ℕ). ToldAs fixed.limit told old new p.0 p.1 bytes (cover upto p.1) reply) is
-    (subst (λ (c : Option ℕ). ToldAs fixed.limit told old new counted_as.0 counted_as.1 bytes c reply) covered_is
+    subst (λ (p : ℕ × ℕ). ToldAs (limits_of fixed) told old new p.0 p.1 bytes (cover upto p.1) reply) is
+    (subst (λ (c : Option ℕ). ToldAs (limits_of fixed) told old new counted_as.0 counted_as.1 bytes c reply) covered_is
     (told_as covered fixed told old new counted_as.0 counted_as.1 bytes reply run tells))
 
 -- ---- an opening that failed

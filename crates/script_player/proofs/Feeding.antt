@@ -9,6 +9,7 @@ use Rattle.link_port.specs.Port.{with_more}
 use Rattle.script_player.proofs.Writing.{with_more-append}
 use Rattle.history_spec.specs.Cancels.{canceled_up_to, cover}
 use Rattle.history_spec.specs.Entry.{Entry}
+use Rattle.history_spec.specs.Told.{Limits}
 use Rattle.script_spec.specs.Calls.{Call, command as run_command, bad_size, closing, numbered, ending_calls}
 use Rattle.script_spec.specs.Plays.{Holder, PlaysTo}
 use Rattle.script_lines.specs.declared.label.Label.{Label}
@@ -123,7 +124,7 @@ bad_is_met x rest size cut =
 -- ---- so far
 
 -- what was played of a piece on a label, and what is still to be
-pub record FedSoFar (limit : ℕ) (label : ℕ) (upto : Option ℕ) (first : Label) (piece : List ℕ) (labels_old : LabelsView) (history_old : List Entry) (written_old : Option (List ℕ))
+pub record FedSoFar (limit : Limits) (label : ℕ) (upto : Option ℕ) (first : Label) (piece : List ℕ) (labels_old : LabelsView) (history_old : List Entry) (written_old : Option (List ℕ))
     (labels : LabelsView) (history : List Entry) (written : Option (List ℕ)) (rest : List ℕ) : Type 0 where
   pub x : Label
   pub found : label_in labels.present label ≡ Some x
@@ -139,7 +140,7 @@ pub record FedSoFar (limit : ℕ) (label : ℕ) (upto : Option ℕ) (first : Lab
   pub written_is : written ≡ with_more written_old more
   pub small : size_of_label x + length rest ≤ size_of_label first + length piece
 
-pub fed_none : (limit : ℕ) (label : ℕ) (upto : Option ℕ) (first : Label) (piece : List ℕ) (labels : LabelsView) (history : List Entry) (written : Option (List ℕ))
+pub fed_none : (limit : Limits) (label : ℕ) (upto : Option ℕ) (first : Label) (piece : List ℕ) (labels : LabelsView) (history : List Entry) (written : Option (List ℕ))
     → label_in labels.present label ≡ Some first → first.label ≡ label
     → upto ≡ canceled_up_to first.commands (frames (first.kept ++ piece)).items → FedSoFar limit label upto first piece labels history written labels history written piece
 fed_none limit label upto first piece labels history written found name upto_is = record {
@@ -159,7 +160,7 @@ fed_none limit label upto first piece labels history written found name upto_is 
 }
 
 -- one step more: the label is known otherwise now, and these calls were made
-pub fed_on : (limit : ℕ) (label : ℕ) (upto : Option ℕ) (first : Label) (piece : List ℕ) (labels_old : LabelsView) (history_old : List Entry) (written_old : Option (List ℕ)) (labels : LabelsView) (history : List Entry) (written : Option (List ℕ)) (rest : List ℕ)
+pub fed_on : (limit : Limits) (label : ℕ) (upto : Option ℕ) (first : Label) (piece : List ℕ) (labels_old : LabelsView) (history_old : List Entry) (written_old : Option (List ℕ)) (labels : LabelsView) (history : List Entry) (written : Option (List ℕ)) (rest : List ℕ)
     (labels_new : LabelsView) (history_new : List Entry) (written_new : Option (List ℕ)) (left : List ℕ) (y : Label) (made : List Call) (more : List ℕ)
     → (so_far : FedSoFar limit label upto first piece labels_old history_old written_old labels history written rest)
     → y.label ≡ so_far.x.label → labels_new ≡ record labels { present = replaced y labels.present }
@@ -194,7 +195,7 @@ first_calls : (upto : Option ℕ) (first : Label) (piece : List ℕ) → upto �
 first_calls upto first piece is = ap (λ (u : Option ℕ). fed_with u first piece) (sym is)
 
 -- what is left of a piece that was played
-pub record FedWhole (limit : ℕ) (first : Label) (piece : List ℕ) (labels_old : LabelsView) (history_old : List Entry) (written_old : Option (List ℕ))
+pub record FedWhole (limit : Limits) (first : Label) (piece : List ℕ) (labels_old : LabelsView) (history_old : List Entry) (written_old : Option (List ℕ))
     (labels : LabelsView) (history : List Entry) (written : Option (List ℕ)) : Type 0 where
   pub labels_are : labels ≡ fed_labels first piece labels_old
   pub more : List ℕ
@@ -202,7 +203,7 @@ pub record FedWhole (limit : ℕ) (first : Label) (piece : List ℕ) (labels_old
   pub written_is : written ≡ with_more written_old more
 
 -- no byte of it is left, and no frame comes
-pub fed_whole : (limit : ℕ) (label : ℕ) (upto : Option ℕ) (first : Label) (piece : List ℕ) (labels_old : LabelsView) (history_old : List Entry) (written_old : Option (List ℕ)) (labels : LabelsView) (history : List Entry) (written : Option (List ℕ)) (rest : List ℕ)
+pub fed_whole : (limit : Limits) (label : ℕ) (upto : Option ℕ) (first : Label) (piece : List ℕ) (labels_old : LabelsView) (history_old : List Entry) (written_old : Option (List ℕ)) (labels : LabelsView) (history : List Entry) (written : Option (List ℕ)) (rest : List ℕ)
     → (so_far : FedSoFar limit label upto first piece labels_old history_old written_old labels history written rest) → rest ≡ [] → (frames so_far.x.kept).items ≡ [] → meets_bad_size so_far.x.kept ≡ false
     → FedWhole limit first piece labels_old history_old written_old labels history written
 fed_whole limit label upto first piece labels_old history_old written_old labels history written rest so_far none no_item good =
@@ -218,7 +219,7 @@ fed_whole limit label upto first piece labels_old history_old written_old labels
     }
 
 -- a bad size was told, and the label was closed
-pub fed_bad : (limit : ℕ) (label : ℕ) (upto : Option ℕ) (first : Label) (piece : List ℕ) (labels_old : LabelsView) (history_old : List Entry) (written_old : Option (List ℕ)) (labels : LabelsView) (history : List Entry) (written : Option (List ℕ)) (rest : List ℕ) (size : ℕ)
+pub fed_bad : (limit : Limits) (label : ℕ) (upto : Option ℕ) (first : Label) (piece : List ℕ) (labels_old : LabelsView) (history_old : List Entry) (written_old : Option (List ℕ)) (labels : LabelsView) (history : List Entry) (written : Option (List ℕ)) (rest : List ℕ) (size : ℕ)
     (labels_new : LabelsView) (history_new : List Entry) (written_new : Option (List ℕ)) (more : List ℕ)
     → (so_far : FedSoFar limit label upto first piece labels_old history_old written_old labels history written rest) → frames so_far.x.kept ≡ record { items = []; ending = bad size }
     → labels_new ≡ record labels { present = without_label label labels.present } → Leads limit labels.present history (bad_size label ∷ closing label ∷ []) labels_new.present history_new more → written_new ≡ with_more written more
@@ -240,7 +241,7 @@ fed_bad limit label upto first piece labels_old history_old written_old labels h
 -- ---- a stop within a piece
 
 -- calls were made before those that a stop came at, and others were to come behind them
-pub stopped_behind : (limit : ℕ) (stop : Stop) (calls done next after : List Call) (labels_old : List Label) (history_old : List Entry) (written_old : Option (List ℕ)) (labels : List Label) (history : List Entry) (written : Option (List ℕ)) (more : List ℕ)
+pub stopped_behind : (limit : Limits) (stop : Stop) (calls done next after : List Call) (labels_old : List Label) (history_old : List Entry) (written_old : Option (List ℕ)) (labels : List Label) (history : List Entry) (written : Option (List ℕ)) (more : List ℕ)
     (labels_new : List Label) (history_new : List Entry) (written_new : Option (List ℕ)) (wrong : Bool)
     → calls ≡ done ++ (next ++ after) → Leads limit labels_old history_old done labels history more → written ≡ with_more written_old more
     → StoppedIn limit stop next labels history labels_new history_new written written_new wrong
@@ -266,16 +267,16 @@ kept_on (Some x) = length x.kept
 -- ---- what a framer gave
 
 -- a label that keeps other bytes is open still
-pub record Keeps (limit : ℕ) (label : ℕ) (labels labels_new : LabelsView) (history : List Entry) (y : Label) : Type 0 where
+pub record Keeps (limit : Limits) (label : ℕ) (labels labels_new : LabelsView) (history : List Entry) (y : Label) : Type 0 where
   pub found : label_in labels_new.present label ≡ Some y
   pub fits : Fits labels_new history
   pub leads : (start : List Label) (begun : List Entry) (calls : List Call) (more : List ℕ) → Leads limit start begun calls labels.present history more → Leads limit start begun calls labels_new.present history more
 
-same_holders : (limit : ℕ) (a b c : List Label) (h k : List Entry) (calls : List Call) (more : List ℕ) → map holder_of c ≡ map holder_of b → Leads limit a h calls b k more → Leads limit a h calls c k more
+same_holders : (limit : Limits) (a b c : List Label) (h k : List Entry) (calls : List Call) (more : List ℕ) → map holder_of c ≡ map holder_of b → Leads limit a h calls b k more → Leads limit a h calls c k more
 same_holders limit a b c h k calls more same leads output =
     subst (λ (hs : List Holder). PlaysTo limit (stage a h output) calls (record { history = k; holders = hs; output = output ++ more })) (sym same) (leads output)
 
-pub keeps : (limit : ℕ) (label : ℕ) (labels labels_new : LabelsView) (history : List Entry) (x : Label) (kept : List ℕ) → Fits labels history → label_in labels.present label ≡ Some x
+pub keeps : (limit : Limits) (label : ℕ) (labels labels_new : LabelsView) (history : List Entry) (x : Label) (kept : List ℕ) → Fits labels history → label_in labels.present label ≡ Some x
     → labels_new ≡ record labels { present = replaced (keeping x kept) labels.present } → Keeps limit label labels labels_new history (keeping x kept)
 keeps limit label labels labels_new history x kept fits e labels_are =
     let found = found_by_name labels.present label x e in
@@ -294,7 +295,7 @@ keeps_all label labels labels_new x kept e same labels_are =
     ∙ ap (λ (ls : List Label). record labels { present = ls }) (replaced-itself labels.present x (found_by_name labels.present label x e))
 
 -- a cancel came
-pub fed_cancel : (limit : ℕ) (label : ℕ) (upto : Option ℕ) (first : Label) (piece : List ℕ) (labels_old : LabelsView) (history_old : List Entry) (written_old : Option (List ℕ)) (labels labels_new : LabelsView) (history : List Entry) (written : Option (List ℕ)) (rest kept out : List ℕ)
+pub fed_cancel : (limit : Limits) (label : ℕ) (upto : Option ℕ) (first : Label) (piece : List ℕ) (labels_old : LabelsView) (history_old : List Entry) (written_old : Option (List ℕ)) (labels labels_new : LabelsView) (history : List Entry) (written : Option (List ℕ)) (rest kept out : List ℕ)
     → (so_far : FedSoFar limit label upto first piece labels_old history_old written_old labels history written rest) → GaveItem cancel so_far.x.kept kept out
     → labels_new ≡ record labels { present = replaced (keeping so_far.x kept) labels.present } → FedSoFar limit label upto first piece labels_old history_old written_old labels_new history written rest
 fed_cancel limit label upto first piece labels_old history_old written_old labels labels_new history written rest kept out so_far gave labels_are =
@@ -305,7 +306,7 @@ fed_cancel limit label upto first piece labels_old history_old written_old label
     (rw labels_are (leads_none limit labels.present history (keeping x kept) x found refl)) (sym (with_nothing written)) (omega (arith, shorter_by cancel x.kept kept out gave))
 
 -- a command came and was run
-pub fed_command : (limit : ℕ) (label : ℕ) (upto : Option ℕ) (first : Label) (piece : List ℕ) (labels_old : LabelsView) (history_old : List Entry) (written_old : Option (List ℕ)) (labels between labels_new : LabelsView) (history history_new : List Entry) (written written_new : Option (List ℕ)) (rest kept out more : List ℕ)
+pub fed_command : (limit : Limits) (label : ℕ) (upto : Option ℕ) (first : Label) (piece : List ℕ) (labels_old : LabelsView) (history_old : List Entry) (written_old : Option (List ℕ)) (labels between labels_new : LabelsView) (history history_new : List Entry) (written written_new : Option (List ℕ)) (rest kept out more : List ℕ)
     → (so_far : FedSoFar limit label upto first piece labels_old history_old written_old labels history written rest) → GaveItem (command out) so_far.x.kept kept out
     → between ≡ record labels { present = replaced (keeping so_far.x kept) labels.present } → labels_new ≡ record between { present = replaced (counted (keeping so_far.x kept)) between.present }
     → Leads limit between.present history (run_command label (so_far.x.commands + 1) out (cover upto (so_far.x.commands + 1)) ∷ []) labels_new.present history_new more → written_new ≡ with_more written more
@@ -322,7 +323,7 @@ fed_command limit label upto first piece labels_old history_old written_old labe
     (leads_on limit labels.present between.present labels_new.present history history history_new [] (run_command x.label (x.commands + 1) out (cover upto (x.commands + 1)) ∷ []) [] more none runs_named) is_written (omega (arith, shorter_by (command out) x.kept kept out gave))
 
 -- a part of the rest was fed
-pub fed_more : (limit : ℕ) (label : ℕ) (upto : Option ℕ) (first : Label) (piece : List ℕ) (labels_old : LabelsView) (history_old : List Entry) (written_old : Option (List ℕ)) (labels labels_new : LabelsView) (history : List Entry) (written : Option (List ℕ)) (rest left : List ℕ) (k : ℕ)
+pub fed_more : (limit : Limits) (label : ℕ) (upto : Option ℕ) (first : Label) (piece : List ℕ) (labels_old : LabelsView) (history_old : List Entry) (written_old : Option (List ℕ)) (labels labels_new : LabelsView) (history : List Entry) (written : Option (List ℕ)) (rest left : List ℕ) (k : ℕ)
     → (so_far : FedSoFar limit label upto first piece labels_old history_old written_old labels history written rest) → k ≤ length rest → left ≡ drop k rest
     → labels_new ≡ record labels { present = replaced (keeping so_far.x (so_far.x.kept ++ take k rest)) labels.present } → FedSoFar limit label upto first piece labels_old history_old written_old labels_new history written left
 fed_more limit label upto first piece labels_old history_old written_old labels labels_new history written rest left k so_far within left_is labels_are =
@@ -334,7 +335,7 @@ fed_more limit label upto first piece labels_old history_old written_old labels 
     (rw labels_are (leads_none limit labels.present history y x found refl)) (sym (with_nothing written)) (omega (arith, length-append x.kept (take k rest), length-take-le k rest within, length-drop k rest)))
 
 -- a stop came at the command
-pub fed_stopped : (limit : ℕ) (stop : Stop) (label : ℕ) (upto : Option ℕ) (first : Label) (piece : List ℕ) (labels_old : LabelsView) (history_old : List Entry) (written_old : Option (List ℕ)) (labels between : LabelsView) (history : List Entry) (written : Option (List ℕ)) (rest kept out : List ℕ)
+pub fed_stopped : (limit : Limits) (stop : Stop) (label : ℕ) (upto : Option ℕ) (first : Label) (piece : List ℕ) (labels_old : LabelsView) (history_old : List Entry) (written_old : Option (List ℕ)) (labels between : LabelsView) (history : List Entry) (written : Option (List ℕ)) (rest kept out : List ℕ)
     (labels_new : List Label) (history_new : List Entry) (written_new : Option (List ℕ)) (wrong : Bool)
     → (so_far : FedSoFar limit label upto first piece labels_old history_old written_old labels history written rest) → GaveItem (command out) so_far.x.kept kept out
     → Keeps limit label labels between history (keeping so_far.x kept)
@@ -349,7 +350,7 @@ fed_stopped limit stop label upto first piece labels_old history_old written_old
     (first_calls upto first piece so_far.upto_is ∙ so_far.calls_are ∙ ap (λ (cs : List Call). so_far.done ++ cs) named) (at.leads labels_old.present history_old so_far.done so_far.more so_far.leads) so_far.written_is stopped
 
 -- a stop came at the line that tells of a bad size
-pub fed_bad_stopped : (limit : ℕ) (stop : Stop) (label : ℕ) (upto : Option ℕ) (first : Label) (piece : List ℕ) (labels_old : LabelsView) (history_old : List Entry) (written_old : Option (List ℕ)) (labels : LabelsView) (history : List Entry) (written : Option (List ℕ)) (rest : List ℕ) (size : ℕ)
+pub fed_bad_stopped : (limit : Limits) (stop : Stop) (label : ℕ) (upto : Option ℕ) (first : Label) (piece : List ℕ) (labels_old : LabelsView) (history_old : List Entry) (written_old : Option (List ℕ)) (labels : LabelsView) (history : List Entry) (written : Option (List ℕ)) (rest : List ℕ) (size : ℕ)
     (labels_new : List Label) (history_new : List Entry) (written_new : Option (List ℕ)) (wrong : Bool)
     → (so_far : FedSoFar limit label upto first piece labels_old history_old written_old labels history written rest) → frames so_far.x.kept ≡ record { items = []; ending = bad size }
     → StoppedIn limit stop (bad_size label ∷ closing label ∷ []) labels.present history labels_new history_new written written_new wrong

@@ -2,6 +2,7 @@
 use Rattle.std.proofs.Common.{◌≡◌, ◌+◌, ℕ, Bool, true, false, List, Result, Ok, Err, refl, ◌∙◌}
 use Rattle.std.specs.Prelude.{IfErr, IsTrue}
 use Rattle.history_spec.specs.Entry.{Entry}
+use Rattle.history_spec.specs.Told.{Limits}
 use Rattle.broker_lock.specs.Known.{Fixed}
 use Rattle.script_lines.specs.Labels.{LabelsView}
 use Rattle.script_lines.specs.declared.reader.Line.TheVariants.{Text}
@@ -65,7 +66,7 @@ not_failed (stops.Input n) text lines labels of_line is = of_line
 not_failed stops.Answer text lines labels of_line is = is
 
 -- a stop that comes with a command or a close says nothing of the journal's limit
-pub not_full : (limit : ℕ) (stop : Stop) (history : List Entry) → IsOfRun stop → TellsFull limit stop history
+pub not_full : (limit : Limits) (stop : Stop) (history : List Entry) → IsOfRun stop → TellsFull limit.bytes stop history
 not_full limit stops.End history of_run count is = absurd of_run
 not_full limit (stops.BadLine n) history of_run count is = absurd of_run
 not_full limit stops.Memory history of_run count is = absurd of_run

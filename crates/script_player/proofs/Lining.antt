@@ -5,6 +5,7 @@ use Rattle.tab_spec.specs.Frame.{meets_bad_size}
 use Rattle.tab_laws.proofs.Cuts.{commands_left}
 use Rattle.link_port.specs.Port.{with_more}
 use Rattle.history_spec.specs.Entry.{Entry}
+use Rattle.history_spec.specs.Told.{Limits}
 use Rattle.script_spec.specs.Script.{piece, close, item_of}
 use Rattle.script_spec.specs.Calls.{Call, closing}
 use Rattle.script_lines.specs.declared.label.Label.{Label}
@@ -26,7 +27,7 @@ pub opened_at : (labels opened : LabelsView) (label : ℕ) → opened ≡ opened
 opened_at labels opened label is = ap (λ (v : LabelsView). label_in v.present label) is ∙ opened_found (label_in labels.present label) labels label refl
 
 -- the label was opened where that was due, and the piece was played on it
-pub played_piece : (limit : ℕ) (text : List ℕ) (labels opened labels_new : LabelsView) (history between history_new : List Entry) (written written_new : Option (List ℕ)) (label : ℕ) (bytes : List ℕ)
+pub played_piece : (limit : Limits) (text : List ℕ) (labels opened labels_new : LabelsView) (history between history_new : List Entry) (written written_new : Option (List ℕ)) (label : ℕ) (bytes : List ℕ)
     → item_of text ≡ Some (piece label bytes) → opened ≡ opened_labels (label_in labels.present label) labels label
     → Leads limit labels.present history (opening_calls (label_in labels.present label) label) opened.present between []
     → ((x : Label) → label_in opened.present label ≡ Some x → labels_new ≡ fed_labels x bytes opened)
@@ -47,7 +48,7 @@ played_piece limit text labels opened labels_new history between history_new wri
     }
 
 -- the same where a stop came within the piece
-pub stopped_piece : (limit : ℕ) (stop : Stop) (text : List ℕ) (labels opened : LabelsView) (labels_new : List Label) (history between history_new : List Entry) (written written_new : Option (List ℕ)) (wrong : Bool) (label : ℕ) (bytes : List ℕ)
+pub stopped_piece : (limit : Limits) (stop : Stop) (text : List ℕ) (labels opened : LabelsView) (labels_new : List Label) (history between history_new : List Entry) (written written_new : Option (List ℕ)) (wrong : Bool) (label : ℕ) (bytes : List ℕ)
     → item_of text ≡ Some (piece label bytes) → opened ≡ opened_labels (label_in labels.present label) labels label
     → Leads limit labels.present history (opening_calls (label_in labels.present label) label) opened.present between []
     → ((x : Label) → label_in opened.present label ≡ Some x → StoppedIn limit stop (fed_calls x bytes) opened.present between labels_new history_new written written_new wrong)
@@ -65,7 +66,7 @@ stopped_piece limit stop text labels opened labels_new history between history_n
 
 -- ---- a close
 
-pub played_close : (limit : ℕ) (text : List ℕ) (labels labels_new : LabelsView) (history history_new : List Entry) (written : Option (List ℕ)) (label : ℕ) (x : Label)
+pub played_close : (limit : Limits) (text : List ℕ) (labels labels_new : LabelsView) (history history_new : List Entry) (written : Option (List ℕ)) (label : ℕ) (x : Label)
     → item_of text ≡ Some (close label) → label_in labels.present label ≡ Some x → labels_new ≡ record labels { present = without_label label labels.present }
     → Leads limit labels.present history (closing label ∷ []) labels_new.present history_new [] → IsPlayed limit text labels history labels_new history_new written written
 played_close limit text labels labels_new history history_new written label x item found labels_are leads = record {
@@ -78,7 +79,7 @@ played_close limit text labels labels_new history history_new written label x it
 }
 
 -- the same where the device gave a wrong answer in the close
-pub stopped_line_close : (limit : ℕ) (text : List ℕ) (labels : LabelsView) (labels_new : List Label) (history history_new : List Entry) (written : Option (List ℕ)) (wrong : Bool) (label : ℕ) (x : Label)
+pub stopped_line_close : (limit : Limits) (text : List ℕ) (labels : LabelsView) (labels_new : List Label) (history history_new : List Entry) (written : Option (List ℕ)) (wrong : Bool) (label : ℕ) (x : Label)
     → item_of text ≡ Some (close label) → label_in labels.present label ≡ Some x → Leads limit labels.present history (closing label ∷ []) labels_new history_new []
     → LineStopped limit stops.Answer text labels history labels_new history_new written written wrong
 stopped_line_close limit text labels labels_new history history_new written wrong label x item found leads = record {
@@ -87,7 +88,7 @@ stopped_line_close limit text labels labels_new history history_new written wron
   stopped = rw found (stopped_close limit [] label (closing label ∷ []) labels.present history labels_new history_new [] written written wrong refl leads (sym (with_nothing written)));
 }
 
-pub played_no_close : (limit : ℕ) (text : List ℕ) (labels : LabelsView) (history : List Entry) (written : Option (List ℕ)) (label : ℕ)
+pub played_no_close : (limit : Limits) (text : List ℕ) (labels : LabelsView) (history : List Entry) (written : Option (List ℕ)) (label : ℕ)
     → item_of text ≡ Some (close label) → label_in labels.present label ≡ None → IsPlayed limit text labels history labels history written written
 played_no_close limit text labels history written label item none = record {
   item = close label;

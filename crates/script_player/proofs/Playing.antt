@@ -8,7 +8,7 @@ use Rattle.history_spec.specs.declared.EntryKind.TheVariants.{Open, Command, Can
 use Rattle.history_spec.specs.declared.EntryKind.{EntryKind}
 use Rattle.history_spec.specs.Entry.{Entry, Clients, open_entry, close_entry, clients_of, clients_by, is_close_kind, opened_by, part_before, present_by, own, IsOpen, IsNextNumber}
 use Rattle.broker_lock.proofs.Orderly.{clients_of-push}
-use Rattle.history_spec.specs.Told.{IsToldFull, IsToldMemory, Told, entry_of}
+use Rattle.history_spec.specs.Told.{IsToldFull, IsToldMemory, Told, entry_of, Limits}
 use Rattle.script_spec.specs.Plays.{Stage, PlaysTo, Plays1, client_of, IsKindOf, IsEntryFor, MayAddEntry, IsAnswered, reply_line}
 use Rattle.tab_spec.specs.declared.TheConstants.{RC_COMMAND_SIZE}
 use Rattle.tab_spec.specs.Reply.{error_reply}
@@ -24,11 +24,11 @@ use Rattle.script_player.proofs.Relabeling.{each-push, each-weaker, same_some, e
 
 -- ---- one step after another
 
-pub plays_on : (limit : ℕ) (a b c : Stage) (calls more : List Call) → PlaysTo limit a calls b → PlaysTo limit b more c → PlaysTo limit a (calls ++ more) c
+pub plays_on : (limit : Limits) (a b c : Stage) (calls more : List Call) → PlaysTo limit a calls b → PlaysTo limit b more c → PlaysTo limit a (calls ++ more) c
 plays_on limit a b c [] more first second = subst (λ (s : Stage). PlaysTo limit s more c) first second
 plays_on limit a b c (call ∷ calls) more first second = (first.0, first.1, plays_on limit first.0 b c calls more first.2 second)
 
-pub plays_once : (limit : ℕ) (a b : Stage) (call : Call) → Plays1 limit a call b → PlaysTo limit a (call ∷ []) b
+pub plays_once : (limit : Limits) (a b : Stage) (call : Call) → Plays1 limit a call b → PlaysTo limit a (call ∷ []) b
 plays_once limit a b call step = (b, step, refl)
 
 clients_stay_at : (clients : Clients) (client : ℕ) (covered : Option ℕ) (kind : EntryKind) → IsKindOf covered kind
@@ -276,7 +276,7 @@ fits-closed labels history label x fits found =
 
 -- ---- a command that was told something
 
-pub fits-told : (limit : ℕ) (told : ToldOf) (labels : LabelsView) (old new : List Entry) (x : Label) (command : List ℕ) (covered : Option ℕ) (reply : List ℕ)
+pub fits-told : (limit : Limits) (told : ToldOf) (labels : LabelsView) (old new : List Entry) (x : Label) (command : List ℕ) (covered : Option ℕ) (reply : List ℕ)
     → ToldAs limit told old new x.client (x.commands + 1) command covered reply → Fits labels old → label_in labels.present x.label ≡ Some x → Fits (record labels { present = replaced (counted x) labels.present }) new
 fits-told limit tolds.Entered labels old new x command covered reply told fits found = rw told.entered (fits-entered labels old x covered told.e fits found told.entry.kind_is told.entry.client_is told.entry.number_is)
 fits-told limit tolds.Memory labels old new x command covered reply told fits found = rw told.0 (fits-replaced labels old (counted x) x fits found refl (omega arith))
@@ -290,22 +290,22 @@ told_by_entry old client number e next same is_number =
     ap (λ (es : List Entry). find (λ x. eqb x.number number) es) (own-push_same old e client same)
     ∙ subst (λ (n : ℕ). find (λ x. eqb x.number n) (own old client ++ e ∷ []) ≡ Some e) is_number (find-push_some (own old client) e below)
 
-told_entry : (limit : ℕ) (old : List Entry) (client number : ℕ) (e : Entry) (command : List ℕ) (covered : Option ℕ) (reply : List ℕ) → IsNextNumber old client number → IsEntryFor client number command covered e → reply ≡ e.reply → Told (old ++ e ∷ []) limit client number command reply
+told_entry : (limit : Limits) (old : List Entry) (client number : ℕ) (e : Entry) (command : List ℕ) (covered : Option ℕ) (reply : List ℕ) → IsNextNumber old client number → IsEntryFor client number command covered e → reply ≡ e.reply → Told (old ++ e ∷ []) limit client number command reply
 told_entry limit old client number e command covered reply next entry is_reply =
     rw (told_by_entry old client number e next entry.client_is entry.number_is) (record { command_is = entry.command_is; reply_is = sym is_reply })
 
-told_none : (limit : ℕ) (old : List Entry) (client number : ℕ) (command reply : List ℕ) → IsNextNumber old client number → IsToldMemory command reply → Told old limit client number command reply
+told_none : (limit : Limits) (old : List Entry) (client number : ℕ) (command reply : List ℕ) → IsNextNumber old client number → IsToldMemory limit.contexts command reply → Told old limit client number command reply
 told_none limit old client number command reply next is_memory = rw (find-push_none (own old client) number next.above) (inl is_memory)
 
-told_full : (limit : ℕ) (old : List Entry) (client number : ℕ) (command reply : List ℕ) → IsNextNumber old client number → part_before client number old ≡ old → IsToldFull limit old command reply → Told old limit client number command reply
+told_full : (limit : Limits) (old : List Entry) (client number : ℕ) (command reply : List ℕ) → IsNextNumber old client number → part_before client number old ≡ old → IsToldFull limit.bytes old command reply → Told old limit client number command reply
 told_full limit old client number command reply next before full = rw (find-push_none (own old client) number next.above, before) (inr full)
 
 -- the labels stand for the same holders
 holders-counted : (labels : List Label) (x : Label) → label_in labels x.label ≡ Some x → map holder_of (replaced (counted x) labels) ≡ map holder_of labels
 holders-counted labels x found = map-replaced holder_of labels (counted x) x found refl
 
-is_answered : (limit : ℕ) (labels : LabelsView) (old new : List Entry) (x : Label) (command : List ℕ) (covered : Option ℕ) (reply output : List ℕ) → Fits labels old → label_in labels.present x.label ≡ Some x
-    → MayAddEntry limit old x.client (x.commands + 1) command covered new → Told new limit x.client (x.commands + 1) command reply
+is_answered : (limit : Limits) (labels : LabelsView) (old new : List Entry) (x : Label) (command : List ℕ) (covered : Option ℕ) (reply output : List ℕ) → Fits labels old → label_in labels.present x.label ≡ Some x
+    → MayAddEntry limit.bytes old x.client (x.commands + 1) command covered new → Told new limit x.client (x.commands + 1) command reply
     → IsAnswered limit (stage labels.present old output) x.label (x.commands + 1) command covered (stage (replaced (counted x) labels.present) new (output ++ reply_line x.label reply))
 is_answered limit labels old new x command covered reply output fits found adds told = record {
   client = x.client;
@@ -317,7 +317,7 @@ is_answered limit labels old new x command covered reply output fits found adds 
   holders = holders-counted labels.present x found;
 }
 
-pub leads-told : (limit : ℕ) (told : ToldOf) (labels : LabelsView) (old new : List Entry) (x : Label) (command : List ℕ) (covered : Option ℕ) (reply : List ℕ)
+pub leads-told : (limit : Limits) (told : ToldOf) (labels : LabelsView) (old new : List Entry) (x : Label) (command : List ℕ) (covered : Option ℕ) (reply : List ℕ)
     → ToldAs limit told old new x.client (x.commands + 1) command covered reply → (told ≡ tolds.Answer → ⊥) → Fits labels old → label_in labels.present x.label ≡ Some x
     → Leads limit labels.present old (run_command x.label (x.commands + 1) command covered ∷ []) (replaced (counted x) labels.present) new (reply_line x.label reply)
 leads-told limit tolds.Entered labels old new x command covered reply told not_answer fits found output =
@@ -335,7 +335,7 @@ leads-told limit tolds.Answer labels old new x command covered reply told not_an
 
 -- ---- calls one after another
 
-pub leads_on : (limit : ℕ) (a b c : List Label) (h k l : List Entry) (calls more : List Call) (first second : List ℕ) → Leads limit a h calls b k first → Leads limit b k more c l second → Leads limit a h (calls ++ more) c l (first ++ second)
+pub leads_on : (limit : Limits) (a b c : List Label) (h k l : List Entry) (calls more : List Call) (first second : List ℕ) → Leads limit a h calls b k first → Leads limit b k more c l second → Leads limit a h (calls ++ more) c l (first ++ second)
 leads_on limit a b c h k l calls more first second one two output =
     subst (λ (out : List ℕ). PlaysTo limit (stage a h output) (calls ++ more) (stage c l out)) (append_assoc output first second)
     (plays_on limit (stage a h output) (stage b k (output ++ first)) (stage c l ((output ++ first) ++ second)) calls more (one output) (two (output ++ first)))
@@ -345,16 +345,16 @@ with_nothing None = refl
 with_nothing (Some bytes) = ap Some (append-nil bytes)
 
 -- no call was made, and a label is known otherwise
-pub leads_none : (limit : ℕ) (labels : List Label) (history : List Entry) (x y : Label) → label_in labels x.label ≡ Some y → holder_of x ≡ holder_of y → Leads limit labels history [] (replaced x labels) history []
+pub leads_none : (limit : Limits) (labels : List Label) (history : List Entry) (x y : Label) → label_in labels x.label ≡ Some y → holder_of x ≡ holder_of y → Leads limit labels history [] (replaced x labels) history []
 leads_none limit labels history x y found same output = rw (map-replaced holder_of labels x y found same, append-nil output) refl
 
 -- an open label is told of a bad size
-pub leads_bad : (limit : ℕ) (labels : List Label) (history : List Entry) (label : ℕ) (x : Label) → label_in labels label ≡ Some x → Leads limit labels history (bad_size label ∷ []) labels history (reply_line label (error_reply RC_COMMAND_SIZE))
+pub leads_bad : (limit : Limits) (labels : List Label) (history : List Entry) (label : ℕ) (x : Label) → label_in labels label ≡ Some x → Leads limit labels history (bad_size label ∷ []) labels history (reply_line label (error_reply RC_COMMAND_SIZE))
 leads_bad limit labels history label x found output =
     plays_once limit (stage labels history output) (stage labels history (output ++ reply_line label (error_reply RC_COMMAND_SIZE))) (bad_size label) (x.client, (is_found labels label x found).holder, refl)
 
 -- an open label is closed
-pub leads_closed : (limit : ℕ) (labels : List Label) (history : List Entry) (label : ℕ) (x : Label) → label_in labels label ≡ Some x → Leads limit labels history (closing label ∷ []) (without_label label labels) (history ++ close_entry x.client ∷ []) []
+pub leads_closed : (limit : Limits) (labels : List Label) (history : List Entry) (label : ℕ) (x : Label) → label_in labels label ≡ Some x → Leads limit labels history (closing label ∷ []) (without_label label labels) (history ++ close_entry x.client ∷ []) []
 leads_closed limit labels history label x found output =
     rw (append-nil output) (plays_once limit (stage labels history output) (stage (without_label label labels) (history ++ close_entry x.client ∷ []) output) (closing label)
     (x.client, (is_found labels label x found).holder, rw holders-without refl))
@@ -375,7 +375,7 @@ fits-closed_first labels history x xs is fits =
     subst (λ (ls : List Label). Fits (record labels { present = ls }) (history ++ close_entry x.client ∷ [])) left (fits-closed labels history x.label x fits found)
 
 -- the closes of the labels that are left come behind those that were made
-pub leads_closing : (limit : ℕ) (start labels : List Label) (begun history : List Entry) (done : List ℕ) (x : Label) (xs : List Label) → labels ≡ x ∷ xs
+pub leads_closing : (limit : Limits) (start labels : List Label) (begun history : List Entry) (done : List ℕ) (x : Label) (xs : List Label) → labels ≡ x ∷ xs
     → Leads limit start begun (map closing done) labels history [] → Leads limit start begun (map closing (done ++ x.label ∷ [])) xs (history ++ close_entry x.client ∷ []) []
 leads_closing limit start labels begun history done x xs is leads =
     let one = leads_closed limit (x ∷ xs) history x.label x (found-first x xs) in

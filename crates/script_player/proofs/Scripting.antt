@@ -10,6 +10,7 @@ use Rattle.tab_laws.proofs.Cuts.{behind, stream_goes_on, left_goes_on}
 use Rattle.history_spec.specs.Cancels.{canceled_up_to}
 use Rattle.script_spec.specs.declared.TheConstants.{LINE_BYTES, SCRIPT_BYTES}
 use Rattle.history_spec.specs.Entry.{Entry}
+use Rattle.history_spec.specs.Told.{Limits}
 use Rattle.script_spec.specs.Script.{Item, piece, close, item_of, lines_of, text_of, Script, script, script_from, with_item, end, bad_line}
 use Rattle.script_spec.specs.Calls.{Call, opening, Stream, bytes_of, fed, without_stream, so_far, after_piece, new_items, item_commands, numbered, ending_calls, stream_calls, piece_calls, close_calls, item_calls, after_item, calls_from, labels_from, labels_by}
 use Rattle.script_spec.specs.Plays.{at_start}
@@ -376,7 +377,7 @@ to_come_on done streams number lines_old lines_new given (Some more) left_new te
       },
     )
 
-pub has_played_on : (limit : ℕ) (labels : LabelsView) (history : List Entry) (labels_new : LabelsView) (history_new : List Entry) (number : ℕ) (lines_old lines_new : LinesView) (given left left_new start written written_new : Option (List ℕ)) (text : List ℕ)
+pub has_played_on : (limit : Limits) (labels : LabelsView) (history : List Entry) (labels_new : LabelsView) (history_new : List Entry) (number : ℕ) (lines_old lines_new : LinesView) (given left left_new start written written_new : Option (List ℕ)) (text : List ℕ)
     → HasPlayed limit labels history number lines_old.room lines_old.pending given left start written → ReadNext Text lines_old left text lines_new left_new
     → IsPlayed limit text labels history labels_new history_new written written_new
     → HasPlayed limit labels_new history_new (number + 1) lines_new.room lines_new.pending given left_new start written_new
@@ -393,7 +394,7 @@ has_played_on limit labels history labels_new history_new number lines_old lines
       to_come = to_come_on so_far.done so_far.streams number lines_old lines_new given left left_new text played.item calls so_far.to_come next played.item_is (calls_are labels so_far.streams played.item so_far.carries);
     }
 
-pub has_played_none : (limit : ℕ) (given written : Option (List ℕ)) (labels : LabelsView) (history : List Entry) (number room : ℕ) (pending : List ℕ) → labels ≡ no_labels → history ≡ [] → number ≡ 1 → room ≡ SCRIPT_BYTES → pending ≡ []
+pub has_played_none : (limit : Limits) (given written : Option (List ℕ)) (labels : LabelsView) (history : List Entry) (number room : ℕ) (pending : List ℕ) → labels ≡ no_labels → history ≡ [] → number ≡ 1 → room ≡ SCRIPT_BYTES → pending ≡ []
     → HasPlayed limit labels history number room pending given given written written
 has_played_none limit given written labels history number room pending none no_history first whole_room nothing = rw (none, no_history, first, whole_room, nothing) (record {
   done = [];
@@ -455,7 +456,7 @@ memory_told done streams number old new given more rest all text labels so_far g
       come.0 ∙ ap (λ (known : Option (List ℕ)). done ++ (piece_calls known label bytes ++ calls_from (after_item streams item) others.items)) none,
     )
 
-stopped_told : (limit : ℕ) (stop : Stop) (done : List Call) (streams : List Stream) (number : ℕ) (old new : LinesView) (given left left_new : Option (List ℕ)) (text : List ℕ) (line : Line) (labels : LabelsView)
+stopped_told : (limit : Limits) (stop : Stop) (done : List Call) (streams : List Stream) (number : ℕ) (old new : LinesView) (given left left_new : Option (List ℕ)) (text : List ℕ) (line : Line) (labels : LabelsView)
     → StillToCome done streams number old.room old.pending given left → ReadNext line old left text new left_new → StopsAfter stop line text number labels → Carries labels.present streams
     → (all : List ℕ) → given ≡ Some all → Stopped stop done all left_new
 stopped_told limit stop done streams number old new given None left_new text line labels so_far next stops carries all is_given = absurd (let was = so_far all is_given in let none : None ≡ Some was.0 = was.1 in cc)
@@ -484,8 +485,8 @@ stopped_told limit (stops.Input n) done streams number old new given (Some more)
 stopped_told limit stops.Answer done streams number old new given (Some more) left_new text line labels so_far next after carries all is_given = tt
 
 -- no more is played after what came next
-pub played_stops : (limit : ℕ) (stop : Stop) (labels : LabelsView) (history : List Entry) (number : ℕ) (old new : LinesView) (given left left_new start written : Option (List ℕ)) (text : List ℕ) (line : Line)
-    → HasPlayed limit labels history number old.room old.pending given left start written → ReadNext line old left text new left_new → StopsAfter stop line text number labels → TellsFull limit stop history
+pub played_stops : (limit : Limits) (stop : Stop) (labels : LabelsView) (history : List Entry) (number : ℕ) (old new : LinesView) (given left left_new start written : Option (List ℕ)) (text : List ℕ) (line : Line)
+    → HasPlayed limit labels history number old.room old.pending given left start written → ReadNext line old left text new left_new → StopsAfter stop line text number labels → TellsFull limit.bytes stop history
     → PlayedUpTo limit stop labels.present history given left_new start written
 played_stops limit stop labels history number old new given left left_new start written text line so_far next stops full = record {
   done = so_far.done;
@@ -522,7 +523,7 @@ failed_told count done streams number old given (Some more) left_new so_far shor
       },
     )
 
-pub played_fails : (limit : ℕ) (count : ℕ) (labels : LabelsView) (history : List Entry) (number : ℕ) (old : LinesView) (given left left_new start written : Option (List ℕ))
+pub played_fails : (limit : Limits) (count : ℕ) (labels : LabelsView) (history : List Entry) (number : ℕ) (old : LinesView) (given left left_new start written : Option (List ℕ))
     → HasPlayed limit labels history number old.room old.pending given left start written → CutShort old left left_new → PlayedUpTo limit (stops.Input count) labels.present history given left_new start written
 played_fails limit count labels history number old given left left_new start written so_far short = record {
   done = so_far.done;

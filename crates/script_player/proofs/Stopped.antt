@@ -2,6 +2,7 @@
 use Rattle.std.proofs.Common.{◌≡◌, ℕ, Bool, true, false, cond, eqb, List, [], ◌∷◌, ◌++◌, Option, refl, sym, ap, subst, ◌∙◌, append_assoc}
 use Rattle.std.specs.Prelude.{map}
 use Rattle.history_spec.specs.Entry.{Entry, without}
+use Rattle.history_spec.specs.Told.{Limits}
 use Rattle.script_spec.specs.Script.{script}
 use Rattle.script_spec.specs.Calls.{Call, opening, command, bad_size, closing, calls_from, labels_from}
 use Rattle.script_spec.specs.Plays.{Holder, Stage, Plays1, PlaysTo, without_label, at_start}
@@ -33,13 +34,13 @@ names-without label (x ∷ holders) =
       | false ↦ ap (λ (ns : List ℕ). x.label ∷ ns) (names-without label holders)
     ]
 
-names_played : (limit : ℕ) (call : Call) (before after : Stage) → Plays1 limit before call after → names_of after.holders ≡ labels_from (names_of before.holders) (call ∷ [])
+names_played : (limit : Limits) (call : Call) (before after : Stage) → Plays1 limit before call after → names_of after.holders ≡ labels_from (names_of before.holders) (call ∷ [])
 names_played limit (opening label) before after plays = ap (λ (s : Stage). names_of s.holders) plays.1 ∙ names-push before.holders _
 names_played limit (command label number bytes covered) before after plays = ap names_of plays.holders
 names_played limit (bad_size label) before after plays = ap (λ (s : Stage). names_of s.holders) plays.2
 names_played limit (closing label) before after plays = ap (λ (s : Stage). names_of s.holders) plays.2 ∙ names-without label before.holders
 
-names_led : (limit : ℕ) (calls : List Call) (before after : Stage) → PlaysTo limit before calls after → names_of after.holders ≡ labels_from (names_of before.holders) calls
+names_led : (limit : Limits) (calls : List Call) (before after : Stage) → PlaysTo limit before calls after → names_of after.holders ≡ labels_from (names_of before.holders) calls
 names_led limit [] before after plays = ap (λ (s : Stage). names_of s.holders) plays
 names_led limit (call ∷ calls) before after plays =
     names_led limit calls plays.0 after plays.2 ∙ ap (λ (ns : List ℕ). labels_from ns calls) (names_played limit call before plays.0 plays.1)
@@ -57,7 +58,7 @@ first_of done made rest left calls last all is_calls is_all = (
       ∙ sym (append_assoc done (made ++ last_calls last) (left ++ rest)) ∙ ap (λ (cs : List Call). cs ++ (left ++ rest)) (sym (append_assoc done made (last_calls last))),
 )
 
-pub stopped_at : (limit : ℕ) (stop : Stop) (labels : LabelsView) (history : List Entry) (labels_new : List Label) (history_new : List Entry) (number : ℕ) (old new : LinesView) (given left left_new start written written_new : Option (List ℕ)) (text : List ℕ) (wrong : Bool)
+pub stopped_at : (limit : Limits) (stop : Stop) (labels : LabelsView) (history : List Entry) (labels_new : List Label) (history_new : List Entry) (number : ℕ) (old new : LinesView) (given left left_new start written written_new : Option (List ℕ)) (text : List ℕ) (wrong : Bool)
     → HasPlayed limit labels history number old.room old.pending given left start written → ReadNext Text old left text new left_new → LineStopped limit stop text labels history labels_new history_new written written_new wrong
     → StoppedAt limit stop labels_new history_new given start written_new wrong
 stopped_at limit stop labels history labels_new history_new number old new given left left_new start written written_new text wrong so_far next line =

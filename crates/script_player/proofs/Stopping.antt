@@ -7,6 +7,7 @@ use Rattle.tab_spec.specs.Reply.{error_reply}
 use Rattle.link_port.specs.Port.{with_more}
 use Rattle.script_player.proofs.Writing.{with_more-append}
 use Rattle.history_spec.specs.Entry.{Entry}
+use Rattle.history_spec.specs.Told.{Limits}
 use Rattle.script_spec.specs.Calls.{Call, command as run_command, bad_size, closing}
 use Rattle.script_spec.specs.Plays.{reply_line}
 use Rattle.script_lines.specs.declared.label.Label.{Label}
@@ -69,7 +70,7 @@ has_last_behind stops.Answer done made last wrong (inr closes) =
     inr (done ++ closes.0, closes.1, ap (λ (cs : List Call). done ++ cs) closes.2 ∙ sym (append_assoc done closes.0 (closing closes.1 ∷ [])))
 
 -- the command was made, and its reply line is what a stop leaves a front of, or all
-stopped_behind_it : (limit : ℕ) (told : ToldOf) (stop : Stop) (labels : LabelsView) (old new : List Entry) (x : Label) (command : List ℕ) (covered : Option ℕ) (reply : List ℕ) (written written_new : Option (List ℕ)) (wrong : Bool)
+stopped_behind_it : (limit : Limits) (told : ToldOf) (stop : Stop) (labels : LabelsView) (old new : List Entry) (x : Label) (command : List ℕ) (covered : Option ℕ) (reply : List ℕ) (written written_new : Option (List ℕ)) (wrong : Bool)
     → ToldAs limit told old new x.client (x.commands + 1) command covered reply → (told ≡ tolds.Answer → ⊥) → Fits labels old → label_in labels.present x.label ≡ Some x
     → HasLast stop (run_command x.label (x.commands + 1) command covered ∷ []) None wrong → Writes stop (reply_line x.label reply) written written_new
     → StoppedIn limit stop (run_command x.label (x.commands + 1) command covered ∷ []) labels.present old (replaced (counted x) labels.present) new written written_new wrong
@@ -85,7 +86,7 @@ stopped_behind_it limit told stop labels old new x command covered reply written
 }
 
 -- the command whose reply line is what a stop leaves a front of, or all
-pub stopped_told : (limit : ℕ) (told : ToldOf) (stop : Stop) (labels : LabelsView) (old new : List Entry) (x : Label) (command : List ℕ) (covered : Option ℕ) (reply : List ℕ) (written written_new : Option (List ℕ)) (wrong : Bool)
+pub stopped_told : (limit : Limits) (told : ToldOf) (stop : Stop) (labels : LabelsView) (old new : List Entry) (x : Label) (command : List ℕ) (covered : Option ℕ) (reply : List ℕ) (written written_new : Option (List ℕ)) (wrong : Bool)
     → ToldAs limit told old new x.client (x.commands + 1) command covered reply → ((told ≡ tolds.Answer) ↔ IsTrue wrong) → Fits labels old → label_in labels.present x.label ≡ Some x
     → ((last : Unanswered) → IsTrue wrong → HasLast stop [] (Some last) wrong)
     → ((IsTrue wrong → ⊥) → HasLast stop (run_command x.label (x.commands + 1) command covered ∷ []) None wrong)
@@ -114,7 +115,7 @@ stopped_told limit (tolds.JournalFull count most) stop labels old new x command 
     stopped_behind_it limit (tolds.JournalFull count most) stop labels old new x command covered reply written written_new wrong tells not_answer fits found (without_last (λ some. not_answer (answer.1 some))) writes
 
 -- the line that tells of a bad size was written in part
-pub stopped_bad : (limit : ℕ) (count : ℕ) (labels : List Label) (history : List Entry) (label : ℕ) (x : Label) (written written_new : Option (List ℕ)) (wrong : Bool) → label_in labels label ≡ Some x
+pub stopped_bad : (limit : Limits) (count : ℕ) (labels : List Label) (history : List Entry) (label : ℕ) (x : Label) (written written_new : Option (List ℕ)) (wrong : Bool) → label_in labels label ≡ Some x
     → WroteFront (reply_line label (error_reply RC_COMMAND_SIZE)) written written_new → StoppedIn limit (stops.Output count) (bad_size label ∷ closing label ∷ []) labels history labels history written written_new wrong
 stopped_bad limit count labels history label x written written_new wrong found wrote = record {
   made = bad_size label ∷ [];
@@ -128,7 +129,7 @@ stopped_bad limit count labels history label x written written_new wrong found w
 }
 
 -- the device gave a wrong answer in a close
-pub stopped_close : (limit : ℕ) (done : List Call) (label : ℕ) (calls : List Call) (labels : List Label) (history : List Entry) (labels_new : List Label) (history_new : List Entry) (more : List ℕ) (written written_new : Option (List ℕ)) (wrong : Bool)
+pub stopped_close : (limit : Limits) (done : List Call) (label : ℕ) (calls : List Call) (labels : List Label) (history : List Entry) (labels_new : List Label) (history_new : List Entry) (more : List ℕ) (written written_new : Option (List ℕ)) (wrong : Bool)
     → calls ≡ done ++ closing label ∷ [] → Leads limit labels history calls labels_new history_new more → written_new ≡ with_more written more
     → StoppedIn limit stops.Answer calls labels history labels_new history_new written written_new wrong
 stopped_close limit done label calls labels history labels_new history_new more written written_new wrong is leads wrote = record {

@@ -3,6 +3,7 @@ use Rattle.std.specs.Prelude.{◌≡◌, Bool, false, true, ℕ, IsTrue, List, �
 use Rattle.std.specs.List.{AllByRecursion}
 use Rattle.history_spec.specs.AuditText.{audit_text}
 use Rattle.history_spec.specs.Entry.{Entry, HasRoomForClient, is_close_kind, kept}
+use Rattle.history_spec.specs.Told.{Limits}
 use Rattle.script_spec.specs.Script.{script, end, bad_line}
 use Rattle.script_spec.specs.Calls.{Call, opening, calls_from, with_closes}
 use Rattle.script_spec.specs.Plays.{Holder, PlaysTo, Plays, at_start}
@@ -18,24 +19,24 @@ with_audit audit history lines = if audit then lines ++ audit_text history else 
 
 -- a history and an output are what these calls make, and then the closes of the labels that they leave open; behind their
 -- lines stands the audit text where it is asked for
-pub record Makes (limit : ℕ) (audit : Bool) (done : List Call) (written written_new : Option (List ℕ)) (history : List Entry) : Type 0 where
+pub record Makes (limit : Limits) (audit : Bool) (done : List Call) (written written_new : Option (List ℕ)) (history : List Entry) : Type 0 where
   pub output : List ℕ
   pub written_is : written_new ≡ with_more written (with_audit audit history output)
   pub plays : Plays history limit (with_closes done) output
 
 -- they are what the calls of the whole script make, where the input tells it, and else some calls
-abbrev pub LeavesWhole : ℕ → Bool → Option (List ℕ) → Option (List ℕ) → Option (List ℕ) → List Entry → Type 0
+abbrev pub LeavesWhole : Limits → Bool → Option (List ℕ) → Option (List ℕ) → Option (List ℕ) → List Entry → Type 0
 LeavesWhole limit audit given written written_new history = (done : List Call)
     × IfSome given (λ all. calls_from [] (script all).items ≡ done) × Makes limit audit done written written_new history
 
 -- they are what the first of those calls make, up to an opening
-abbrev pub LeavesPart : ℕ → Bool → Option (List ℕ) → Option (List ℕ) → Option (List ℕ) → List Entry → Type 0
+abbrev pub LeavesPart : Limits → Bool → Option (List ℕ) → Option (List ℕ) → Option (List ℕ) → List Entry → Type 0
 LeavesPart limit audit given written written_new history = (done : List Call)
     × IfSome given (λ all. (label : ℕ) × (more : List Call) × (calls_from [] (script all).items ≡ done ++ opening label ∷ more))
     × Makes limit audit done written written_new history
 
 -- a run that the journal's limit stopped at an opening: it had no room for another client, and kept so many bytes then
-pub record IsFullAt (limit : ℕ) (done : List Call) (detail : ℕ) (history : List Entry) : Type 0 where
+pub record IsFullAt (limit : Limits) (done : List Call) (detail : ℕ) (history : List Entry) : Type 0 where
   pub before : List Entry
   pub closes : List Entry
   pub holders : List Holder
@@ -44,28 +45,28 @@ pub record IsFullAt (limit : ℕ) (done : List Call) (detail : ℕ) (history : L
   pub history_is : history ≡ before ++ closes
   pub closed : AllByRecursion (λ e. is_close_kind e.kind ≡ true) closes
   pub kept_is : detail ≡ kept before
-  pub lacks : HasRoomForClient limit before → ⊥
+  pub lacks : HasRoomForClient limit.bytes before → ⊥
 
-abbrev pub LeavesFull : ℕ → Bool → Option (List ℕ) → Option (List ℕ) → Option (List ℕ) → ℕ → List Entry → Type 0
+abbrev pub LeavesFull : Limits → Bool → Option (List ℕ) → Option (List ℕ) → Option (List ℕ) → ℕ → List Entry → Type 0
 LeavesFull limit audit given written written_new detail history = (done : List Call)
     × IfSome given (λ all. (label : ℕ) × (more : List Call) × (calls_from [] (script all).items ≡ done ++ opening label ∷ more))
     × Makes limit audit done written written_new history
     × IsFullAt limit done detail history
 
 -- they are what the calls of the whole lines make that were read, where the input tells what it had and what it has left
-abbrev pub LeavesRead : ℕ → Bool → Option (List ℕ) → Option (List ℕ) → Option (List ℕ) → Option (List ℕ) → List Entry → Type 0
+abbrev pub LeavesRead : Limits → Bool → Option (List ℕ) → Option (List ℕ) → Option (List ℕ) → Option (List ℕ) → List Entry → Type 0
 LeavesRead limit audit given left written written_new history = (done : List Call)
     × IfSome given (λ all. IsSomeAnd left (λ rest. AreOfWholeLines done all rest)) × Makes limit audit done written written_new history
 
 -- a history and bytes to be written are what these calls make, and then the closes of the labels that they leave open
-pub record MakesUpTo (limit : ℕ) (done : List Call) (last : Option Unanswered) (IsWritten : List ℕ → Type 0) (history : List Entry) : Type 0 where
+pub record MakesUpTo (limit : Limits) (done : List Call) (last : Option Unanswered) (IsWritten : List ℕ → Type 0) (history : List Entry) : Type 0 where
   pub output : List ℕ
   pub written : IsWritten (output ++ last_line last)
   pub plays : Plays history limit (with_closes done) output
 
 -- they are what the first of the script's calls make, up to a wrong answer: the call behind them was told DEVICE_ANSWER, or the
 -- answer came in the last of them, a close
-abbrev pub LeavesEarly : ℕ → Option (List ℕ) → Option (List ℕ) → Option (List ℕ) → List Entry → Type 0
+abbrev pub LeavesEarly : Limits → Option (List ℕ) → Option (List ℕ) → Option (List ℕ) → List Entry → Type 0
 LeavesEarly limit given written written_new history = (done : List Call) × (last : Option Unanswered)
     × (last ≡ None → EndsInClose done)
     × IfSome given (λ all. AreFirst done last all)
@@ -73,7 +74,7 @@ LeavesEarly limit given written written_new history = (done : List Call) × (las
 
 -- the history is what the first of the script's calls make, and the output lacks a part of the last line that they write. Only
 -- after a wrong answer was the last of them told DEVICE_ANSWER
-abbrev pub LeavesCut : ℕ → Bool → Option (List ℕ) → Option (List ℕ) → Option (List ℕ) → List Entry → Type 0
+abbrev pub LeavesCut : Limits → Bool → Option (List ℕ) → Option (List ℕ) → Option (List ℕ) → List Entry → Type 0
 LeavesCut limit wrong given written written_new history = (done : List Call) × (last : Option Unanswered)
     × (IsSome last → IsTrue wrong)
     × IfSome given (λ all. AreFirst done last all)
@@ -83,7 +84,7 @@ LeavesCut limit wrong given written written_new history = (done : List Call) × 
 
 -- What is left of a script, by why no more of it was played: history and output are what its calls make, each once and in order.
 -- `wrong` is whether a wrong answer came, before the closes or in them.
-abbrev pub LeavesBy : Stop → (limit : ℕ) (wrong : Bool) (given left written written_new : Option (List ℕ)) (history : List Entry) → Type 0
+abbrev pub LeavesBy : Stop → (limit : Limits) (wrong : Bool) (given left written written_new : Option (List ℕ)) (history : List Entry) → Type 0
 LeavesBy stops.End limit wrong given left written written_new history =
     LeavesWhole limit false given written written_new history × IfSome given (λ all. (script all).ending ≡ end)
 LeavesBy (stops.BadLine number) limit wrong given left written written_new history =

@@ -5,6 +5,7 @@ use Rattle.tab_spec.specs.Frame.{commands, frames, left_of, meets_bad_size}
 use Rattle.tab_spec.specs.Count.{Rose}
 use Rattle.script_spec.specs.declared.TheConstants.{LINE_BYTES, SCRIPT_BYTES}
 use Rattle.history_spec.specs.Entry.{Entry, HasRoomForClient, clients_of, is_close_kind, kept, own}
+use Rattle.history_spec.specs.Told.{Limits}
 use Rattle.script_spec.specs.Script.{Item, piece, close, Script, script, item_of, is_newline, lines_of, script_from, end, bad_line}
 use Rattle.script_spec.specs.Calls.{Call, opening, closing, Stream, item_commands, ending_calls, calls_from, labels_from}
 use Rattle.script_spec.specs.Plays.{Holder, Stage, PlaysTo, at_start}
@@ -101,7 +102,7 @@ labels_after labels (piece label bytes) =
 labels_after labels (close label) = record labels { present = without_label label labels.present }
 
 -- the calls lead from these labels and this history to those, and add these bytes to the output
-abbrev pub Leads : ℕ → List Label → List Entry → List Call → List Label → List Entry → List ℕ → Type 0
+abbrev pub Leads : Limits → List Label → List Entry → List Call → List Label → List Entry → List ℕ → Type 0
 Leads limit labels history calls labels_new history_new more =
     (output : List ℕ) → PlaysTo limit (stage labels history output) calls (stage labels_new history_new (output ++ more))
 
@@ -123,7 +124,7 @@ Carries (x ∷ xs) [] = ⊥
 -- ---- a line
 
 -- a good line was played: its calls lead on, and their reply lines were written
-pub record IsPlayed (limit : ℕ) (text : List ℕ) (labels : LabelsView) (history : List Entry) (labels_new : LabelsView) (history_new : List Entry)
+pub record IsPlayed (limit : Limits) (text : List ℕ) (labels : LabelsView) (history : List Entry) (labels_new : LabelsView) (history_new : List Entry)
     (written written_new : Option (List ℕ)) : Type 0 where
   pub item : Item
   pub more : List ℕ
@@ -155,7 +156,7 @@ StillToCome done streams number room pending given left = (all : List ℕ) → g
     × IsRead done streams number room pending all rest
 
 -- what is played so far of an input, and what is still to be
-pub record HasPlayed (limit : ℕ) (labels : LabelsView) (history : List Entry) (number room : ℕ) (pending : List ℕ)
+pub record HasPlayed (limit : Limits) (labels : LabelsView) (history : List Entry) (number room : ℕ) (pending : List ℕ)
     (given left written written_new : Option (List ℕ)) : Type 0 where
   pub done : List Call
   pub streams : List Stream
@@ -202,13 +203,13 @@ abbrev pub TellsFull : ℕ → Stop → List Entry → Type 0
 TellsFull limit stop history = (count : ℕ) → stop ≡ stops.Full count → (count ≡ kept history) × (HasRoomForClient limit history → ⊥)
 
 -- what was played when no more is
-pub record PlayedUpTo (limit : ℕ) (stop : Stop) (labels : List Label) (history : List Entry) (given left written written_new : Option (List ℕ)) : Type 0 where
+pub record PlayedUpTo (limit : Limits) (stop : Stop) (labels : List Label) (history : List Entry) (given left written written_new : Option (List ℕ)) : Type 0 where
   pub done : List Call
   pub output : List ℕ
   pub plays : PlaysTo limit at_start done (stage labels history output)
   pub left_open : labels_from [] done ≡ map (λ x. x.label) labels
   pub written_is : written_new ≡ with_more written output
-  pub full : TellsFull limit stop history
+  pub full : TellsFull limit.bytes stop history
   pub stopped : (all : List ℕ) → given ≡ Some all → Stopped stop done all left
 
 -- ---- why no more is played

@@ -1,6 +1,7 @@
 -- What the calls of the player ask, what each of them keeps, and what those that write leave.
 use Rattle.std.specs.Prelude.{◌≡◌, ◌≤◌, ◌*◌, ◌+◌, ℕ, Bool, false, List, [], Option, None, Some, Result, IfErr, OnOk}
 use Rattle.history_spec.specs.Entry.{Entry}
+use Rattle.history_spec.specs.Told.{Limits}
 use Rattle.link_port.specs.Port.{with_more}
 use Rattle.script_spec.specs.Script.{item_of}
 use Rattle.script_spec.specs.Calls.{Call}
@@ -60,7 +61,7 @@ pub record Outcome {A : Type 0} (result : Result A Stop) (faults faults_new : �
   pub cause : IfErr result (λ stop. HasStopCause stop 0 0 faults faults_new wrong)
 
 -- these calls were made: they lead from the old labels and history to the new ones, and their reply lines were written
-abbrev pub AreMade : (limit : ℕ) → List Call → (labels labels_new : LabelsView) (history history_new : List Entry)
+abbrev pub AreMade : (limit : Limits) → List Call → (labels labels_new : LabelsView) (history history_new : List Entry)
     (written written_new : Option (List ℕ)) → Type 0
 AreMade limit calls labels labels_new history history_new written written_new =
     (more : List ℕ) × (written_new ≡ with_more written more) × Leads limit labels.present history calls labels_new.present history_new more
@@ -84,9 +85,9 @@ pub record IsUnplayed (labels labels_new : LabelsView) (history history_new : Li
   pub written_is : written_new ≡ written
 
 -- the stop, and what it leaves: of a line that no command was run of nothing came
-pub record EndsAt (limit : ℕ) (stop : Stop) (text : List ℕ) (lines : ℕ) (labels labels_new : LabelsView) (history history_new : List Entry)
+pub record EndsAt (limit : Limits) (stop : Stop) (text : List ℕ) (lines : ℕ) (labels labels_new : LabelsView) (history history_new : List Entry)
     (written written_new : Option (List ℕ)) (wrong : Bool) : Type 0 where
   pub of_line : IsOfLine stop text lines labels
   pub even : IsEven stop → IsUnplayed labels labels_new history history_new written written_new
-  pub full : TellsFull limit stop history
+  pub full : TellsFull limit.bytes stop history
   pub stopped : IsOfRun stop → LineStopped limit stop text labels history labels_new.present history_new written written_new wrong

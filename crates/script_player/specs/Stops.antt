@@ -3,6 +3,7 @@ use Rattle.std.specs.Prelude.{◌≡◌, Bool, ◌<◌, ◌⊎◌, length, ℕ, 
 use Rattle.tab_spec.specs.declared.TheConstants.{RC_DEVICE_ANSWER}
 use Rattle.tab_spec.specs.Reply.{error_reply}
 use Rattle.history_spec.specs.Entry.{Entry}
+use Rattle.history_spec.specs.Told.{Limits}
 use Rattle.script_spec.specs.Script.{Item, item_of, script}
 use Rattle.script_spec.specs.Calls.{Call, command, closing, calls_from, labels_from}
 use Rattle.script_spec.specs.Plays.{PlaysTo, at_start, reply_line}
@@ -69,7 +70,7 @@ HasLast stops.Answer made last wrong = IsSome last ⊎ EndsInClose made
 
 -- the first of these calls were made, but for the last of them where the device gave a wrong answer to it, and led to
 -- these labels and this history; then the stop came
-pub record StoppedIn (limit : ℕ) (stop : Stop) (calls : List Call) (labels : List Label) (history : List Entry)
+pub record StoppedIn (limit : Limits) (stop : Stop) (calls : List Call) (labels : List Label) (history : List Entry)
     (labels_new : List Label) (history_new : List Entry) (written written_new : Option (List ℕ)) (wrong : Bool) : Type 0 where
   pub made : List Call
   pub last : Option Unanswered
@@ -81,14 +82,14 @@ pub record StoppedIn (limit : ℕ) (stop : Stop) (calls : List Call) (labels : L
   pub has_last : HasLast stop made last wrong
 
 -- the same of a good line
-pub record LineStopped (limit : ℕ) (stop : Stop) (text : List ℕ) (labels : LabelsView) (history : List Entry)
+pub record LineStopped (limit : Limits) (stop : Stop) (text : List ℕ) (labels : LabelsView) (history : List Entry)
     (labels_new : List Label) (history_new : List Entry) (written written_new : Option (List ℕ)) (wrong : Bool) : Type 0 where
   pub item : Item
   pub item_is : item_of text ≡ Some item
   pub stopped : StoppedIn limit stop (calls_on labels item) labels.present history labels_new history_new written written_new wrong
 
 -- what was played when the stop came
-pub record StoppedAt (limit : ℕ) (stop : Stop) (labels : List Label) (history : List Entry)
+pub record StoppedAt (limit : Limits) (stop : Stop) (labels : List Label) (history : List Entry)
     (given written written_new : Option (List ℕ)) (wrong : Bool) : Type 0 where
   pub done : List Call
   pub last : Option Unanswered

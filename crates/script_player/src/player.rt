@@ -8,6 +8,7 @@ ghost use Rattle.history_spec.specs.Entry.{clients_of, IsOpen, IsNextNumber};
 ghost use Rattle.script_spec.specs.Calls.{command, bad_size, closing};
 ghost use Rattle.script_spec.specs.Plays.{reply_line};
 ghost use Rattle.broker_lock.specs.declared.calls.Told.TheVariants as tolds;
+ghost use Rattle.broker_lock.specs.Known.{limits_of};
 ghost use Rattle.script_lines.specs.declared.label.Label.{Label};
 ghost use Rattle.script_lines.specs.Labels.{label_in, counted, replaced, without_label};
 ghost use Rattle.script_player.specs.declared.stop.Stop.TheVariants as stops;
@@ -66,9 +67,10 @@ impl<B: Runs> Player<B> {
         requires few { self.old.labels.opened < 2 ^ 32 }
         ensures labels { OnOk result (self.new.labels
             ≡ opened_labels (label_in self.old.labels.present label) self.old.labels label) }
-        ensures leads { OnOk result (Leads (B.fixed self.old.value).limit self.old.labels.present
-            (B.history self.old.value) (opening_calls (label_in self.old.labels.present label)
-            label) self.new.labels.present (B.history self.new.value) []) }
+        ensures leads { OnOk result (Leads (limits_of (B.fixed self.old.value))
+            self.old.labels.present (B.history self.old.value)
+            (opening_calls (label_in self.old.labels.present label) label)
+            self.new.labels.present (B.history self.new.value) []) }
         ensures err { IfErr result (λ stop. IsOfOpening stop × (self.new.labels ≡ self.old.labels)
             × (B.history self.new.value ≡ B.history self.old.value)
             × (label_in self.old.labels.present label ≡ None)) }
@@ -145,15 +147,16 @@ impl<B: Runs> Player<B> {
             → self.new.labels
             ≡ record self.old.labels { present = replaced (counted x) self.old.labels.present } }
         ensures ok { OnOk result ((x : Label) → label_in self.old.labels.present label ≡ Some x →
-            AreMade (B.fixed self.old.value).limit (command label (x.commands + 1) self.old.frame
-            (cover upto (x.commands + 1)) ∷ []) self.old.labels self.new.labels
+            AreMade (limits_of (B.fixed self.old.value)) (command label (x.commands + 1)
+            self.old.frame (cover upto (x.commands + 1)) ∷ []) self.old.labels self.new.labels
             (B.history self.old.value) (B.history self.new.value) (O.written output.old)
             (O.written output.new)) }
         ensures err { IfErr result IsOfRun }
         ensures stopped { IfErr result (λ stop. (x : Label) → label_in self.old.labels.present label
-            ≡ Some x → StoppedIn (B.fixed self.old.value).limit stop (command label (x.commands + 1)
-            self.old.frame (cover upto (x.commands + 1)) ∷ []) self.old.labels.present
-            (B.history self.old.value) self.new.labels.present (B.history self.new.value)
+            ≡ Some x → StoppedIn (limits_of (B.fixed self.old.value)) stop (command label
+            (x.commands + 1) self.old.frame (cover upto (x.commands + 1)) ∷ [])
+            self.old.labels.present (B.history self.old.value)
+            self.new.labels.present (B.history self.new.value)
             (O.written output.old) (O.written output.new) (B.wrong self.new.value)) }
         ensures outcome { Outcome result (O.faults output.old)
             (O.faults output.new) (B.wrong self.new.value) }
@@ -174,7 +177,7 @@ impl<B: Runs> Player<B> {
         requires is_open { IsSome (label_in self.old.labels.present label) }
         ensures labels { self.new.labels
             ≡ record self.old.labels { present = without_label label self.old.labels.present } }
-        ensures leads { Leads (B.fixed self.old.value).limit self.old.labels.present
+        ensures leads { Leads (limits_of (B.fixed self.old.value)) self.old.labels.present
             (B.history self.old.value) (closing label ∷ []) self.new.labels.present
             (B.history self.new.value) [] }
         ensures sound { OnOk result (B.wrong self.new.value ≡ false) }
@@ -194,12 +197,12 @@ impl<B: Runs> Player<B> {
         requires is_open { IsSome (label_in self.old.labels.present label) }
         ensures labels { OnOk result (self.new.labels
             ≡ record self.old.labels { present = without_label label self.old.labels.present }) }
-        ensures ok { OnOk result (AreMade (B.fixed self.old.value).limit
+        ensures ok { OnOk result (AreMade (limits_of (B.fixed self.old.value))
             (bad_size label ∷ closing label ∷ []) self.old.labels self.new.labels
             (B.history self.old.value) (B.history self.new.value) (O.written output.old)
             (O.written output.new)) }
         ensures err { IfErr result IsOfRun }
-        ensures stopped { IfErr result (λ stop. StoppedIn (B.fixed self.old.value).limit stop
+        ensures stopped { IfErr result (λ stop. StoppedIn (limits_of (B.fixed self.old.value)) stop
             (bad_size label ∷ closing label ∷ []) self.old.labels.present (B.history self.old.value)
             self.new.labels.present (B.history self.new.value) (O.written output.old)
             (O.written output.new) (B.wrong self.new.value)) }
@@ -223,12 +226,12 @@ impl<B: Runs> Player<B> {
         ensures labels { OnOk result ((x : Label) → label_in self.old.labels.present label ≡ Some x
             → self.new.labels ≡ fed_labels x piece.now self.old.labels) }
         ensures ok { OnOk result ((x : Label) → label_in self.old.labels.present label ≡ Some x →
-            AreMade (B.fixed self.old.value).limit (fed_calls x piece.now) self.old.labels
+            AreMade (limits_of (B.fixed self.old.value)) (fed_calls x piece.now) self.old.labels
             self.new.labels (B.history self.old.value) (B.history self.new.value)
             (O.written output.old) (O.written output.new)) }
         ensures err { IfErr result IsOfRun }
         ensures stopped { IfErr result (λ stop. (x : Label) → label_in self.old.labels.present label
-            ≡ Some x → StoppedIn (B.fixed self.old.value).limit stop (fed_calls x piece.now)
+            ≡ Some x → StoppedIn (limits_of (B.fixed self.old.value)) stop (fed_calls x piece.now)
             self.old.labels.present (B.history self.old.value) self.new.labels.present
             (B.history self.new.value) (O.written output.old) (O.written output.new)
             (B.wrong self.new.value)) }
@@ -269,13 +272,13 @@ impl<B: Runs> Player<B> {
         requires behind { IsBehind played self.old.labels (B.history self.old.value)
             (B.wrong self.old.value) }
         requires more { played < SCRIPT_BYTES }
-        ensures played { OnOk result (IsPlayed (B.fixed self.old.value).limit text.now
+        ensures played { OnOk result (IsPlayed (limits_of (B.fixed self.old.value)) text.now
             self.old.labels (B.history self.old.value) self.new.labels (B.history self.new.value)
             (O.written output.old) (O.written output.new)) }
         ensures behind { OnOk result (IsBehind (played + 1) self.new.labels
             (B.history self.new.value) (B.wrong self.new.value)) }
-        ensures ends { IfErr result (λ stop. EndsAt (B.fixed self.old.value).limit stop text.now
-            played self.old.labels self.new.labels (B.history self.old.value)
+        ensures ends { IfErr result (λ stop. EndsAt (limits_of (B.fixed self.old.value)) stop
+            text.now played self.old.labels self.new.labels (B.history self.old.value)
             (B.history self.new.value) (O.written output.old) (O.written output.new)
             (B.wrong self.new.value)) }
         ensures outcome { Outcome result (O.faults output.old)
@@ -313,10 +316,10 @@ impl<B: Runs> Player<B> {
         requires fresh { lines.old ≡ record { pending = []; room = SCRIPT_BYTES } }
         requires text { LINE_BYTES ≤ vec_capacity text.old }
         ensures played { IsEven result
-            → PlayedUpTo (B.fixed self.old.value).limit result self.new.labels.present
+            → PlayedUpTo (limits_of (B.fixed self.old.value)) result self.new.labels.present
             (B.history self.new.value)
             (I.left input.old) (I.left input.new) (O.written output.old) (O.written output.new) }
-        ensures stopped { IsOfRun result → StoppedAt (B.fixed self.old.value).limit result
+        ensures stopped { IsOfRun result → StoppedAt (limits_of (B.fixed self.old.value)) result
             self.new.labels.present (B.history self.new.value) (I.left input.old)
             (O.written output.old) (O.written output.new) (B.wrong self.new.value) }
         ensures pulled { IsPulledUpTo (most_pulled result) (I.left input.old) (I.left input.new) }
@@ -343,7 +346,7 @@ impl<B: Runs> Player<B> {
     // Closes the clients of all labels, in the order of opening.
     fn close_all(&mut self)
         requires fits { Fits self.old.labels (B.history self.old.value) }
-        ensures leads { Leads (B.fixed self.old.value).limit self.old.labels.present
+        ensures leads { Leads (limits_of (B.fixed self.old.value)) self.old.labels.present
             (B.history self.old.value) (map closing (map (λ x. x.label) self.old.labels.present)) []
             (B.history self.new.value) [] }
         ensures none { self.new.labels.present ≡ [] }
@@ -378,7 +381,7 @@ pub fn play_script<B: Runs, I: Source, O: Sink>(
     requires empty { B.history value ≡ [] }
     requires sound { B.wrong value ≡ false }
     // Why no more was played, and what is left by it.
-    ensures leaves { LeavesBy result.stop (B.fixed value).limit (B.wrong result.value)
+    ensures leaves { LeavesBy result.stop (limits_of (B.fixed value)) (B.wrong result.value)
         (I.left input.old) (I.left input.new) (O.written output.old) (O.written output.new)
         (B.history result.value) }
     ensures cause { IsCaused result.stop (I.faults input.old) (I.faults input.new)

@@ -6,7 +6,7 @@ use Rattle.tab_spec.specs.declared.TheConstants.{RC_COMMAND_SIZE}
 use Rattle.history_spec.specs.declared.EntryKind.{EntryKind}
 use Rattle.history_spec.specs.declared.EntryKind.TheVariants.{Open, Command, Canceled, Fault, Close}
 use Rattle.history_spec.specs.Entry.{Entry, HasRoom, HasRoomForClient, clients_of, open_entry, close_entry}
-use Rattle.history_spec.specs.Told.{Told}
+use Rattle.history_spec.specs.Told.{Told, Limits}
 use Rattle.tab_spec.specs.Reply.{error_reply}
 use Rattle.script_spec.specs.Calls.{Call, bad_size, closing, command, opening}
 
@@ -58,12 +58,12 @@ MayAddEntry limit old client number bytes covered new =
     (new ≡ old) ⊎ ((e : Entry) × (new ≡ old ++ e ∷ []) × IsEntryFor client number bytes covered e × HasRoom limit old bytes)
 
 -- the label's client is told a reply to its command
-pub record IsAnswered (limit : ℕ) (before : Stage) (label number : ℕ) (bytes : List ℕ) (covered : Option ℕ) (after : Stage)
+pub record IsAnswered (limit : Limits) (before : Stage) (label number : ℕ) (bytes : List ℕ) (covered : Option ℕ) (after : Stage)
     : Type 0 where
   pub client : ℕ
   pub reply : List ℕ
   pub known : client_of before.holders label ≡ Some client
-  pub entry : MayAddEntry limit before.history client number bytes covered after.history
+  pub entry : MayAddEntry limit.bytes before.history client number bytes covered after.history
   pub told : Told after.history limit client number bytes reply
   pub output : after.output ≡ before.output ++ reply_line label reply
   pub holders : after.holders ≡ before.holders
@@ -93,14 +93,14 @@ IsToldBadSize before label after = (client : ℕ) × (client_of before.holders l
   output = before.output ++ reply_line label (error_reply RC_COMMAND_SIZE);
 })
 
-abbrev pub Plays1 : ℕ → Stage → Call → Stage → Type 0
-Plays1 limit before (opening label) after = IsOpened limit before label after
+abbrev pub Plays1 : Limits → Stage → Call → Stage → Type 0
+Plays1 limit before (opening label) after = IsOpened limit.bytes before label after
 Plays1 limit before (command label number bytes covered) after = IsAnswered limit before label number bytes covered after
 Plays1 limit before (bad_size label) after = IsToldBadSize before label after
 Plays1 limit before (closing label) after = IsClosed before label after
 
--- with a journal of this limit the calls lead from a stage to another
-abbrev pub PlaysTo : ℕ → Stage → List Call → Stage → Type 0
+-- within these limits the calls lead from a stage to another
+abbrev pub PlaysTo : Limits → Stage → List Call → Stage → Type 0
 PlaysTo limit before [] after = after ≡ before
 PlaysTo limit before (call ∷ calls) after = (between : Stage) × Plays1 limit before call between × PlaysTo limit between calls after
 
@@ -108,6 +108,6 @@ abbrev pub at_start : Stage
 at_start = record { history = []; holders = []; output = [] }
 
 -- the history and the output are what the calls make: one entry or none for each
-abbrev pub Plays : List Entry → ℕ → List Call → List ℕ → Type 0
+abbrev pub Plays : List Entry → Limits → List Call → List ℕ → Type 0
 Plays history limit calls output =
     (holders : List Holder) × PlaysTo limit at_start calls (record { history = history; holders = holders; output = output })

@@ -9,7 +9,7 @@ ghost use Rattle.script_spec.specs.Script.{script, item_of, piece, close, end, b
 ghost use Rattle.script_spec.specs.Calls.{calls, opening, command, bad_size, closing};
 ghost use Rattle.script_spec.specs.Plays.{reply_line, Plays};
 ghost use Rattle.history_spec.specs.Examples.{get_random, cancel_frame, canceled_first};
-ghost use Rattle.history_spec.specs.Examples.{two_clients};
+ghost use Rattle.history_spec.specs.Examples.{two_clients, limit_of};
 ghost use Rattle.script_spec.specs.Examples.{canceled_between, one_label, two_labels};
 
 // Three lines on two labels, the last without a newline.
@@ -90,21 +90,22 @@ fn replies_are_written_as_lines()
 
 // The label 7 has the client 1.
 fn a_history_and_lines_play_calls()
-    ensures whole { Plays two_clients 4618 two_labels
+    ensures whole { Plays two_clients (limit_of 4618) two_labels
         (codes "0 80010000001400000000000876b8e0ada0f13d90\n7 800100000012000000000006405d6ae55386\n0 800100000010000000000004bdd219b8\n") }
-    ensures short { Plays two_clients 4618 two_labels (codes
-        "0 80010000001400000000000876b8e0ada0f13d90\n7 800100000012000000000006405d6ae55386\n")
+    ensures short { Plays two_clients (limit_of 4618) two_labels
+        (codes "0 80010000001400000000000876b8e0ada0f13d90\n7 800100000012000000000006405d6ae55386\n")
         → ⊥ }
 {}
 
 // The first command is canceled by the piece that completes it.
 fn a_history_has_canceled_commands()
-    ensures whole { Plays (canceled_first ++ close_entry 0 ∷ []) 8192 (one_label (Some 1))
+    ensures whole { Plays (canceled_first ++ close_entry 0 ∷ []) (limit_of 8192)
+        (one_label (Some 1))
         (codes "0 80010000000a00000909\n0 800100000010000000000004bdd219b8\n") }
-    ensures not_covered { Plays (canceled_first ++ close_entry 0 ∷ []) 8192 (one_label None)
-        (codes "0 80010000000a00000909\n0 800100000010000000000004bdd219b8\n")
+    ensures not_covered { Plays (canceled_first ++ close_entry 0 ∷ []) (limit_of 8192)
+        (one_label None) (codes "0 80010000000a00000909\n0 800100000010000000000004bdd219b8\n")
         → ⊥ }
-    ensures other_number { Plays (canceled_first ++ close_entry 0 ∷ []) 8192 (one_label (Some 2))
-        (codes "0 80010000000a00000909\n0 800100000010000000000004bdd219b8\n")
+    ensures other_number { Plays (canceled_first ++ close_entry 0 ∷ []) (limit_of 8192)
+        (one_label (Some 2)) (codes "0 80010000000a00000909\n0 800100000010000000000004bdd219b8\n")
         → ⊥ }
 {}

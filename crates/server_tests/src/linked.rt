@@ -1,7 +1,9 @@
 //! A run over a device behind a Unix socket, whose other end serves a device in memory.
+ghost use Rattle.std.specs.Prelude.{IsTrue};
+ghost use Rattle.device_link.specs.Link.{has_failed};
 
 use crate::runs::{Outcome, RUN, outcome_of, source};
-use device_link::LinkDevice;
+use device_link::{LinkDevice, LinkFault, TpmLink, WatchedLink, Watcher};
 use device_memory::MemoryDevice;
 use device_port::Device;
 use link_port::{MemoryAcceptor, MemorySink, OpenGate};
@@ -54,35 +56,53 @@ fn serve(device: MemoryDevice, stream: UnixStream, reply: Buffer) -> u64 {
     MOST
 }
 
-// What comes of one GetRandom over the device behind these ends. Both are closed then.
+// Is told nothing.
+struct Nobody;
+
+impl Watcher for Nobody {
+    fn link_failed(&self, _fault: LinkFault)
+        requires { IsTrue (has_failed _fault) }
+    {}
+}
+
+// What comes of one GetRandom over the device behind these ends: one of the profile's, or a TPM
+// that needn't be. Both are closed then.
 fn run_over<R: Threads + Wait + Sync>(
     rt: &R,
     alloc: Global,
     ends: (UnixSource, UnixSink),
+    is_tpm: bool,
 ) -> Result<Outcome, AllocError> {
     let device = LinkDevice::new(ends.0, ends.1);
     let nobody = MemoryAcceptor::new(Vec::new(alloc), Vec::new(alloc));
     let input = source(alloc, SCRIPT, u64::MAX)?;
     let output = MemorySink::new(alloc, 1000, Vec::new(alloc))?;
+    if is_tpm {
+        let tpm = TpmLink::new(WatchedLink::new(device, &Nobody));
+        return outcome_of(rt, alloc, RUN, tpm, nobody, &OpenGate, input, output);
+    }
     outcome_of(rt, alloc, RUN, device, nobody, &OpenGate, input, output)
 }
 
+// Over a TPM of the profile, and over one that needn't be.
 #[test]
 fn random_bytes_come_over_a_socket(rt: HostRuntime) -> Result<(), Fail> {
     let alloc = rt.alloc();
-    let path = format!(in alloc; "/tmp/server_tests_{}.device", process::id(rt.process()))?;
-    let listener = UnixListener::bind(&rt, path.as_str())?;
-    let ends = connect(&rt, path.as_str())?;
-    let (stream, _) = listener.accept()?;
-    fs::remove_file(&rt, path.as_str())?;
-    let device = MemoryDevice::new(alloc, [0; 32], Vec::new(alloc))?;
-    let reply = Buffer::new(alloc)?;
-    let (answered, outcome) = thread::join(
-        &rt,
-        move || -> u64 { serve(device, stream, reply) },
-        || -> Result<Outcome, AllocError> { run_over(&rt, alloc, ends) },
-    );
-    let outcome = outcome?;
-    assert!(rt; outcome.ended((0, 0), REPLY, 1000) && outcome.sent == 9 && answered == 9);
+    for is_tpm in [false, true] {
+        let path = format!(in alloc; "/tmp/server_tests_{}.device", process::id(rt.process()))?;
+        let listener = UnixListener::bind(&rt, path.as_str())?;
+        let ends = connect(&rt, path.as_str())?;
+        let (stream, _) = listener.accept()?;
+        fs::remove_file(&rt, path.as_str())?;
+        let device = MemoryDevice::new(alloc, [0; 32], Vec::new(alloc))?;
+        let reply = Buffer::new(alloc)?;
+        let (answered, outcome) = thread::join(
+            &rt,
+            move || -> u64 { serve(device, stream, reply) },
+            || -> Result<Outcome, AllocError> { run_over(&rt, alloc, ends, is_tpm) },
+        );
+        let outcome = outcome?;
+        assert!(rt; outcome.ended((0, 0), REPLY, 1000) && outcome.sent == 9 && answered == 9);
+    }
     Ok(())
 }

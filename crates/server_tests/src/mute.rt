@@ -1,5 +1,6 @@
 //! What comes of words over a device that tells no state, and answers rightly or wrongly.
 ghost use Rattle.std.specs.Prelude.{◌≡◌, ◌≤◌, None, length, refl};
+ghost use Rattle.tab_spec.specs.declared.contexts.TheConstants.{PROFILE_CONTEXTS};
 
 use crate::faults::SCRIPT;
 use crate::runs::{AUDITED, Outcome, RUN, ZERO_SEED, outcome_of, source};
@@ -10,6 +11,7 @@ use std::sync::Wait;
 use std::test::Fail;
 use std::thread::Threads;
 use tab_bytes::Buffer;
+use tab_spec::{ContextLimits, PROFILE_CONTEXTS};
 
 // The response that tells that the device had started before.
 pub(crate) const STARTED_BEFORE: &[u8] = &[0x80, 0x01, 0, 0, 0, 10, 0, 0, 0x01, 0];
@@ -96,7 +98,15 @@ impl Device for Mute {
       trace = d.trace;
     } };
 
+    ghost CONTEXTS = { PROFILE_CONTEXTS };
+
+    const CONTEXTS: ContextLimits = PROFILE_CONTEXTS;
+
     ghost told_together = { λ _. refl };
+
+    ghost profile = { λ _. tt };
+
+    ghost short = { refl };
 
     fn transmit(&mut self, command: &[u8], reply: &mut Buffer) -> Result<(), DeviceFailed> {
         match self.trace.sent() {

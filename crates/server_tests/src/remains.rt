@@ -1,5 +1,6 @@
 //! What comes of a run over a device that holds what an earlier broker left.
 ghost use Rattle.std.specs.Prelude.{◌≡◌, None, refl};
+ghost use Rattle.tab_spec.specs.declared.contexts.TheConstants.{PROFILE_CONTEXTS};
 
 use crate::runs::{Outcome, RUN, outcome_of, source};
 use device_memory::MemoryDevice;
@@ -10,6 +11,7 @@ use std::sync::Wait;
 use std::test::Fail;
 use std::thread::Threads;
 use tab_bytes::Buffer;
+use tab_spec::{ContextLimits, PROFILE_CONTEXTS};
 
 // TPM2_Startup, TPM2_CreatePrimary of an HMAC key, TPM2_StartAuthSession of an HMAC session, and
 // TPM2_ContextSave of the first session.
@@ -51,7 +53,15 @@ impl Device for Hidden {
       trace = d.device.trace;
     } };
 
+    ghost CONTEXTS = { PROFILE_CONTEXTS };
+
+    const CONTEXTS: ContextLimits = PROFILE_CONTEXTS;
+
     ghost told_together = { λ _. refl };
+
+    ghost profile = { λ _. tt };
+
+    ghost short = { refl };
 
     fn transmit(&mut self, command: &[u8], reply: &mut Buffer) -> Result<(), DeviceFailed> {
         self.device.transmit(command, reply)

@@ -6,6 +6,7 @@ use Rattle.std.proofs.lemmas.Bool.{eqb-false, false≢true}
 use Rattle.std.proofs.lemmas.Result.{on_ok_weaker}
 use Rattle.tab_spec.specs.declared.numbers.Numbers.{Numbers}
 use Rattle.tab_spec.specs.Shape.{number_of_session}
+use Rattle.tab_spec.specs.declared.contexts.ContextLimits.{ContextLimits}
 use Rattle.device_spec.specs.Slots.{SlotState}
 use Rattle.device_port.specs.Device.{Seen, sent_of}
 use Rattle.device_port.specs.Use.{all_used, used_after}
@@ -132,12 +133,12 @@ filled_saved [] order = refl
 filled_saved (number ∷ numbers) order = filled_saved numbers (order_in number order)
 
 -- sessions are saved, and then those that are needed are loaded
-pub room_made : {D : Type 0} (numbers : Numbers) (seen : D → Seen) (a b c : D) (needed : List ℕ) (new most count : ℕ) (xs ys zs : List Record)
+pub room_made : {contexts : ContextLimits} {D : Type 0} (numbers : Numbers) (seen : D → Seen) (a b c : D) (needed : List ℕ) (new most count : ℕ) (xs ys zs : List Record)
     (next mid_next : ℕ) (first mid last : OrderView) (result : Result (Unit {0}) SwapError)
     → Room numbers xs needed new most count → AreNamed needed (items_of xs) → Evicts seen a b xs ys first mid needed (most - count) (Ok tt)
     → (loaded_items (items_of xs) ≤ most - count → (b ≡ a) × (ys ≡ xs) × (mid_next ≡ next) × (done ≡ Ok tt))
     → Fills seen b c ys zs mid last needed result → Lists last.loaded (items_of zs)
-    → MakesRoom seen a c needed new (view_with numbers xs next first) (view_with numbers zs mid_next last) result
+    → MakesRoom seen a c needed new (view_with numbers xs next first contexts) (view_with numbers zs mid_next last contexts) result
 room_made numbers seen a b c needed new most count xs ys zs next mid_next first mid last result room named cleared still filled listed =
     let missing_is = missing_same needed (items_of xs) (items_of ys) named cleared.stay in
     let out = out_of numbers xs needed new most count room in
@@ -188,11 +189,11 @@ room_made numbers seen a b c needed new most count xs ys zs next mid_next first 
     }
 
 -- where not all of them were saved that had to be
-pub room_failed : {D : Type 0} (numbers : Numbers) (seen : D → Seen) (a b : D) (needed : List ℕ) (new most count : ℕ) (xs ys : List Record)
+pub room_failed : {contexts : ContextLimits} {D : Type 0} (numbers : Numbers) (seen : D → Seen) (a b : D) (needed : List ℕ) (new most count : ℕ) (xs ys : List Record)
     (next new_next : ℕ) (first last : OrderView) (result : Result (Unit {0}) SwapError) (e : SwapError)
     → Room numbers xs needed new most count → Evicts seen a b xs ys first last needed (most - count) (Err e)
     → (loaded_items (items_of xs) ≤ most - count → (b ≡ a) × (ys ≡ xs) × (new_next ≡ next) × (failing e ≡ Ok tt))
-    → result ≡ Err e → Lists last.loaded (items_of ys) → MakesRoom seen a b needed new (view_with numbers xs next first) (view_with numbers ys new_next last) result
+    → result ≡ Err e → Lists last.loaded (items_of ys) → MakesRoom seen a b needed new (view_with numbers xs next first contexts) (view_with numbers ys new_next last contexts) result
 room_failed numbers seen a b needed new most count xs ys next new_next first last result e room cleared still failed listed =
     let out = out_of numbers xs needed new most count room in
     record {

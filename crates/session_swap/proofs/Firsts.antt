@@ -7,6 +7,7 @@ use Rattle.tab_spec.specs.Shape.{number_of_session}
 use Rattle.device_spec.specs.Slots.{SlotState, gap_from}
 use Rattle.device_port.specs.Use.{used_after}
 use Rattle.tab_spec.specs.declared.numbers.Numbers.{Numbers}
+use Rattle.tab_spec.specs.declared.contexts.ContextLimits.{ContextLimits}
 use Rattle.session_swap.specs.declared.record.Record.{Record}
 use Rattle.session_swap.specs.Items.{IsFirst, IsOldest, IsSavedAgain, Item, ListsThose, Rise, SessionsView, Stand, first_number, full_kept, gap_first, gap_kept, is_saved_item, item_at, number_at, number_of_item, numbers_along, oldest_number}
 use Rattle.session_swap.specs.Moves.{IsOldestAt}
@@ -99,9 +100,9 @@ first_inside records lent order None listed is same = tt {0}
 first_inside records lent order (Some number) listed is same =
     omega (arith, first_below records order number listed (sym is), ap (λ (l : List Record). length l) same)
 
-pub first_named : (numbers : Numbers) (records : List Record) (next held : ℕ) (order : OrderView) (left : List ℕ) (number : ℕ) (r : Record)
-    → AreListed numbers records order left held
-    → slice_get order.saved 0 ≡ Some number → r ≡ get_or records number r → IsFirst (whole_view numbers records next order left) r.handle
+pub first_named : {contexts : ContextLimits} (numbers : Numbers) (records : List Record) (next held : ℕ) (order : OrderView) (left : List ℕ)
+    (number : ℕ) (r : Record) → AreListed contexts numbers records order left held
+    → slice_get order.saved 0 ≡ Some number → r ≡ get_or records number r → IsFirst (whole_view numbers records next order left contexts) r.handle
 first_named numbers records next held order left number r kept is there =
     let items = items_of records in
     let saved = first_is_saved records order number kept.listed is in
@@ -119,11 +120,19 @@ first_named numbers records next held order left number r kept is there =
 
 -- ---- saved again
 
-pub saved_again : (numbers : Numbers) (order new_order : OrderView) (left : List ℕ) (old new_items : List (Option Item)) (view : SessionsView)
-    (count new_next next n handle : ℕ) → count ≡ full_kept view
-    → record { numbers = numbers; items = old; next = next; order = order.loaded; saved = order.saved; left = left } ≡ view
+pub saved_again : {contexts : ContextLimits} (numbers : Numbers) (order new_order : OrderView) (left : List ℕ) (old new_items : List (Option Item))
+    (view : SessionsView) (count new_next next n handle : ℕ) → count ≡ full_kept view
+    → record { numbers = numbers; items = old; next = next; order = order.loaded; saved = order.saved; left = left; contexts = contexts } ≡ view
     → n ≡ number_of_session handle → new_order ≡ order_renewed count n order
-    → IsSavedAgain view (record { numbers = numbers; items = new_items; next = new_next; order = new_order.loaded; saved = new_order.saved; left = left }) handle
+    → IsSavedAgain view (record {
+      numbers = numbers;
+      items = new_items;
+      next = new_next;
+      order = new_order.loaded;
+      saved = new_order.saved;
+      left = left;
+      contexts = contexts;
+    }) handle
 saved_again numbers order new_order left old new_items view kept new_next next n handle count is here renewed =
     record {
       order = ap (λ (o : OrderView). o.loaded) renewed ∙ ap (λ (k : ℕ). drop k order.loaded) count

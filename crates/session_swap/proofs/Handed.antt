@@ -7,6 +7,8 @@ use Rattle.tab_spec.specs.declared.numbers.Numbers.{Numbers}
 use Rattle.tab_spec.specs.declared.TheConstants.{HEADER_BYTES}
 use Rattle.tab_spec.specs.Session.{Session}
 use Rattle.tab_spec.specs.Shape.{number_of_session}
+use Rattle.tab_spec.specs.declared.contexts.ContextLimits.{ContextLimits}
+use Rattle.tab_spec.specs.declared.contexts.TheConstants.{PROFILE_CONTEXTS}
 use Rattle.device_spec.specs.ContextCommands.{context_save_command}
 use Rattle.device_spec.specs.Slots.{SlotState}
 use Rattle.device_port.specs.Device.{Seen}
@@ -48,9 +50,9 @@ handed_item r new is =
     ∙ ap (λ (bytes : List ℕ). item_in r.place r.client r.handle r.context.items (Some bytes)) is.handed
     ∙ in_both r.place r.client r.handle r.context.items (handed_of r)
 
-handed_sound : (r new : Record) → IsRecord r → IsHandedOut r new → IsRecord new
-handed_sound r new sound is =
-    subst (λ (r : Record). IsRecord r) (sym is.same)
+handed_sound : {contexts : ContextLimits} (r new : Record) → IsRecord contexts r → IsHandedOut r new → IsRecord contexts new
+handed_sound {contexts = contexts} r new sound is =
+    subst (λ (r : Record). IsRecord contexts r) (sym is.same)
     (record { room = sound.room; handed_room = omega (arith, sound.handed_room, is.room); context = sound.context })
 
 -- ---- its item
@@ -76,20 +78,20 @@ both_parts bytes (Some item) = refl
 -- ---- after a save
 
 -- the session of this number was saved in this context, and that was handed out then
-pub record Hands (items : List (Option Item)) (mid : List Record) (n : ℕ) (bytes : List ℕ) (r new : Record) : Type 0 where
+pub record Hands (contexts : ContextLimits) (items : List (Option Item)) (mid : List Record) (n : ℕ) (bytes : List ℕ) (r new : Record) : Type 0 where
   pub fits : n < length items
-  pub sound : AreRecords mid
+  pub sound : AreRecords contexts mid
   pub saved : is_saved_item (item_at (items_of mid) n) ≡ true
   pub items_are : items_of mid ≡ set items n (with_context bytes (item_at items n))
   pub there : r ≡ get_or mid n r
   pub is : IsHandedOut r new
 
-at_mid : (items : List (Option Item)) (mid : List Record) (n : ℕ) (bytes : List ℕ) (r new : Record) → Hands items mid n bytes r new
-    → IsSavedAt mid n r
-at_mid items mid n bytes r new hands =
-    subst (λ (r : Record). IsSavedAt mid n r) (sym hands.there) (saved_at mid n r hands.sound hands.saved)
+at_mid : {contexts : ContextLimits} (items : List (Option Item)) (mid : List Record) (n : ℕ) (bytes : List ℕ) (r new : Record) → Hands contexts items mid n bytes r new
+    → IsSavedAt contexts mid n r
+at_mid {contexts = contexts} items mid n bytes r new hands =
+    subst (λ (r : Record). IsSavedAt contexts mid n r) (sym hands.there) (saved_at mid n r hands.sound hands.saved)
 
-bytes_kept : (items : List (Option Item)) (mid : List Record) (n : ℕ) (bytes : List ℕ) (r new : Record) → Hands items mid n bytes r new
+bytes_kept : {contexts : ContextLimits} (items : List (Option Item)) (mid : List Record) (n : ℕ) (bytes : List ℕ) (r new : Record) → Hands contexts items mid n bytes r new
     → r.context.items ≡ bytes
 bytes_kept items mid n bytes r new hands =
     let at = at_mid items mid n bytes r new hands in
@@ -99,7 +101,7 @@ bytes_kept items mid n bytes r new hands =
     context_same (item_at items n) bytes r.context.items r.client (handed_of r) r.handle at.number (sym at.was ∙ here)
 
 -- of the items alone, this one got another one handed out
-item_handed : (items : List (Option Item)) (mid : List Record) (n : ℕ) (bytes : List ℕ) (r new : Record) → Hands items mid n bytes r new
+item_handed : {contexts : ContextLimits} (items : List (Option Item)) (mid : List Record) (n : ℕ) (bytes : List ℕ) (r new : Record) → Hands contexts items mid n bytes r new
     → items_of (set mid n new) ≡ set (items_of mid) n (with_handed bytes (item_at (items_of mid) n))
 item_handed items mid n bytes r new hands =
     let at = at_mid items mid n bytes r new hands in
@@ -107,8 +109,8 @@ item_handed items mid n bytes r new hands =
     items_set mid n new (with_handed bytes (item_at (items_of mid) n))
     (handed_item r new hands.is ∙ (λ i. with_handed (bytes_kept items mid n bytes r new hands i) (sym here i)))
 
-pub items_handed : (items : List (Option Item)) (mid : List Record) (n : ℕ) (bytes : List ℕ) (r new : Record)
-    → Hands items mid n bytes r new
+pub items_handed : {contexts : ContextLimits} (items : List (Option Item)) (mid : List Record) (n : ℕ) (bytes : List ℕ) (r new : Record)
+    → Hands contexts items mid n bytes r new
     → items_of (set mid n new) ≡ set items n (saved_by_client bytes (item_at items n))
 items_handed items mid n bytes r new hands =
     let kept = with_context bytes (item_at items n) in
@@ -119,8 +121,8 @@ items_handed items mid n bytes r new hands =
     ∙ set-set items n kept (with_handed bytes kept)
     ∙ ap (set items n) (both_parts bytes (item_at items n))
 
-handed_records : (items : List (Option Item)) (mid : List Record) (n : ℕ) (bytes : List ℕ) (r new : Record)
-    → Hands items mid n bytes r new → AreRecords (set mid n new)
+handed_records : {contexts : ContextLimits} (items : List (Option Item)) (mid : List Record) (n : ℕ) (bytes : List ℕ) (r new : Record)
+    → Hands contexts items mid n bytes r new → AreRecords contexts (set mid n new)
 handed_records items mid n bytes r new hands =
     let at = at_mid items mid n bytes r new hands in
     let handle : IfSome (with_handed r.context.items (item_of_record r)) (λ item. IsHandleOf n item) =
@@ -137,14 +139,22 @@ stand_handed None view others n bytes stand inside = tt
 stand_handed (Some slots) view others n bytes stand inside =
     stands_held slots view view.left others n (with_handed bytes (item_at view.items n)) stand inside (handed_held bytes (item_at view.items n))
 
-pub ready_handed : (numbers : Numbers) (state : Option SlotState) (items : List (Option Item)) (mid : List Record) (next n : ℕ) (bytes : List ℕ) (r new : Record)
-    (others : List ℕ) → Hands items mid n bytes r new → Stand state (view_of numbers mid next) others
-    → Ready state numbers (set mid n new) next others
+pub ready_handed : {contexts : ContextLimits} (numbers : Numbers) (state : Option SlotState) (items : List (Option Item)) (mid : List Record) (next n : ℕ) (bytes : List ℕ) (r new : Record)
+    (others : List ℕ) → Hands contexts items mid n bytes r new → Stand state (view_of numbers mid next) others
+    → Ready contexts state numbers (set mid n new) next others
 ready_handed numbers state items mid next n bytes r new others hands stand =
     let at = at_mid items mid n bytes r new hands in
     record {
       sound = handed_records items mid n bytes r new hands;
-      stand = subst (λ (l : List (Option Item)). Stand state (record { numbers = numbers; items = l; next = next; order = []; saved = []; left = [] }) others)
+      stand = subst (λ (l : List (Option Item)). Stand state (record {
+        numbers = numbers;
+        items = l;
+        next = next;
+        order = [];
+        saved = [];
+        left = [];
+        contexts = PROFILE_CONTEXTS;
+      }) others)
           (sym (item_handed items mid n bytes r new hands))
           (stand_handed state (view_of numbers mid next) others n bytes stand (omega (arith, at.inside, length-map mid item_of_record)));
     }
@@ -156,20 +166,20 @@ some_sessions (Some slots) items n bytes =
     ap (λ (sessions : List (Option Session)). Some sessions)
     (sessions_held slots items n (with_handed bytes (item_at items n)) (handed_held bytes (item_at items n)))
 
-pub sessions_handed : (state : Option SlotState) (items : List (Option Item)) (mid : List Record) (n : ℕ) (bytes : List ℕ) (r new : Record)
-    → Hands items mid n bytes r new → sessions_of state (items_of (set mid n new)) ≡ sessions_of state (items_of mid)
+pub sessions_handed : {contexts : ContextLimits} (state : Option SlotState) (items : List (Option Item)) (mid : List Record) (n : ℕ) (bytes : List ℕ) (r new : Record)
+    → Hands contexts items mid n bytes r new → sessions_of state (items_of (set mid n new)) ≡ sessions_of state (items_of mid)
 sessions_handed state items mid n bytes r new hands =
     ap (sessions_of state) (item_handed items mid n bytes r new hands) ∙ some_sessions state (items_of mid) n bytes
 
 -- ---- a save of one's own session
 
 -- there is room for the context
-pub room_to_hand : (mid : List Record) (n : ℕ) (d : Record) → AreRecords mid → is_saved_item (item_at (items_of mid) n) ≡ true
+pub room_to_hand : {contexts : ContextLimits} (mid : List Record) (n : ℕ) (d : Record) → AreRecords contexts mid → is_saved_item (item_at (items_of mid) n) ≡ true
     → length (get_or mid n d).context.items ≤ vec_capacity (get_or mid n d).handed
-room_to_hand mid n d sound saved =
+room_to_hand {contexts = contexts} mid n d sound saved =
     let r = get_or mid n d in
     let at = saved_at mid n d sound saved in
-    omega (arith, (is_saved r.handle at.number r.context.items at.handle.session at.context).most, at.sound.handed_room)
+    omega (arith, (is_saved contexts r.handle at.number r.context.items at.handle.session at.context).most, at.sound.handed_room)
 
 -- what a handle names is loaded
 pub record IsLoadedUnder (items : List (Option Item)) (handle n : ℕ) : Type 0 where
@@ -186,10 +196,10 @@ loaded_there items handle n under =
     ∙ loaded_whole handle (item_at items (number_of_session handle)) under.loaded
 
 -- it was saved, and its context was handed out
-pub hands_of : (items : List (Option Item)) (mid : List Record) (handle n : ℕ) (last : Option (List ℕ)) (reply : List ℕ) (next : ℕ)
-    (d new : Record) → IsLoadedUnder items handle n → AreRecords mid → is_saved_item (item_at (items_of mid) n) ≡ true
+pub hands_of : {contexts : ContextLimits} (items : List (Option Item)) (mid : List Record) (handle n : ℕ) (last : Option (List ℕ)) (reply : List ℕ) (next : ℕ)
+    (d new : Record) → IsLoadedUnder items handle n → AreRecords contexts mid → is_saved_item (item_at (items_of mid) n) ≡ true
     → KeepsReply last reply items (items_of mid) n next → d ≡ get_or mid n d → IsHandedOut (get_or mid n d) new
-    → Hands items mid n (drop HEADER_BYTES reply) (get_or mid n d) new
+    → Hands contexts items mid n (drop HEADER_BYTES reply) (get_or mid n d) new
 hands_of items mid handle n last reply next d new under sound saved kept there is = record {
   fits = loaded_inside items n (loaded_there items handle n under);
   sound = sound;
@@ -217,27 +227,27 @@ under_of items handle n under =
       handle_is = has.handle_is;
     }
 
-pub asks_told : {D A : Type 0} (seen : D → Seen) (old new : D) (result : Result A SwapError) (items : List (Option Item)) (handle n : ℕ)
-    → IsLoadedUnder items handle n → IsSomeAnd (item_at items n) (λ item. Asks seen old new (context_save_command item.handle) result)
-    → Asks seen old new (context_save_command handle) result
-asks_told seen old new result items handle n under asks =
+pub asks_told : {contexts : ContextLimits} {D A : Type 0} (seen : D → Seen) (old new : D) (result : Result A SwapError) (items : List (Option Item)) (handle n : ℕ)
+    → IsLoadedUnder items handle n → IsSomeAnd (item_at items n) (λ item. Asks contexts seen old new (context_save_command item.handle) result)
+    → Asks contexts seen old new (context_save_command handle) result
+asks_told {contexts = contexts} seen old new result items handle n under asks =
     let its = under_of items handle n under in
-    let own = subst (λ (item : Option Item). IsSomeAnd item (λ item. Asks seen old new (context_save_command item.handle) result)) its.at asks in
-    subst (λ (h : ℕ). Asks seen old new (context_save_command h) result) its.handle_is own
+    let own = subst (λ (item : Option Item). IsSomeAnd item (λ item. Asks contexts seen old new (context_save_command item.handle) result)) its.at asks in
+    subst (λ (h : ℕ). Asks contexts seen old new (context_save_command h) result) its.handle_is own
 
 -- the response has its context
 abbrev pub HasContext : Option SlotState → List ℕ → ℕ → Option Item → Type 0
 HasContext state reply handle item =
     IfSome state (λ slots. HandsOut slots handle (item_session slots item) reply)
 
-pub replies_told : (state : Option SlotState) (items : List (Option Item)) (handle n : ℕ) (reply : List ℕ) → IsLoadedUnder items handle n
-    → IsSomeAnd (item_at items n) (λ item. RepliesOf state reply item)
-    → Succeeds (context_save_command handle) reply × HasContext state reply handle (item_of items handle)
-replies_told state items handle n reply under told =
+pub replies_told : {contexts : ContextLimits} (state : Option SlotState) (items : List (Option Item)) (handle n : ℕ) (reply : List ℕ) → IsLoadedUnder items handle n
+    → IsSomeAnd (item_at items n) (λ item. RepliesOf contexts state reply item)
+    → Succeeds contexts (context_save_command handle) reply × HasContext state reply handle (item_of items handle)
+replies_told {contexts = contexts} state items handle n reply under told =
     let its = under_of items handle n under in
-    let is : RepliesOf state reply its.item =
-    subst (λ (item : Option Item). IsSomeAnd item (λ item. RepliesOf state reply item)) its.at told in (
-      subst (λ (handle : ℕ). Succeeds (context_save_command handle) reply) its.handle_is is.success,
+    let is : RepliesOf contexts state reply its.item =
+    subst (λ (item : Option Item). IsSomeAnd item (λ item. RepliesOf contexts state reply item)) its.at told in (
+      subst (λ (handle : ℕ). Succeeds contexts (context_save_command handle) reply) its.handle_is is.success,
       subst (λ (item : Option Item). HasContext state reply handle item) (sym its.of)
           (subst (λ (handle : ℕ). HasContext state reply handle (Some its.item)) its.handle_is is.context),
     )
@@ -268,20 +278,20 @@ handed_some client bytes None is = absurd cc
 handed_some client bytes (Some item) is = refl
 
 -- what a context that is given back leaves
-pub record GivenBack (numbers : Numbers) (new_records : List Record) (next : ℕ) (order : OrderView) (new_left : List ℕ) (held : ℕ)
-    (view : SessionsView) (client number : ℕ) : Type 0 where
-  pub kept : AreListed numbers new_records order new_left held
-  pub view_is : whole_view numbers new_records next order new_left ≡ altered (taken_back client) without_one number view
-  pub stand : (slots : SlotState) → SessionsStand slots view [] → SessionsStand slots (whole_view numbers new_records next order new_left) []
+pub record GivenBack (contexts : ContextLimits) (numbers : Numbers) (new_records : List Record) (next : ℕ) (order : OrderView) (new_left : List ℕ)
+    (held : ℕ) (view : SessionsView) (client number : ℕ) : Type 0 where
+  pub kept : AreListed contexts numbers new_records order new_left held
+  pub view_is : whole_view numbers new_records next order new_left contexts ≡ altered (taken_back client) without_one number view
+  pub stand : (slots : SlotState) → SessionsStand slots view [] → SessionsStand slots (whole_view numbers new_records next order new_left contexts) []
   pub sessions : (slots : SlotState) → map (item_session slots) (items_of new_records) ≡ map (item_session slots) view.items
 
-pub given_back : {numbers : Numbers} {next : ℕ} {view : SessionsView} (records found : List Record) (order : OrderView) (left new_left : List ℕ)
-    (held client handle n : ℕ) (bytes : List ℕ) (r : Record)
-    → AreListed numbers records order left held → whole_view numbers records next order left ≡ view → found ≡ records
+pub given_back : {contexts : ContextLimits} {numbers : Numbers} {next : ℕ} {view : SessionsView} (records found : List Record) (order : OrderView)
+    (left new_left : List ℕ) (held client handle n : ℕ) (bytes : List ℕ) (r : Record)
+    → AreListed contexts numbers records order left held → whole_view numbers records next order left contexts ≡ view → found ≡ records
     → is_handed_to client bytes (item_of (items_of found) handle) ≡ true → n ≡ number_of_session handle → r ≡ get_or records n r
     → new_left ≡ without_one (number_of_session handle) left
-    → GivenBack numbers (set records n (with_holder (Some client) true r)) next order new_left held view client (number_of_session handle)
-given_back {numbers} {next} {view} records found order left new_left held client handle n bytes r kept view_is found_is handed number_is there left_is =
+    → GivenBack contexts numbers (set records n (with_holder (Some client) true r)) next order new_left held view client (number_of_session handle)
+given_back {numbers = numbers} {next = next} {view = view} records found order left new_left held client handle n bytes r kept view_is found_is handed number_is there left_is =
     let items = items_of records in
     let number = number_of_session handle in
     let given = subst (λ (l : List Record). is_handed_to client bytes (item_of (items_of l) handle) ≡ true) found_is handed in

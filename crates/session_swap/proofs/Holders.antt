@@ -4,6 +4,7 @@ use Rattle.std.specs.Prelude.{Option, Some, None, is_some, IfSome}
 use Rattle.std.specs.List.{count_by}
 use Rattle.std.proofs.lemmas.List.{map-set}
 use Rattle.tab_spec.specs.declared.numbers.Numbers.{Numbers}
+use Rattle.tab_spec.specs.declared.contexts.ContextLimits.{ContextLimits}
 use Rattle.session_swap.specs.declared.record.Place.{Place}
 use Rattle.session_swap.specs.declared.record.Place.TheVariants as places
 use Rattle.session_swap.specs.declared.record.Record.{Record}
@@ -101,10 +102,10 @@ held_handle : (number : ℕ) (client : Option ℕ) (handed : Option (List ℕ)) 
 held_handle number client handed None is = tt
 held_handle number client handed (Some item) is = record { session = is.session; number_is = is.number_is }
 
-altered_records : (records : List Record) (n : ℕ) (r : Record) (client : Option ℕ) (in_use : Bool) (item : Option Item)
-    → AreRecords records → Alters records n r client in_use item → AreRecords (set records n (with_holder client in_use r))
-altered_records records n r client in_use item sound alters =
-    let was : IsRecord r = subst (λ (r : Record). IsRecord r) (sym alters.there) (sound.each n r alters.inside) in
+altered_records : {contexts : ContextLimits} (records : List Record) (n : ℕ) (r : Record) (client : Option ℕ) (in_use : Bool) (item : Option Item)
+    → AreRecords contexts records → Alters records n r client in_use item → AreRecords contexts (set records n (with_holder client in_use r))
+altered_records {contexts = contexts} records n r client in_use item sound alters =
+    let was : IsRecord contexts r = subst (λ (r : Record). IsRecord contexts r) (sym alters.there) (sound.each n r alters.inside) in
     records_set records n (with_holder client in_use r) sound alters.inside
     (record { room = was.room; handed_room = was.handed_room; context = was.context })
     (subst (λ (o : Option Item). IfSome o (λ item. IsHandleOf n item)) (sym (altered_as records n r client in_use item alters))
@@ -113,11 +114,11 @@ altered_records records n r client in_use item sound alters =
 -- ---- all that is kept
 
 -- it counts as loaded or saved as before; which sessions are left, and how many are held, is given
-pub kept_altered : {numbers : Numbers} (records : List Record) (order : OrderView) (left new_left : List ℕ) (held new_held n : ℕ) (r : Record)
-    (client : Option ℕ) (in_use : Bool) (item : Option Item)
-    → AreListed numbers records order left held → Alters records n r client in_use item
+pub kept_altered : {contexts : ContextLimits} {numbers : Numbers} (records : List Record) (order : OrderView) (left new_left : List ℕ)
+    (held new_held n : ℕ) (r : Record) (client : Option ℕ) (in_use : Bool) (item : Option Item)
+    → AreListed contexts numbers records order left held → Alters records n r client in_use item
     → ListsThose is_left new_left (set (items_of records) n item) → new_held ≡ count_by is_held (set (items_of records) n item)
-    → AreListed numbers (set records n (with_holder client in_use r)) order new_left new_held
+    → AreListed contexts numbers (set records n (with_holder client in_use r)) order new_left new_held
 kept_altered records order left new_left held new_held n r client in_use item kept alters left_are held_is =
     let items = items_of records in
     let handed = handed_by in_use r.handed.items in
@@ -144,14 +145,23 @@ kept_altered records order left new_left held new_held n r client in_use item ke
 abbrev pub altered : (Option Item → Option Item) → (ℕ → List ℕ → List ℕ) → ℕ → SessionsView → SessionsView
 altered change leave n view = record view { items = set view.items n (change (item_at view.items n)); left = leave n view.left }
 
-pub altered_view : (change : Option Item → Option Item) (leave : ℕ → List ℕ → List ℕ) (numbers : Numbers) (records : List Record) (next : ℕ)
-    (order : OrderView) (left new_left : List ℕ) (view : SessionsView) (n number : ℕ) (r : Record) (client : Option ℕ) (in_use : Bool)
-    → whole_view numbers records next order left ≡ view → n ≡ number
+pub altered_view : {contexts : ContextLimits} (change : Option Item → Option Item) (leave : ℕ → List ℕ → List ℕ) (numbers : Numbers)
+    (records : List Record) (next : ℕ) (order : OrderView) (left new_left : List ℕ) (view : SessionsView) (n number : ℕ) (r : Record)
+    (client : Option ℕ) (in_use : Bool)
+    → whole_view numbers records next order left contexts ≡ view → n ≡ number
     → Alters records n r client in_use (change (item_at (items_of records) n)) → new_left ≡ leave n left
-    → whole_view numbers (set records n (with_holder client in_use r)) next order new_left ≡ altered change leave number view
-altered_view change leave numbers records next order left new_left view n number r client in_use view_is number_is alters left_is =
+    → whole_view numbers (set records n (with_holder client in_use r)) next order new_left contexts ≡ altered change leave number view
+altered_view {contexts = contexts} change leave numbers records next order left new_left view n number r client in_use view_is number_is alters left_is =
     let items_are = altered_items records n r client in_use (change (item_at (items_of records) n)) alters in
-    let here : whole_view numbers (set records n (with_holder client in_use r)) next order new_left
-    ≡ altered change leave n (whole_view numbers records next order left) =
-    λ i. record { numbers = numbers; items = items_are i; next = next; order = order.loaded; saved = order.saved; left = left_is i } in
+    let here : whole_view numbers (set records n (with_holder client in_use r)) next order new_left contexts
+    ≡ altered change leave n (whole_view numbers records next order left contexts) =
+    λ i. record {
+      numbers = numbers;
+      items = items_are i;
+      next = next;
+      order = order.loaded;
+      saved = order.saved;
+      left = left_is i;
+      contexts = contexts;
+    } in
     here ∙ ap (altered change leave n) view_is ∙ ap (λ (k : ℕ). altered change leave k view) number_is

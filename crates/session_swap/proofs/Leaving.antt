@@ -6,6 +6,7 @@ use Rattle.std.proofs.lemmas.List.Sums.{count_by-le-length}
 use Rattle.tab_spec.specs.Shape.{number_of_session}
 use Rattle.tab_spec.specs.declared.TheConstants.{SESSION_NUMBERS}
 use Rattle.tab_spec.specs.declared.numbers.Numbers.{Numbers}
+use Rattle.tab_spec.specs.declared.contexts.ContextLimits.{ContextLimits}
 use Rattle.session_swap.specs.declared.record.Record.{Record}
 use Rattle.session_swap.specs.Items.{ListsThose, SessionsView, is_held, is_left, is_saved_for_owner, item_at, item_of, left_behind}
 use Rattle.session_swap.specs.Records.{AreListed, OrderView, item_of_record, items_of, whole_view}
@@ -18,8 +19,9 @@ use Rattle.session_swap.proofs.Owners.{behind_counts, behind_left, count_unchang
 abbrev pub at_end : ℕ → List ℕ → List ℕ
 at_end number numbers = numbers ++ number ∷ []
 
-module _ (numbers : Numbers) (records : List Record) (next : ℕ) (order : OrderView) (left : List ℕ) (held : ℕ) (view : SessionsView) (handle n : ℕ)
-    (kept : AreListed numbers records order left held) (view_is : whole_view numbers records next order left ≡ view)
+module _ {contexts : ContextLimits} (numbers : Numbers) (records : List Record) (next : ℕ) (order : OrderView) (left : List ℕ) (held : ℕ)
+    (view : SessionsView) (handle n : ℕ)
+    (kept : AreListed contexts numbers records order left held) (view_is : whole_view numbers records next order left contexts ≡ view)
     (saved : is_saved_for_owner (item_of view.items handle) ≡ true) (number_is : n ≡ number_of_session handle) where
   was_saved : is_saved_for_owner (item_at (items_of records) n) ≡ true
   was_saved =
@@ -53,7 +55,7 @@ module _ (numbers : Numbers) (records : List Record) (next : ℕ) (order : Order
       )
 
   pub leaves_kept : (new_left : List ℕ) (r : Record) → r ≡ get_or records n r → new_left ≡ left ++ n ∷ []
-      → AreListed numbers (set records n (with_holder None r.in_use r)) order new_left held
+      → AreListed contexts numbers (set records n (with_holder None r.in_use r)) order new_left held
   leaves_kept new_left r there is =
       let items = items_of records in
       let item = left_behind (item_at items n) in
@@ -64,7 +66,7 @@ module _ (numbers : Numbers) (records : List Record) (next : ℕ) (order : Order
       (behind_counts (item_at items n) was_saved ∙ sym (owner_held (item_at items n) (saved_owner (item_at items n) was_saved)))))
 
   pub leaves_view : (new_left : List ℕ) (r : Record) → r ≡ get_or records n r → new_left ≡ left ++ n ∷ []
-      → whole_view numbers (set records n (with_holder None r.in_use r)) next order new_left
+      → whole_view numbers (set records n (with_holder None r.in_use r)) next order new_left contexts
       ≡ altered left_behind at_end (number_of_session handle) view
   leaves_view new_left r there is =
       altered_view left_behind at_end numbers records next order left new_left view n (number_of_session handle) r None r.in_use view_is number_is

@@ -10,6 +10,7 @@ use Rattle.std.proofs.lemmas.List.Sums.{sum_by-remove, sum_by_push}
 use Rattle.tab_spec.specs.declared.numbers.Numbers.{Numbers}
 use Rattle.tab_spec.specs.Numbers.{AreInRange}
 use Rattle.tab_spec.specs.declared.TheConstants.{SESSION_NUMBERS}
+use Rattle.tab_spec.specs.declared.contexts.ContextLimits.{ContextLimits}
 use Rattle.device_port.specs.Use.{used_after, without_one}
 use Rattle.session_swap.specs.declared.record.Record.{Record}
 use Rattle.session_swap.specs.Items.{Item, Lists, ListsThose, flag, is_loaded_item, is_saved_item, item_at, no_items}
@@ -333,8 +334,8 @@ listed_saved (Err e) records new_records order new_order number listed was ok er
     listed_still records new_records order new_order err still listed
 
 -- what is seen of all that is kept
-pub sound_view : (numbers : Numbers) (records : List Record) (next held : ℕ) (order : OrderView) (left : List ℕ) → AreListed numbers records order left held
-    → IsSoundView (whole_view numbers records next order left)
+pub sound_view : {contexts : ContextLimits} (numbers : Numbers) (records : List Record) (next held : ℕ) (order : OrderView) (left : List ℕ)
+    → AreListed contexts numbers records order left held → IsSoundView (whole_view numbers records next order left contexts)
 sound_view numbers records next held order left kept = record {
   range = kept.listed.range;
   count = omega (arith, length-map records item_of_record, kept.sound.count);

@@ -7,6 +7,7 @@ use Rattle.std.proofs.lemmas.List.{get_or-map, get_or-set_other, length-map, len
 use Rattle.std.proofs.lemmas.List.Elements.{All-set}
 use Rattle.tab_spec.specs.Shape.{number_of_session}
 use Rattle.tab_spec.specs.declared.numbers.Numbers.{Numbers}
+use Rattle.tab_spec.specs.declared.contexts.ContextLimits.{ContextLimits}
 use Rattle.device_spec.specs.Slots.{SlotState}
 use Rattle.device_port.specs.Device.{Seen}
 use Rattle.session_swap.specs.declared.TheConstants.{NEEDED_MOST}
@@ -105,7 +106,7 @@ own_number places.Loaded client handle context handed number there is = is.numbe
 own_number (places.Saved last) client handle context handed number there is = is.number_is
 
 -- the number of a record's handle is that of its item
-pub own_handle : (records : List Record) (number : ℕ) (r : Record) → AreRecords records → number < length records
+pub own_handle : {contexts : ContextLimits} (records : List Record) (number : ℕ) (r : Record) → AreRecords contexts records → number < length records
     → r ≡ get_or records number r → is_some (item_of_record r) ≡ true → number_of_session r.handle ≡ number
 own_handle records number r sound inside is there =
     let here = read_there records number r inside is in
@@ -114,14 +115,14 @@ own_handle records number r sound inside is there =
     own_number r.place r.client r.handle r.context.items (handed_of r) number there handle
 
 -- under which its item stands
-pub own_there : (records : List Record) (number : ℕ) (r : Record) → AreRecords records → number < length records
+pub own_there : {contexts : ContextLimits} (records : List Record) (number : ℕ) (r : Record) → AreRecords contexts records → number < length records
     → r ≡ get_or records number r
     → is_some (item_of_record r) ≡ true → item_at (items_of records) (number_of_session r.handle) ≡ item_of_record r
 own_there records number r sound inside is there =
     ap (λ (n : ℕ). item_at (items_of records) n) (own_handle records number r sound inside is there) ∙ read_there records number r inside is
 
 -- the handle of a record names its item
-pub own_item : (records : List Record) (number : ℕ) (r : Record) → AreRecords records → number < length records
+pub own_item : {contexts : ContextLimits} (records : List Record) (number : ℕ) (r : Record) → AreRecords contexts records → number < length records
     → r ≡ get_or records number r
     → is_some (item_of_record r) ≡ true → item_of (items_of records) r.handle ≡ item_of_record r
 own_item records number r sound inside is there =
@@ -129,15 +130,15 @@ own_item records number r sound inside is there =
     ∙ own_by r.place r.client r.handle r.context.items (handed_of r)
 
 -- with another record of the same number
-pub records_set : (records : List Record) (number : ℕ) (n : Record) → AreRecords records → number < length records → IsRecord n
-    → IfSome (item_of_record n) (λ item. IsHandleOf number item) → AreRecords (set records number n)
-records_set records number n sound inside is handle =
+pub records_set : {contexts : ContextLimits} (records : List Record) (number : ℕ) (n : Record) → AreRecords contexts records → number < length records → IsRecord contexts n
+    → IfSome (item_of_record n) (λ item. IsHandleOf number item) → AreRecords contexts (set records number n)
+records_set {contexts = contexts} records number n sound inside is handle =
     let inside_items : number < length (items_of records) = omega (arith, length-map records item_of_record) in
     let each = set_each (λ j o. IfSome o (λ item. IsHandleOf j item)) (items_of records) number (item_of_record n) inside_items
     (λ j apart. sound.handles j) handle in
     record {
       count = length-set records number n ∙ sound.count;
-      each = All-set (λ (r : Record). IsRecord r) records number n is sound.each;
+      each = All-set (λ (r : Record). IsRecord contexts r) records number n is sound.each;
       handles = subst (λ (l : List (Option Item)). (j : ℕ) → IfSome (item_at l j) (λ item. IsHandleOf j item))
           (sym (map-set item_of_record records number n)) each;
     }
@@ -191,7 +192,7 @@ saved_left (Some slots) (Some new) items new_items number saves is rest =
 -- ---- loading
 
 -- a place is free, where fewer are loaded than there are places
-pub place_kept : (numbers : Numbers) (state : Option SlotState) (records : List Record) (next : ℕ) → Ready state numbers records next []
+pub place_kept : {contexts : ContextLimits} (numbers : Numbers) (state : Option SlotState) (records : List Record) (next : ℕ) → Ready contexts state numbers records next []
     → loaded_items (items_of records) < numbers.loaded → HasPlace state
 place_kept numbers None records next ready few = tt
 place_kept numbers (Some slots) records next ready few =
@@ -254,40 +255,48 @@ same_then items mid new handle first second is = second (ap is_loaded_item first
 
 -- ---- making
 
+-- there is room for the contexts of a device
+pub made_for : {v w : SessionsView} {contexts : ContextLimits} → v ≡ w → w.contexts ≡ contexts → v.contexts ≡ contexts
+made_for is room = ap (λ (v : SessionsView). v.contexts) is ∙ room
+
 -- records that were lent out of a swapper
-pub ready_lent : (numbers : Numbers) (state : Option SlotState) (records lent : List Record) (next : ℕ) (order : OrderView) (left : List ℕ) (view : SessionsView) (others : List ℕ)
-    → lent ≡ records → AreRecords records → whole_view numbers records next order left ≡ view → Stand state view others
-    → Ready state numbers lent next others
-ready_lent numbers state records lent next order left view others same sound view_is stand =
+pub ready_lent : {contexts made : ContextLimits} (numbers : Numbers) (state : Option SlotState) (records lent : List Record) (next : ℕ)
+    (order : OrderView) (left : List ℕ) (view : SessionsView) (others : List ℕ)
+    → lent ≡ records → AreRecords contexts records → whole_view numbers records next order left contexts ≡ view → view.contexts ≡ made
+    → Stand state view others → Ready made state numbers lent next others
+ready_lent {contexts = contexts} numbers state records lent next order left view others same sound view_is room stand =
     let items = ap (λ (l : List Record). items_of l) same ∙ ap (λ (v : SessionsView). v.items) view_is in
     let next_is = ap (λ (v : SessionsView). v.next) view_is in
     let numbers_are = ap (λ (v : SessionsView). v.numbers) view_is in
     record {
-      sound = subst (λ (l : List Record). AreRecords l) (sym same) sound;
+      sound = subst (λ (c : ContextLimits). AreRecords c lent) (made_for view_is room) (subst (λ (l : List Record). AreRecords contexts l) (sym same) sound);
       stand = stand_alike state view (view_of numbers lent next) others (sym numbers_are) (sym items) (sym next_is) (rise_none state (items_of lent)) stand;
     }
 
-pub rise_lent : (numbers : Numbers) (state : Option SlotState) (records lent : List Record) (next : ℕ) (order : OrderView) (left : List ℕ) (view : SessionsView) (others : List ℕ)
-    → lent ≡ records → whole_view numbers records next order left ≡ view → Stand state view others → RiseIn state (items_of lent) order.saved
+pub rise_lent : {contexts : ContextLimits} (numbers : Numbers) (state : Option SlotState) (records lent : List Record) (next : ℕ) (order : OrderView)
+    (left : List ℕ) (view : SessionsView) (others : List ℕ)
+    → lent ≡ records → whole_view numbers records next order left contexts ≡ view → Stand state view others → RiseIn state (items_of lent) order.saved
 rise_lent numbers state records lent next order left view others same view_is stand =
     subst (λ (l : List Record). RiseIn state (items_of l) order.saved) (sym same)
     (subst (λ (v : SessionsView). RiseIn state v.items v.saved) (sym view_is) (stand_rise state view others stand))
 
-pub lent_in : (numbers : Numbers) (state : Option SlotState) (records lent : List Record) (next held : ℕ) (order : OrderView) (left : List ℕ) (view : SessionsView)
-    → lent ≡ records → AreListed numbers records order left held → whole_view numbers records next order left ≡ view → Stand state view []
-    → ReadyIn state numbers lent next order
-lent_in numbers state records lent next held order left view same kept view_is stand = record {
-  ready = ready_lent numbers state records lent next order left view [] same kept.sound view_is stand;
+pub lent_in : {contexts made : ContextLimits} (numbers : Numbers) (state : Option SlotState) (records lent : List Record) (next held : ℕ)
+    (order : OrderView) (left : List ℕ) (view : SessionsView)
+    → lent ≡ records → AreListed contexts numbers records order left held → whole_view numbers records next order left contexts ≡ view
+    → view.contexts ≡ made → Stand state view [] → ReadyIn made state numbers lent next order
+lent_in numbers state records lent next held order left view same kept view_is room stand = record {
+  ready = ready_lent numbers state records lent next order left view [] same kept.sound view_is room stand;
   listed = subst (λ (l : List Record). ListsIn numbers l order) (sym same) kept.listed;
   rise = rise_lent numbers state records lent next order left view [] same view_is stand;
 }
 
 -- what moves of the lent records leave of the swapper
-pub moved_lent : {D : Type 0} (numbers : Numbers) (seen : D → Seen) (old new : D) (records lent new_records whole : List Record) (next new_next : ℕ)
-    (order new_order : OrderView) (left : List ℕ) (view : SessionsView) → lent ≡ records → whole_view numbers records next order left ≡ view → whole ≡ new_records
-    → Swaps seen old new lent new_records → ReadyIn (seen new).state numbers new_records new_next new_order
-    → Moved seen old new view (whole_view numbers whole new_next new_order left)
-moved_lent numbers seen old new records lent new_records whole next new_next order new_order left view same view_is back swaps held =
+pub moved_lent : {contexts made : ContextLimits} {D : Type 0} (numbers : Numbers) (seen : D → Seen) (old new : D)
+    (records lent new_records whole : List Record) (next new_next : ℕ) (order new_order : OrderView) (left : List ℕ) (view : SessionsView)
+    → lent ≡ records → whole_view numbers records next order left contexts ≡ view → whole ≡ new_records
+    → Swaps seen old new lent new_records → ReadyIn made (seen new).state numbers new_records new_next new_order
+    → Moved seen old new view (whole_view numbers whole new_next new_order left contexts)
+moved_lent {contexts = contexts} numbers seen old new records lent new_records whole next new_next order new_order left view same view_is back swaps held =
     let start = (seen old).state in
     let state = (seen new).state in
     let before = ap (λ (l : List Record). items_of l) same ∙ ap (λ (v : SessionsView). v.items) view_is in
@@ -295,9 +304,10 @@ moved_lent numbers seen old new records lent new_records whole next new_next ord
     record {
       numbers = ap (λ (v : SessionsView). v.numbers) view_is;
       left = ap (λ (v : SessionsView). v.left) view_is;
+      contexts = ap (λ (v : SessionsView). v.contexts) view_is;
       sessions = subst (λ (l : List (Option Item)). KeepsSessions start state view.items l) after
           (subst (λ (l : List (Option Item)). KeepsSessions start state l (items_of new_records)) before swaps.sessions);
-      stand = stand_alike state (view_of numbers new_records new_next) (whole_view numbers whole new_next new_order left) [] refl after refl
+      stand = stand_alike state (view_of numbers new_records new_next) (whole_view numbers whole new_next new_order left contexts) [] refl after refl
           (subst (λ (l : List (Option Item)). RiseIn state l new_order.saved) after held.rise) held.ready.stand;
       rest = record { base_is = swaps.base_is; rest = swaps.rest; rises = swaps.rises; count = swaps.count };
     }
@@ -350,15 +360,16 @@ pub some_moved : (items new_items : List (Option Item)) → holders new_items �
 some_moved items new_items held = count_moved is_some is_some some_of items new_items held
 
 -- what holds of all that is kept, after moves of lent records
-pub kept_lent : (numbers : Numbers) (records lent new_records whole : List Record) (order new_order : OrderView) (left : List ℕ) (count : ℕ)
-    → AreListed numbers records order left count → lent ≡ records → whole ≡ new_records → AreRecords new_records → ListsIn numbers new_records new_order
-    → holders (items_of new_records) ≡ holders (items_of lent) → AreListed numbers whole new_order left count
-kept_lent numbers records lent new_records whole order new_order left count kept same back sound listed held =
+pub kept_lent : {contexts made : ContextLimits} (numbers : Numbers) (records lent new_records whole : List Record) (order new_order : OrderView)
+    (left : List ℕ) (count : ℕ)
+    → AreListed contexts numbers records order left count → contexts ≡ made → lent ≡ records → whole ≡ new_records → AreRecords made new_records
+    → ListsIn numbers new_records new_order → holders (items_of new_records) ≡ holders (items_of lent) → AreListed contexts numbers whole new_order left count
+kept_lent {contexts = contexts} numbers records lent new_records whole order new_order left count kept room same back sound listed held =
     let items = items_of records in
     let new_items = items_of new_records in
     let holders_are = held ∙ ap (λ (l : List Record). holders (items_of l)) same in
-    subst (λ (l : List Record). AreListed numbers l new_order left count) (sym back) (record {
-      sound = sound;
+    subst (λ (l : List Record). AreListed contexts numbers l new_order left count) (sym back) (record {
+      sound = subst (λ (c : ContextLimits). AreRecords c new_records) (sym room) sound;
       listed = listed;
       left_are = lists_moved is_left holder_left left_by items new_items left holders_are kept.left_are;
       held_is = kept.held_is ∙ sym (count_moved is_held holder_held held_by items new_items holders_are);

@@ -8,6 +8,7 @@ use Rattle.std.proofs.lemmas.Bool.{cases_eq, cases_lt, eq-eqb, eqb-true, false_f
 use Rattle.std.proofs.lemmas.List.{drop_all, get_or-map, get_or-set_same, get_or-set_other, get_or_past, length-map, map-set, set-get_or, set_past}
 use Rattle.std.proofs.lemmas.List.Elements.{All-from_recursion}
 use Rattle.tab_spec.specs.Shape.{number_of_session}
+use Rattle.tab_spec.specs.declared.contexts.ContextLimits.{ContextLimits}
 use Rattle.session_swap.specs.declared.record.Record.{Record}
 use Rattle.device_port.specs.Use.{is_among, next_unneeded, without_one, without_unneeded}
 use Rattle.session_swap.specs.Items.{AreLoaded, AreNamed, Item, Lists, Names, flag, holders, is_loaded_item, item_at, item_of, loaded_items, missing, numbers_of, with_handle}
@@ -255,7 +256,7 @@ own_handle None is = absurd cc
 own_handle (Some item) is = some_by item (item.handle == item.handle) ∙ eq-eqb item.handle item.handle refl
 
 -- the session of a listed number is needed by its handle or by its number alike
-pub among_listed : (needed : List ℕ) (records : List Record) (indices : List ℕ) (k : ℕ) → AreRecords records → AreNamed needed (items_of records)
+pub among_listed : {contexts : ContextLimits} (needed : List ℕ) (records : List Record) (indices : List ℕ) (k : ℕ) → AreRecords contexts records → AreNamed needed (items_of records)
     → Lists indices (items_of records) → k < length indices
     → is_among needed (handle_at (items_of records) (get_or indices k 0)) ≡ is_among (numbers_of needed) (get_or indices k 0)
 among_listed needed records indices k sound named lists inside =
@@ -270,7 +271,7 @@ among_listed needed records indices k sound named lists inside =
     among_numbers needed items handle named names ∙ ap (is_among (numbers_of needed)) own
 
 -- then they fit
-pub fit_alone : (needed : List ℕ) (records : List Record) (indices : List ℕ) → AreRecords records → AreNamed needed (items_of records)
+pub fit_alone : {contexts : ContextLimits} (needed : List ℕ) (records : List Record) (indices : List ℕ) → AreRecords contexts records → AreNamed needed (items_of records)
     → Lists indices (items_of records)
     → ((k : ℕ) → k < length indices → is_among needed (handle_at (items_of records) (get_or indices k 0)) ≡ true)
     → length indices + missing needed (items_of records) ≤ length needed
@@ -415,7 +416,7 @@ chosen needed items indices result number is some =
       before = its.3;
     }
 
-pub chosen_gone : (needed : List ℕ) (records : List Record) (indices : List ℕ) (number : ℕ) → AreRecords records → AreNamed needed (items_of records)
+pub chosen_gone : {contexts : ContextLimits} (needed : List ℕ) (records : List Record) (indices : List ℕ) (number : ℕ) → AreRecords contexts records → AreNamed needed (items_of records)
     → Lists indices (items_of records) → Chosen needed (items_of records) indices number
     → without_unneeded (numbers_of needed) indices ≡ without_one number indices
 chosen_gone needed records indices number sound named lists is =
@@ -427,7 +428,7 @@ chosen_gone needed records indices number sound named lists is =
     ∙ sym (without_at number indices is.at is.inside
     (λ k below same. false≢true (sym is.out ∙ ap (λ (n : ℕ). is_among needed (handle_at items n)) (sym same) ∙ is.before k below)) is.here)
 
-pub chosen_one : (needed : List ℕ) (records : List Record) (indices : List ℕ) (number : ℕ) → AreRecords records → AreNamed needed (items_of records)
+pub chosen_one : {contexts : ContextLimits} (needed : List ℕ) (records : List Record) (indices : List ℕ) (number : ℕ) → AreRecords contexts records → AreNamed needed (items_of records)
     → Lists indices (items_of records) → Chosen needed (items_of records) indices number
     → next_unneeded (numbers_of needed) indices ≡ number ∷ []
 chosen_one needed records indices number sound named lists is =

@@ -11,7 +11,8 @@ use Rattle.tab_spec.specs.Frame.{code_of, is_frame}
 use Rattle.tab_spec.specs.Values.{AreBytes}
 use Rattle.tab_spec.specs.Session.{Session, IsSession}
 use Rattle.tab_spec.specs.Shape.{number_of_session, octet_of}
-use Rattle.device_spec.specs.declared.TheConstants.{MOST_SESSION_CONTEXT_BYTES}
+use Rattle.tab_spec.specs.declared.contexts.ContextLimits.{ContextLimits}
+use Rattle.tab_spec.specs.declared.contexts.TheConstants.{PROFILE_CONTEXTS}
 use Rattle.device_spec.specs.Answers.{is_error_form, is_success_form, may_refuse, takes}
 use Rattle.device_spec.specs.ContextCommands.{context_save_command}
 use Rattle.device_spec.specs.Slots.{SessionPlace, SlotState, IsSlots, inactive, loaded, saved, is_active, is_loaded, loaded_count, loaded_in, loaded_session, number_saved, place_of, session_at, session_in_place, session_of_context, with_place}
@@ -136,11 +137,19 @@ owned_moved slots view others n place counter item stand moves m =
     ]
 
 pub stands_moved : (slots : SlotState) (view : SessionsView) (others : List ℕ) (n : ℕ) (place : SessionPlace) (counter : ℕ)
-    (item : Option Item) (next : ℕ) (order listed left : List ℕ)
+    (item : Option Item) (next : ℕ) (order listed left : List ℕ) (contexts : ContextLimits)
     → SessionsStand slots view others → Moves slots view.items n place counter item
     → (list_any is_saved_item (set view.items n item) ≡ true → next ≡ counter) → Rise (numbers_along (set view.items n item) listed)
-    → SessionsStand (moved slots n place counter) (record { numbers = view.numbers; items = set view.items n item; next = next; order = order; saved = listed; left = left }) others
-stands_moved slots view others n place counter item next order listed left stand moves next_is rise = record {
+    → SessionsStand (moved slots n place counter) (record {
+      numbers = view.numbers;
+      items = set view.items n item;
+      next = next;
+      order = order;
+      saved = listed;
+      left = left;
+      contexts = contexts;
+    }) others
+stands_moved slots view others n place counter item next order listed left contexts stand moves next_is rise = record {
   started = stand.started;
   sound = moved_sound slots n counter place stand.sound moves.places moves.limit;
   numbers = stand.numbers;
@@ -243,7 +252,7 @@ pub record Keeps (numbers : Numbers) (old_state new_state : Option SlotState) (i
     (others : List ℕ) : Type 0 where
   pub rest : rest_of new_state ≡ rest_of old_state
   pub sessions : KeepsSessions old_state new_state items new_items
-  pub stand : Stand new_state (record { numbers = numbers; items = new_items; next = next; order = []; saved = []; left = [] }) others
+  pub stand : Stand new_state (record { numbers = numbers; items = new_items; next = next; order = []; saved = []; left = []; contexts = PROFILE_CONTEXTS }) others
   pub gap : gap_in new_state + counter_of old_state ≤ gap_in old_state + counter_of new_state
   pub rises : counter_of old_state ≤ counter_of new_state
 
@@ -369,7 +378,7 @@ saved_told slots view others client handed handle next context stand was may sam
             );
         holders = map_kept holder_of view.items n item inside (sym (ap holder_of was));
       };
-      stand = stands_moved slots view others n place (slots.counter + 1) item next [] [] [] stand moves.1 (λ some. next_is) tt;
+      stand = stands_moved slots view others n place (slots.counter + 1) item next [] [] [] PROFILE_CONTEXTS stand moves.1 (λ some. next_is) tt;
       gap = omega (
         arith,
         gap_saved slots.counter slots.sessions n place (omega (arith, moves.1.fits, stand.sound.numbers))
@@ -404,7 +413,7 @@ loaded_told slots view others client handed handle number context s stand was ro
             );
         holders = map_kept holder_of view.items n item inside (sym (ap holder_of was));
       };
-      stand = stands_moved slots view others n place slots.counter item view.next [] [] [] stand moves.1
+      stand = stands_moved slots view others n place slots.counter item view.next [] [] [] PROFILE_CONTEXTS stand moves.1
           (λ some. stand.next (any_set is_saved_item view.items n item refl some)) tt;
       gap = omega (arith, gap_unsaved slots.counter slots.sessions n place refl);
       rises = omega arith;
@@ -485,7 +494,7 @@ pub record Drops (numbers : Numbers) (old_state new_state : Option SlotState) (i
     (others : List ℕ) : Type 0 where
   pub rest : rest_of new_state ≡ rest_of old_state
   pub sessions : sessions_of new_state new_items ≡ without_session n (sessions_of old_state items)
-  pub stand : Stand new_state (record { numbers = numbers; items = new_items; next = next; order = []; saved = []; left = [] }) others
+  pub stand : Stand new_state (record { numbers = numbers; items = new_items; next = next; order = []; saved = []; left = []; contexts = PROFILE_CONTEXTS }) others
   pub counter : counter_of new_state ≡ counter_of old_state
   pub gap : gap_in new_state ≤ gap_in old_state
 
@@ -502,7 +511,7 @@ ended_drops (Some slots) view others handle item stand was =
       rest = refl;
       sessions = ap (λ (sessions : List (Option Session)). Some sessions)
           (sessions_moved slots view others n inactive slots.counter None stand);
-      stand = stands_moved slots view others n inactive slots.counter None view.next [] [] [] stand
+      stand = stands_moved slots view others n inactive slots.counter None view.next [] [] [] PROFILE_CONTEXTS stand
           (ending slots view others n item stand was)
           (λ some. stand.next (any_set is_saved_item view.items n None refl some)) tt;
       counter = refl;
@@ -586,16 +595,16 @@ saved_place_is places.Loaded client handed handle context is = absurd cc
 saved_place_is (places.Saved number) client handed handle context is = (number, refl)
 
 -- the record of a loaded session
-pub record IsLoadedAt (records : List Record) (n : ℕ) (r : Record) : Type 0 where
+pub record IsLoadedAt (contexts : ContextLimits) (records : List Record) (n : ℕ) (r : Record) : Type 0 where
   pub inside : n < length records
   pub place : r.place ≡ places.Loaded
   pub was : item_at (items_of records) n ≡ Some (unsaved_item r.client (handed_of r) r.handle)
   pub handle : IsHandleOf n (unsaved_item r.client (handed_of r) r.handle)
-  pub sound : IsRecord r
+  pub sound : IsRecord contexts r
 
-pub loaded_at : (records : List Record) (n : ℕ) (d : Record) → AreRecords records
+pub loaded_at : {contexts : ContextLimits} (records : List Record) (n : ℕ) (d : Record) → AreRecords contexts records
     → is_loaded_item (item_at (items_of records) n) ≡ true
-    → IsLoadedAt records n (get_or records n d)
+    → IsLoadedAt contexts records n (get_or records n d)
 loaded_at records n d sound is =
     let r = get_or records n d in
     let inside = record_inside records n (loaded_some (item_at (items_of records) n) is) in
@@ -612,19 +621,19 @@ loaded_at records n d sound is =
     }
 
 -- the record of a saved session
-pub record IsSavedAt (records : List Record) (n : ℕ) (r : Record) : Type 0 where
+pub record IsSavedAt (contexts : ContextLimits) (records : List Record) (n : ℕ) (r : Record) : Type 0 where
   pub inside : n < length records
   pub number : ℕ
   pub place : r.place ≡ places.Saved number
   pub was : item_at (items_of records) n ≡ Some (saved_item r.client (handed_of r) r.handle number r.context.items)
   pub handle : IsHandleOf n (saved_item r.client (handed_of r) r.handle number r.context.items)
-  pub sound : IsRecord r
-  pub context : IsContext r.handle number r.context.items
+  pub sound : IsRecord contexts r
+  pub context : IsContext contexts r.handle number r.context.items
 
-pub saved_at : (records : List Record) (n : ℕ) (d : Record) → AreRecords records
+pub saved_at : {contexts : ContextLimits} (records : List Record) (n : ℕ) (d : Record) → AreRecords contexts records
     → is_saved_item (item_at (items_of records) n) ≡ true
-    → IsSavedAt records n (get_or records n d)
-saved_at records n d sound is =
+    → IsSavedAt contexts records n (get_or records n d)
+saved_at {contexts = contexts} records n d sound is =
     let r = get_or records n d in
     let inside = record_inside records n (saved_some (item_at (items_of records) n) is) in
     let at = record_item records n d inside in
@@ -639,7 +648,7 @@ saved_at records n d sound is =
       was = was;
       handle = subst (λ (i : Option Item). IfSome i (λ item. IsHandleOf n item)) was (sound.handles n);
       sound = its;
-      context = subst (λ (p : Place). KeepsContext p r.handle r.context.items) place.1 its.context;
+      context = subst (λ (p : Place). KeepsContext contexts p r.handle r.context.items) place.1 its.context;
     }
 
 handles_set : (items : List (Option Item)) (n : ℕ) (item : Option Item) → n < length items
@@ -655,11 +664,11 @@ handles_set items n item inside all is m =
           (all m)
     ]
 
-pub records_set : (records : List Record) (n : ℕ) (r : Record) → n < length records → AreRecords records → IsRecord r
-    → IfSome (item_of_record r) (λ item. IsHandleOf n item) → AreRecords (set records n r)
-records_set records n r inside sound is handle = record {
+pub records_set : {contexts : ContextLimits} (records : List Record) (n : ℕ) (r : Record) → n < length records → AreRecords contexts records → IsRecord contexts r
+    → IfSome (item_of_record r) (λ item. IsHandleOf n item) → AreRecords contexts (set records n r)
+records_set {contexts = contexts} records n r inside sound is handle = record {
   count = length-set records n r ∙ sound.count;
-  each = All-set (λ (r : Record). IsRecord r) records n r is sound.each;
+  each = All-set (λ (r : Record). IsRecord contexts r) records n r is sound.each;
   handles = λ m.
       subst (λ (items : List (Option Item)). IfSome (item_at items m) (λ item. IsHandleOf m item))
       (sym (map-set item_of_record records n r))
@@ -696,21 +705,21 @@ loaded_item n r loaded_is like =
     (λ i. item_in ((like.place ∙ loaded_is) i) n.client n.handle n.context.items (handed_of n))
     ∙ (λ i. Some (unsaved_item (like.client i) (like.handed i) (like.handle i)))
 
-pub items_loaded : (records : List Record) (n : ℕ) (changed r : Record) → IsLoadedAt records n r → IsLike changed r
+pub items_loaded : {contexts : ContextLimits} (records : List Record) (n : ℕ) (changed r : Record) → IsLoadedAt contexts records n r → IsLike changed r
     → items_of (set records n changed) ≡ items_of records
 items_loaded records n changed r at like =
     items_same records n changed (loaded_item changed r at.place like ∙ sym at.was)
 
-pub records_loaded : (records : List Record) (n : ℕ) (changed r : Record) → AreRecords records → IsLoadedAt records n r
-    → IsLike changed r → MOST_SESSION_CONTEXT_BYTES ≤ vec_capacity changed.context
-    → MOST_SESSION_CONTEXT_BYTES ≤ vec_capacity changed.handed
-    → AreRecords (set records n changed)
-records_loaded records n changed r sound at like room handed_room =
+pub records_loaded : {contexts : ContextLimits} (records : List Record) (n : ℕ) (changed r : Record) → AreRecords contexts records → IsLoadedAt contexts records n r
+    → IsLike changed r → contexts.session_bytes ≤ vec_capacity changed.context
+    → contexts.session_bytes ≤ vec_capacity changed.handed
+    → AreRecords contexts (set records n changed)
+records_loaded {contexts = contexts} records n changed r sound at like room handed_room =
     records_set records n changed at.inside sound
     (record {
       room = room;
       handed_room = handed_room;
-      context = subst (λ (p : Place). KeepsContext p changed.handle changed.context.items) (sym (like.place ∙ at.place)) tt;
+      context = subst (λ (p : Place). KeepsContext contexts p changed.handle changed.context.items) (sym (like.place ∙ at.place)) tt;
     })
     (subst (λ (i : Option Item). IfSome i (λ item. IsHandleOf n item))
     (sym (loaded_item changed r at.place like)) at.handle)
@@ -732,7 +741,8 @@ swaps_from seen old new records new_records new_next others keeps base_is count 
 
 -- nothing is left changed where a command fails
 pub keeps_same : (numbers : Numbers) (state new_state : Option SlotState) (items new_items : List (Option Item)) (next : ℕ) (others : List ℕ)
-    → Stand state (record { numbers = numbers; items = items; next = next; order = []; saved = []; left = [] }) others → new_state ≡ state → new_items ≡ items
+    → Stand state (record { numbers = numbers; items = items; next = next; order = []; saved = []; left = []; contexts = PROFILE_CONTEXTS }) others
+    → new_state ≡ state → new_items ≡ items
     → Keeps numbers state new_state items new_items next others
 keeps_same numbers state new_state items new_items next others stand state_is items_are =
     let at_rest : Keeps numbers state state items items next others =
@@ -761,8 +771,17 @@ stands_alike slots view new_view others numbers items next rise stand =
       order = new_view.order;
       saved = new_view.saved;
       left = new_view.left;
+      contexts = new_view.contexts;
     } ≡ new_view =
-    λ i. record { numbers = numbers i; items = items i; next = next i; order = new_view.order; saved = new_view.saved; left = new_view.left } in
+    λ i. record {
+      numbers = numbers i;
+      items = items i;
+      next = next i;
+      order = new_view.order;
+      saved = new_view.saved;
+      left = new_view.left;
+      contexts = new_view.contexts;
+    } in
     subst (λ (v : SessionsView). SessionsStand slots v others) same (record {
       started = stand.started;
       sound = stand.sound;
@@ -858,21 +877,21 @@ last_context last reply context is same =
     subst (λ (last : Option (List ℕ)). IsLastContext last context) (sym is) same
 
 -- a response that is taken is a frame
-taken_frame : (asked : List ℕ) (last : Option (List ℕ)) (reply : List ℕ) → IsAnswered asked last → last ≡ Some reply
+taken_frame : (contexts : ContextLimits) (asked : List ℕ) (last : Option (List ℕ)) (reply : List ℕ) → IsAnswered contexts asked last → last ≡ Some reply
     → is_frame reply ≡ true
-taken_frame asked last reply answered is =
-    let taken = subst (λ (last : Option (List ℕ)). IsSomeAnd last (λ response. takes true true asked response ≡ true)) is answered.1 in
+taken_frame contexts asked last reply answered is =
+    let taken = subst (λ (last : Option (List ℕ)). IsSomeAnd last (λ response. takes contexts true true asked response ≡ true)) is answered.1 in
     (and_parts (is_frame reply)
-    (if code_of reply == RC_SUCCESS then is_success_form true asked reply
-    else is_error_form reply && may_refuse true asked (code_of reply)) taken).0
+    (if code_of reply == RC_SUCCESS then is_success_form contexts true asked reply
+    else is_error_form reply && may_refuse contexts true asked (code_of reply)) taken).0
 
 -- what is kept of the response
-pub keeps_reply : (asked : List ℕ) (last : Option (List ℕ)) (reply : List ℕ) (records : List Record) (n number next : ℕ) (r old : Record)
-    → IsLoadedAt records n old → r ≡ record old { place = places.Saved number; context = r.context } → IsAnswered asked last
+pub keeps_reply : {contexts : ContextLimits} (asked : List ℕ) (last : Option (List ℕ)) (reply : List ℕ) (records : List Record) (n number next : ℕ) (r old : Record)
+    → IsLoadedAt contexts records n old → r ≡ record old { place = places.Saved number; context = r.context } → IsAnswered contexts asked last
     → last ≡ Some reply → r.context.items ≡ drop HEADER_BYTES reply → number ≡ context_number (drop HEADER_BYTES reply)
     → next ≡ number_after number
     → KeepsReply last reply (items_of records) (items_of (set records n r)) n next
-keeps_reply asked last reply records n number next r old at is answered last_is context number_is next_is =
+keeps_reply {contexts = contexts} asked last reply records n number next r old at is answered last_is context number_is next_is =
     let bytes = drop HEADER_BYTES reply in
     let item : item_of_record r ≡ Some (saved_item old.client (handed_of old) old.handle number r.context.items) =
     (λ i. item_in ((is i).place) ((is i).client) ((is i).handle) r.context.items (handed_by ((is i).in_use) ((is i).handed.items))) in
@@ -881,17 +900,17 @@ keeps_reply asked last reply records n number next r old at is answered last_is 
     ∙ ap (with_context bytes) (sym at.was) in
     record {
       last_is = last_is;
-      frame = taken_frame asked last reply answered last_is;
+      frame = taken_frame contexts asked last reply answered last_is;
       items_are = items_set records n r (with_context bytes (item_at (items_of records) n)) same;
       next_is = next_is ∙ ap number_after number_is;
     }
 
 -- and of whose context it is
-replies_by : (state : Option SlotState) (view : SessionsView) (n : ℕ) (client : Option ℕ) (handed : Option (List ℕ)) (handle : ℕ)
+replies_by : {contexts : ContextLimits} (state : Option SlotState) (view : SessionsView) (n : ℕ) (client : Option ℕ) (handed : Option (List ℕ)) (handle : ℕ)
     (reply : List ℕ) (others : List ℕ) → Stand state view others → item_at view.items n ≡ Some (unsaved_item client handed handle)
-    → Succeeds (context_save_command handle) reply
+    → Succeeds contexts (context_save_command handle) reply
     → IfSome state (λ slots. HandsOut slots handle (loaded_session slots handle) reply)
-    → RepliesOf state reply (unsaved_item client handed handle)
+    → RepliesOf contexts state reply (unsaved_item client handed handle)
 replies_by None view n client handed handle reply others stand was success told = record { success = success; context = tt }
 replies_by (Some slots) view n client handed handle reply others stand was success told =
     let old = item_stands slots view others n (unsaved_item client handed handle) stand was in
@@ -902,13 +921,13 @@ replies_by (Some slots) view n client handed handle reply others stand was succe
           (sym (loaded_same slots.persist.seed handle (place_of slots handle) None is)) told;
     }
 
-pub replies_of : (state : Option SlotState) (view : SessionsView) (n : ℕ) (client : Option ℕ) (handed : Option (List ℕ)) (handle : ℕ)
+pub replies_of : {contexts : ContextLimits} (state : Option SlotState) (view : SessionsView) (n : ℕ) (client : Option ℕ) (handed : Option (List ℕ)) (handle : ℕ)
     (reply : List ℕ) (others : List ℕ) → Stand state view others → item_at view.items n ≡ Some (unsaved_item client handed handle)
-    → Succeeds (context_save_command handle) reply
+    → Succeeds contexts (context_save_command handle) reply
     → IfSome state (λ slots. HandsOut slots handle (loaded_session slots handle) reply)
-    → IsSomeAnd (item_at view.items n) (λ item. RepliesOf state reply item)
-replies_of state view n client handed handle reply others stand was success told =
-    subst (λ (item : Option Item). IsSomeAnd item (λ item. RepliesOf state reply item)) (sym was)
+    → IsSomeAnd (item_at view.items n) (λ item. RepliesOf contexts state reply item)
+replies_of {contexts = contexts} state view n client handed handle reply others stand was success told =
+    subst (λ (item : Option Item). IsSomeAnd item (λ item. RepliesOf contexts state reply item)) (sym was)
     (replies_by state view n client handed handle reply others stand was success told)
 
 loads_counted : (state new_state : Option SlotState) (handle : ℕ) (context : List ℕ) → new_state ≡ brought_in handle context state

@@ -8,6 +8,7 @@ use Rattle.std.proofs.lemmas.List.Folds.{list_any_none}
 use Rattle.std.proofs.lemmas.Option.{get_or_from_slice_get, slice_get_within}
 use Rattle.tab_spec.specs.Shape.{number_of_session}
 use Rattle.tab_spec.specs.declared.numbers.Numbers.{Numbers}
+use Rattle.tab_spec.specs.declared.contexts.ContextLimits.{ContextLimits}
 use Rattle.session_swap.specs.declared.record.Record.{Record}
 use Rattle.session_swap.specs.Items.{Item, Names, is_left, is_orphan, is_owned, is_owner, item_at, owner_in}
 use Rattle.session_swap.specs.Records.{AreListed, AreRecords, IsHandleOf, OrderView, handed_of, item_of_record, items_of}
@@ -26,7 +27,7 @@ orphan_some None is = absurd cc
 orphan_some (Some item) is = refl
 
 -- a record of a client's session
-pub owned_found : (records : List Record) (number client : ℕ) (r : Record) → AreRecords records → number < length records
+pub owned_found : {contexts : ContextLimits} (records : List Record) (number client : ℕ) (r : Record) → AreRecords contexts records → number < length records
     → r ≡ get_or records number r → is_owned client (item_of_record r) ≡ true
     → Names (items_of records) r.handle × (is_owner client (owner_in (items_of records) r.handle) ≡ true)
 owned_found records number client r sound inside is owned =
@@ -37,13 +38,13 @@ owned_found records number client r sound inside is owned =
     )
 
 -- its handle has its number
-pub owned_number : (records : List Record) (number client : ℕ) (r : Record) → AreRecords records → number < length records
-    → r ≡ get_or records number r → is_owned client (item_of_record r) ≡ true → number_of_session r.handle ≡ number
+pub owned_number : {contexts : ContextLimits} (records : List Record) (number client : ℕ) (r : Record) → AreRecords contexts records
+    → number < length records → r ≡ get_or records number r → is_owned client (item_of_record r) ≡ true → number_of_session r.handle ≡ number
 owned_number records number client r sound inside is owned =
     own_handle records number r sound inside is (owned_some client (item_of_record r) owned)
 
 -- a record of nobody's session
-pub orphan_found : (records : List Record) (number : ℕ) (r : Record) → AreRecords records → number < length records
+pub orphan_found : {contexts : ContextLimits} (records : List Record) (number : ℕ) (r : Record) → AreRecords contexts records → number < length records
     → r ≡ get_or records number r → is_orphan (item_of_record r) ≡ true
     → Names (items_of records) r.handle × (is_orphan (item_at (items_of records) (number_of_session r.handle)) ≡ true)
 orphan_found records number r sound inside is orphan =
@@ -67,16 +68,16 @@ left_some None is = absurd cc
 left_some (Some item) is = refl
 
 -- what is listed as left has a record
-pub left_inside : {numbers : Numbers} (records : List Record) (order : OrderView) (left : List ℕ) (held place number : ℕ)
-    → AreListed numbers records order left held → slice_get left place ≡ Some number → is_some (item_at (items_of records) number) ≡ true
+pub left_inside : {contexts : ContextLimits} {numbers : Numbers} (records : List Record) (order : OrderView) (left : List ℕ) (held place number : ℕ)
+    → AreListed contexts numbers records order left held → slice_get left place ≡ Some number → is_some (item_at (items_of records) number) ≡ true
 left_inside records order left held place number kept there =
     let items = items_of records in
     left_some (item_at items number)
     (ap (λ (n : ℕ). is_left (item_at items n)) (sym (get_or_from_slice_get left place number 0 there))
     ∙ listed_is is_left refl items left place 0 kept.left_are (slice_get_within left place number there))
 
-pub left_below : {numbers : Numbers} (records : List Record) (order : OrderView) (left : List ℕ) (held place number : ℕ)
-    → AreListed numbers records order left held → slice_get left place ≡ Some number → number < length records
+pub left_below : {contexts : ContextLimits} {numbers : Numbers} (records : List Record) (order : OrderView) (left : List ℕ) (held place number : ℕ)
+    → AreListed contexts numbers records order left held → slice_get left place ≡ Some number → number < length records
 left_below records order left held place number kept there =
     omega (
       arith,
@@ -85,8 +86,8 @@ left_below records order left held place number kept there =
     )
 
 -- and its handle names it
-pub left_named : {numbers : Numbers} (records : List Record) (order : OrderView) (left : List ℕ) (held place number : ℕ) (r : Record)
-    → AreListed numbers records order left held → slice_get left place ≡ Some number → r ≡ get_or records number r
+pub left_named : {contexts : ContextLimits} {numbers : Numbers} (records : List Record) (order : OrderView) (left : List ℕ) (held place number : ℕ)
+    (r : Record) → AreListed contexts numbers records order left held → slice_get left place ≡ Some number → r ≡ get_or records number r
     → (slice_get left place ≡ Some (number_of_session r.handle)) × Names (items_of records) r.handle
 left_named records order left held place number r kept there is =
     let items = items_of records in

@@ -6,6 +6,7 @@ use Rattle.std.proofs.lemmas.Bool.{eq-eqb}
 use Rattle.std.proofs.lemmas.List.{append-nil}
 use Rattle.std.proofs.lemmas.Option.{none-some, same_Some}
 use Rattle.tab_spec.specs.declared.numbers.Numbers.{Numbers}
+use Rattle.tab_spec.specs.declared.contexts.ContextLimits.{ContextLimits}
 use Rattle.device_spec.specs.Slots.{SlotState}
 use Rattle.device_port.specs.Use.{used_after, without_one}
 use Rattle.session_swap.specs.declared.record.Record.{Record}
@@ -25,9 +26,9 @@ told_before None (Some new) P Q rest f p = absurd cc
 told_before (Some slots) (Some new) P Q rest f p = f p
 
 -- a loaded session is used
-pub ready_used : {numbers : Numbers} (state : Option SlotState) (records : List Record) (next : ℕ) (order new_order : OrderView) (number : ℕ)
-    → ReadyIn state numbers records next order → is_loaded_item (item_at (items_of records) number) ≡ true → new_order ≡ order_used number order
-    → ReadyIn state numbers records next new_order
+pub ready_used : {contexts : ContextLimits} {numbers : Numbers} (state : Option SlotState) (records : List Record) (next : ℕ) (order new_order : OrderView) (number : ℕ)
+    → ReadyIn contexts state numbers records next order → is_loaded_item (item_at (items_of records) number) ≡ true → new_order ≡ order_used number order
+    → ReadyIn contexts state numbers records next new_order
 ready_used state records next order new_order number held there is = record {
   ready = held.ready;
   listed = listed_again records order new_order number held.listed there is;
@@ -35,12 +36,12 @@ ready_used state records next order new_order number held there is = record {
 }
 
 -- one is loaded
-pub ready_in : {numbers : Numbers} (state new_state : Option SlotState) (records new_records : List Record) (next : ℕ) (order new_order : OrderView) (number : ℕ)
-    → ReadyIn state numbers records next order → Ready new_state numbers new_records next [] → rest_of new_state ≡ rest_of state
+pub ready_in : {contexts : ContextLimits} {numbers : Numbers} (state new_state : Option SlotState) (records new_records : List Record) (next : ℕ) (order new_order : OrderView) (number : ℕ)
+    → ReadyIn contexts state numbers records next order → Ready contexts new_state numbers new_records next [] → rest_of new_state ≡ rest_of state
     → length order.loaded < numbers.loaded → number < length records
     → items_of new_records ≡ set (items_of records) number (item_at (items_of new_records) number)
     → is_loaded_item (item_at (items_of new_records) number) ≡ true → new_order ≡ order_in number order
-    → ReadyIn new_state numbers new_records next new_order
+    → ReadyIn contexts new_state numbers new_records next new_order
 ready_in state new_state records new_records next order new_order number held ready rest few fits items_are there is =
     let items = items_of records in
     let item = item_at (items_of new_records) number in
@@ -54,8 +55,8 @@ ready_in state new_state records new_records next order new_order number held re
           (rise_less items number item order.saved (unsaved_none item (unsaved_by item there))) held.rise));
     }
 
-rise_out : {numbers : Numbers} (state new_state : Option SlotState) (records : List Record) (next : ℕ) (order : OrderView) (number : ℕ) (item : Option Item)
-    → ReadyIn state numbers records next order → rest_of new_state ≡ rest_of state → number < length (items_of records)
+rise_out : {contexts : ContextLimits} {numbers : Numbers} (state new_state : Option SlotState) (records : List Record) (next : ℕ) (order : OrderView) (number : ℕ) (item : Option Item)
+    → ReadyIn contexts state numbers records next order → rest_of new_state ≡ rest_of state → number < length (items_of records)
     → is_saved_item (item_at (items_of records) number) ≡ false → IfSome state (λ slots. number_of_item item ≡ Some slots.counter)
     → RiseIn new_state (set (items_of records) number item) (order_out number order).saved
 rise_out state None records next order number item held rest inside out is = tt {0}
@@ -66,10 +67,10 @@ rise_out (Some slots) (Some new) records next order number item held rest inside
     (number_under slots (view_of _ records next) [] held.ready.stand) held.rise
 
 -- one is saved
-pub ready_out : {numbers : Numbers} (state new_state : Option SlotState) (records new_records : List Record) (next new_next : ℕ) (order new_order : OrderView) (number : ℕ)
-    → ReadyIn state numbers records next order → Ready new_state numbers new_records new_next [] → rest_of new_state ≡ rest_of state
+pub ready_out : {contexts : ContextLimits} {numbers : Numbers} (state new_state : Option SlotState) (records new_records : List Record) (next new_next : ℕ) (order new_order : OrderView) (number : ℕ)
+    → ReadyIn contexts state numbers records next order → Ready contexts new_state numbers new_records new_next [] → rest_of new_state ≡ rest_of state
     → is_loaded_item (item_at (items_of records) number) ≡ true → Saves state new_state (items_of records) (items_of new_records) number
-    → new_order ≡ order_out number order → ReadyIn new_state numbers new_records new_next new_order
+    → new_order ≡ order_out number order → ReadyIn contexts new_state numbers new_records new_next new_order
 ready_out state new_state records new_records next new_next order new_order number held ready rest there saves is =
     let items = items_of records in
     let item = item_at (items_of new_records) number in
@@ -83,9 +84,9 @@ ready_out state new_state records new_records next new_next order new_order numb
     }
 
 -- nothing moved
-pub ready_still : {numbers : Numbers} (state new_state : Option SlotState) (records new_records : List Record) (next new_next : ℕ) (order new_order : OrderView)
-    → ReadyIn state numbers records next order → Ready new_state numbers new_records new_next []
-    → Stays state new_state (items_of records) (items_of new_records) → new_order ≡ order → ReadyIn new_state numbers new_records new_next new_order
+pub ready_still : {contexts : ContextLimits} {numbers : Numbers} (state new_state : Option SlotState) (records new_records : List Record) (next new_next : ℕ) (order new_order : OrderView)
+    → ReadyIn contexts state numbers records next order → Ready contexts new_state numbers new_records new_next []
+    → Stays state new_state (items_of records) (items_of new_records) → new_order ≡ order → ReadyIn contexts new_state numbers new_records new_next new_order
 ready_still state new_state records new_records next new_next order new_order held ready stays is = record {
   ready = ready;
   listed = listed_still records new_records order new_order stays.items_are is held.listed;
@@ -95,13 +96,13 @@ ready_still state new_state records new_records next new_next order new_order he
 }
 
 -- a session was saved or not
-pub ready_saved : {A E : Type 0} {numbers : Numbers} (result : Result A E) (state new_state : Option SlotState) (records new_records : List Record) (next new_next : ℕ)
+pub ready_saved : {contexts : ContextLimits} {A E : Type 0} {numbers : Numbers} (result : Result A E) (state new_state : Option SlotState) (records new_records : List Record) (next new_next : ℕ)
     (order new_order : OrderView) (number : ℕ)
-    → ReadyIn state numbers records next order → Ready new_state numbers new_records new_next [] → rest_of new_state ≡ rest_of state
+    → ReadyIn contexts state numbers records next order → Ready contexts new_state numbers new_records new_next [] → rest_of new_state ≡ rest_of state
     → is_loaded_item (item_at (items_of records) number) ≡ true
     → OnOk result (Saves state new_state (items_of records) (items_of new_records) number)
     → OnErr result (Stays state new_state (items_of records) (items_of new_records))
-    → OnOk result (new_order ≡ order_out number order) → OnErr result (new_order ≡ order) → ReadyIn new_state numbers new_records new_next new_order
+    → OnOk result (new_order ≡ order_out number order) → OnErr result (new_order ≡ order) → ReadyIn contexts new_state numbers new_records new_next new_order
 ready_saved (Ok a) state new_state records new_records next new_next order new_order number held ready rest there ok err out still =
     ready_out state new_state records new_records next new_next order new_order number held ready rest there ok out
 ready_saved (Err e) state new_state records new_records next new_next order new_order number held ready rest there ok err out still =

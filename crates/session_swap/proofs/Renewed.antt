@@ -9,6 +9,7 @@ use Rattle.tab_spec.specs.declared.numbers.Numbers.{Numbers}
 use Rattle.tab_spec.specs.Numbers.{AreInRange}
 use Rattle.tab_spec.specs.declared.TheConstants.{CONTEXT_LIMIT}
 use Rattle.tab_spec.specs.Shape.{number_of_session}
+use Rattle.tab_spec.specs.declared.contexts.ContextLimits.{ContextLimits}
 use Rattle.device_spec.specs.ContextCommands.{context_save_command}
 use Rattle.device_spec.specs.Slots.{SlotState, gap_from, gap_of, loaded_count}
 use Rattle.device_port.specs.Device.{Seen}
@@ -106,16 +107,16 @@ one_in items new_items number is loaded items_are =
 
 -- ---- a move, over the states before and after it
 
-pub record Moved (numbers : Numbers) (state new_state : Option SlotState) (records : List Record) (next : ℕ) (new_records : List Record) (new_next : ℕ) : Type 0 where
-  pub ready : Ready state numbers records next []
-  pub new_ready : Ready new_state numbers new_records new_next []
+pub record Moved (contexts : ContextLimits) (numbers : Numbers) (state new_state : Option SlotState) (records : List Record) (next : ℕ) (new_records : List Record) (new_next : ℕ) : Type 0 where
+  pub ready : Ready contexts state numbers records next []
+  pub new_ready : Ready contexts new_state numbers new_records new_next []
   pub rest : rest_of new_state ≡ rest_of state
   pub gap : gap_in new_state + counter_of state ≤ gap_in state + counter_of new_state
 
-pub moved : {D : Type 0} {numbers : Numbers} {seen : D → Seen} {old new : D} {records : List Record} {next : ℕ}
-    {new_records : List Record} {new_next : ℕ} → Ready (seen old).state numbers records next []
-    → Ready (seen new).state numbers new_records new_next [] → Swaps seen old new records new_records
-    → Moved numbers (seen old).state (seen new).state records next new_records new_next
+pub moved : {contexts : ContextLimits} {D : Type 0} {numbers : Numbers} {seen : D → Seen} {old new : D} {records : List Record} {next : ℕ}
+    {new_records : List Record} {new_next : ℕ} → Ready contexts (seen old).state numbers records next []
+    → Ready contexts (seen new).state numbers new_records new_next [] → Swaps seen old new records new_records
+    → Moved contexts numbers (seen old).state (seen new).state records next new_records new_next
 moved ready new_ready swaps = record { ready = ready; new_ready = new_ready; rest = swaps.rest; gap = swaps.gap }
 
 -- ---- places and gaps
@@ -129,19 +130,19 @@ fits_room None fits = tt
 fits_room (Some slots) fits = omega (arith, fits, flag_most (loaded_count slots.sessions == slots.numbers.loaded))
 
 -- so that a session can be saved
-pub can_number : {numbers : Numbers} (state : Option SlotState) (records : List Record) (next : ℕ) (others : List ℕ)
-    → Ready state numbers records next others → FitsOne state → counter_of state < CONTEXT_LIMIT → HasNumber state
+pub can_number : {contexts : ContextLimits} {numbers : Numbers} (state : Option SlotState) (records : List Record) (next : ℕ) (others : List ℕ)
+    → Ready contexts state numbers records next others → FitsOne state → counter_of state < CONTEXT_LIMIT → HasNumber state
 can_number None records next others ready fits below = tt
 can_number (Some slots) records next others ready fits below =
     record { below = below; narrow = omega (arith, fits, ready.stand.sound.range.gap_least) }
 
-pub some_free : {numbers : Numbers} (state : Option SlotState) (records : List Record) (next : ℕ) → Ready state numbers records next []
+pub some_free : {contexts : ContextLimits} {numbers : Numbers} (state : Option SlotState) (records : List Record) (next : ℕ) → Ready contexts state numbers records next []
     → loaded_items (items_of records) < numbers.loaded → AreFree state 1
 some_free None records next ready few = tt
 some_free (Some slots) records next ready few = omega (arith, few, loaded_told slots (view_of _ records next) ready.stand, places_told slots (view_of _ records next) [] ready.stand)
 
 -- where all places are taken, a device that has a free one doesn't tell
-pub none_free : {numbers : Numbers} (state new_state : Option SlotState) (records : List Record) (next : ℕ) → Ready state numbers records next []
+pub none_free : {contexts : ContextLimits} {numbers : Numbers} (state new_state : Option SlotState) (records : List Record) (next : ℕ) → Ready contexts state numbers records next []
     → numbers.loaded ≤ loaded_items (items_of records) → rest_of new_state ≡ rest_of state → AreFree state 1
     → counter_of new_state ≡ counter_of state
 none_free None None records next ready full rest free = refl
@@ -156,7 +157,7 @@ none_free (Some slots) new_state records next ready full rest free =
     ))
 
 -- where all places are taken
-pub full_fits : (numbers : Numbers) (state : Option SlotState) (records : List Record) (next : ℕ) → Ready state numbers records next [] → HasGapRoom state
+pub full_fits : {contexts : ContextLimits} (numbers : Numbers) (state : Option SlotState) (records : List Record) (next : ℕ) → Ready contexts state numbers records next [] → HasGapRoom state
     → numbers.loaded ≤ loaded_items (items_of records) → FitsOne state
 full_fits numbers None records next ready room full = tt
 full_fits numbers (Some slots) records next ready room full =
@@ -196,7 +197,7 @@ freed (Some slots) (Some new) items new_items number rest gap fits saves =
     }
 
 -- whether all places are taken
-pub not_full : (numbers : Numbers) (state : Option SlotState) (records : List Record) (next : ℕ) → Ready state numbers records next []
+pub not_full : {contexts : ContextLimits} (numbers : Numbers) (state : Option SlotState) (records : List Record) (next : ℕ) → Ready contexts state numbers records next []
     → loaded_items (items_of records) < numbers.loaded → full_flag state ≡ 0
 not_full numbers None records next ready few = refl
 not_full numbers (Some slots) records next ready few =
@@ -232,8 +233,8 @@ one_left view listed new_listed range lists most is =
     ]
 
 -- then the session that is saved takes one number
-pub one_taken : (numbers : Numbers) (state new_state : Option SlotState) (records : List Record) (next : ℕ) (new_items : List (Option Item)) (number : ℕ)
-    → Ready state numbers records next [] → numbers.loaded ≤ loaded_items (items_of records) → rest_of new_state ≡ rest_of state
+pub one_taken : {contexts : ContextLimits} (numbers : Numbers) (state new_state : Option SlotState) (records : List Record) (next : ℕ) (new_items : List (Option Item)) (number : ℕ)
+    → Ready contexts state numbers records next [] → numbers.loaded ≤ loaded_items (items_of records) → rest_of new_state ≡ rest_of state
     → Saves state new_state (items_of records) new_items number → counter_of new_state ≡ counter_of state + full_flag state
 one_taken numbers None None records next new_items number ready full rest saves = refl
 one_taken numbers None (Some new) records next new_items number ready full rest saves = absurd cc
@@ -262,8 +263,8 @@ counter_saved None (Some new) items new_items number rest saves = absurd cc
 counter_saved (Some slots) new_state items new_items number rest saves = (omega (arith, saves.counted), omega (arith, saves.counted))
 
 -- the oldest number stays
-pub oldest_stays : {numbers : Numbers} (state new_state : Option SlotState) (records : List Record) (next : ℕ) (new_items : List (Option Item)) (number : ℕ)
-    → Ready state numbers records next [] → is_loaded_item (item_at (items_of records) number) ≡ true → Saves state new_state (items_of records) new_items number
+pub oldest_stays : {contexts : ContextLimits} {numbers : Numbers} (state new_state : Option SlotState) (records : List Record) (next : ℕ) (new_items : List (Option Item)) (number : ℕ)
+    → Ready contexts state numbers records next [] → is_loaded_item (item_at (items_of records) number) ≡ true → Saves state new_state (items_of records) new_items number
     → IfSome state (λ slots. (n : ℕ) → oldest_number (items_of records) ≡ Some n → oldest_number new_items ≡ Some n)
 oldest_stays None new_state records next new_items number ready is saves = tt
 oldest_stays (Some slots) new_state records next new_items number ready is saves = λ n oldest.
@@ -297,8 +298,8 @@ oldest_still None (Some new) oldest new_oldest n rest same is = absurd cc
 oldest_still (Some slots) (Some new) oldest new_oldest n rest same is = same n is
 
 -- the gap gets smaller
-pub gap_left : (numbers : Numbers) (state new_state : Option SlotState) (records : List Record) (next : ℕ) (new_records : List Record) (new_next number n : ℕ)
-    → Moved numbers state new_state records next new_records new_next → Loads state new_state (items_of records) (items_of new_records) number
+pub gap_left : {contexts : ContextLimits} (numbers : Numbers) (state new_state : Option SlotState) (records : List Record) (next : ℕ) (new_records : List Record) (new_next number n : ℕ)
+    → Moved contexts numbers state new_state records next new_records new_next → Loads state new_state (items_of records) (items_of new_records) number
     → number_of_item (item_at (items_of records) number) ≡ Some n → IfSome state (λ slots. oldest_number (items_of records) ≡ Some n)
     → HasGapRoom state → FitsOne new_state
 gap_left numbers state None records next new_records new_next number n moved loads is oldest room = tt
@@ -328,12 +329,12 @@ oldest_had : (state : Option SlotState) (items : List (Option Item)) (number n :
 oldest_had None items number n oldest is = tt {0}
 oldest_had (Some slots) items number n oldest is = sym oldest ∙ is
 
-pub brought_fits : {numbers : Numbers} (start state new_state : Option SlotState) (items : List (Option Item)) (records : List Record) (next : ℕ) (new_records : List Record)
+pub brought_fits : {contexts : ContextLimits} {numbers : Numbers} (start state new_state : Option SlotState) (items : List (Option Item)) (records : List Record) (next : ℕ) (new_records : List Record)
     (new_next number : ℕ) → is_saved_item (item_at items number) ≡ true
     → IfSome start (λ slots. number_of_item (item_at items number) ≡ oldest_number items)
     → rest_of state ≡ rest_of start → item_at (items_of records) number ≡ item_at items number
     → IfSome start (λ slots. (n : ℕ) → oldest_number items ≡ Some n → oldest_number (items_of records) ≡ Some n)
-    → Moved numbers state new_state records next new_records new_next → Loads state new_state (items_of records) (items_of new_records) number
+    → Moved contexts numbers state new_state records next new_records new_next → Loads state new_state (items_of records) (items_of new_records) number
     → HasGapRoom state → FitsOne new_state
 brought_fits start state new_state items records next new_records new_next number saved oldest rest same still moved loads room =
     let had = has_last (item_at items number) saved in

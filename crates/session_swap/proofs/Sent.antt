@@ -1,14 +1,15 @@
 -- What a device that tells its state answers to the commands that move sessions, and what they make of the state.
-use Rattle.std.proofs.Common.{◌≡◌, ◌<◌, ◌^◌, ℕ, true, List, take, drop, refl, ap, subst, sym, ◌∙◌, arith}
+use Rattle.std.proofs.Common.{◌≡◌, ◌<◌, ◌≤◌, ◌^◌, ℕ, true, List, length, take, drop, refl, ap, subst, sym, ◌∙◌, arith}
 use Rattle.std.specs.Prelude.{Option, Some, None, is_some, IfSome}
 use Rattle.std.specs.Int.{w64, from_be_bytes}
 use Rattle.std.proofs.lemmas.Nat.{from_be_bytes-to_be_bytes_8}
 use Rattle.tab_spec.specs.Admission.{is_session_handle}
 use Rattle.tab_spec.specs.Session.{Session}
 use Rattle.tab_spec.specs.Shape.{number_of_session, octet_of}
+use Rattle.tab_spec.specs.declared.TheConstants.{MOST_CONTEXT_BYTES}
 use Rattle.effect_spec.specs.Contexts.{session_context}
 use Rattle.device_spec.specs.ContextCommands.{context_load_command, context_save_command, flush_context_command}
-use Rattle.device_spec.specs.Answers.{takes}
+use Rattle.device_spec.specs.Answers.{profile_takes as takes}
 use Rattle.device_spec.specs.Slots.{SlotState, IsSlots, Step, is_active_with, loaded_session, place_of, session_at, session_of_context, slot_step, with_place}
 use Rattle.device_port.specs.Device.{Answered}
 use Rattle.device_laws.proofs.FreshContexts.{fresh_session_of}
@@ -17,8 +18,7 @@ use Rattle.device_laws.proofs.SessionSteps.{session_back, session_load_step}
 use Rattle.device_laws.proofs.Standing.{IsLoadedAs, is_loaded_as}
 use Rattle.session_swap.specs.Items.{HandsOut}
 use Rattle.session_swap.specs.Moves.{IsIn, IsOut, MaySave, brought_in, ended, loaded_place, put_out}
-use Rattle.session_swap.specs.Records.{IsContext}
-use Rattle.session_swap.proofs.Commands.{is_saved, number_in}
+use Rattle.session_swap.proofs.Commands.{number_in}
 
 -- what is there
 some_of : (s : Option Session) → is_some s ≡ true → (session : Session) × (s ≡ Some session)
@@ -146,38 +146,37 @@ flush_answered (Some slots) new_state handle asked last fits session can same an
 
 -- ---- ContextLoad
 
-load_of : (slots : SlotState) (handle number : ℕ) (context : List ℕ) (s : Session) → handle < 2 ^ 32
-    → is_session_handle handle ≡ true → IsContext handle number context → IsOut slots handle context
+load_of : (slots : SlotState) (handle : ℕ) (context : List ℕ) (s : Session) → handle < 2 ^ 32
+    → is_session_handle handle ≡ true → length context ≤ MOST_CONTEXT_BYTES → IsOut slots handle context
     → session_at slots handle (Some context) ≡ Some s → Steps slots (context_load_command context) (session_back slots handle s)
-load_of slots handle number context s fits session is out there =
-    let few = (is_saved handle number context session is).most in
+load_of slots handle context s fits session few out there =
     record {
       is = session_load_step slots context handle out.number s out.started (omega (arith, few)) session out.place out.room there;
       taken = session_load_taken slots context handle out.number s out.sound out.started (omega (arith, few)) fits session out.place
           out.room there;
     }
 
-sent_load : (state : Option SlotState) (handle number : ℕ) (context : List ℕ) → handle < 2 ^ 32 → is_session_handle handle ≡ true
-    → IsContext handle number context → IfSome state (λ slots. IsOut slots handle context)
+sent_load : (state : Option SlotState) (handle : ℕ) (context : List ℕ) → handle < 2 ^ 32 → is_session_handle handle ≡ true
+    → length context ≤ MOST_CONTEXT_BYTES → IfSome state (λ slots. IsOut slots handle context)
     → IfSome state (IsTaken (context_load_command context))
-sent_load None handle number context fits session is can = tt
-sent_load (Some slots) handle number context fits session is can =
+sent_load None handle context fits session few can = tt
+sent_load (Some slots) handle context fits session few can =
     let there = some_of (session_at slots handle (Some context)) can.there in
-    (load_of slots handle number context there.0 fits session is can there.1).taken
+    (load_of slots handle context there.0 fits session few can there.1).taken
 
-pub load_told : (state : Option SlotState) (handle number : ℕ) (context asked : List ℕ) → handle < 2 ^ 32
-    → is_session_handle handle ≡ true → IsContext handle number context → IfSome state (λ slots. IsOut slots handle context)
+pub load_told : (state : Option SlotState) (handle : ℕ) (context asked : List ℕ) → handle < 2 ^ 32
+    → is_session_handle handle ≡ true → length context ≤ MOST_CONTEXT_BYTES → IfSome state (λ slots. IsOut slots handle context)
     → asked ≡ context_load_command context → IfSome state (IsTaken asked)
-load_told state handle number context asked fits session is can same =
-    told_as state asked (context_load_command context) same (sent_load state handle number context fits session is can)
+load_told state handle context asked fits session few can same =
+    told_as state asked (context_load_command context) same (sent_load state handle context fits session few can)
 
-pub load_answered : (state new_state : Option SlotState) (handle number : ℕ) (context asked last : List ℕ) → handle < 2 ^ 32
-    → is_session_handle handle ≡ true → IsContext handle number context → IfSome state (λ slots. IsOut slots handle context)
+pub load_answered : (state new_state : Option SlotState) (handle : ℕ) (context asked last : List ℕ) → handle < 2 ^ 32
+    → is_session_handle handle ≡ true → length context ≤ MOST_CONTEXT_BYTES → IfSome state (λ slots. IsOut slots handle context)
     → asked ≡ context_load_command context → Answered state asked new_state last → new_state ≡ brought_in handle context state
-load_answered None new_state handle number context asked last fits session is can same answered = answered
-load_answered (Some slots) new_state handle number context asked last fits session is can same answered =
+load_answered None new_state handle context asked last fits session few can same answered = answered
+load_answered (Some slots) new_state handle context asked last fits session few can same answered =
     let there = some_of (session_at slots handle (Some context)) can.there in
-    let steps = load_of slots handle number context there.0 fits session is can there.1 in
+    let steps = load_of slots handle context there.0 fits session few can there.1 in
     let command = context_load_command context in
     let back = λ (s : Option Session). Some (with_place slots (number_of_session handle) (loaded_place (octet_of handle) s)) in
     (step_left slots asked command (session_back slots handle there.0) new_state last same steps answered).0 ∙ ap back (sym there.1)

@@ -117,7 +117,7 @@ stands_by : (slots new : SlotState) (view : SessionsView) (others : List ℕ) (n
     → SessionsStand new (record view { items = set view.items n item }) others
 stands_by slots new view others n place item stand started sound counter seed numbers sessions moves unsaved =
     stands_changed (moved slots n place slots.counter) new (record view { items = set view.items n item }) others
-    (stands_moved slots view others n place slots.counter item view.next view.order view.saved view.left stand moves
+    (stands_moved slots view others n place slots.counter item view.next view.order view.saved view.left view.contexts stand moves
     (λ some. stand.next (any_set is_saved_item view.items n item unsaved some))
     (rise_gone view.items n item view.saved (unsaved_none item unsaved) stand.rise))
     started sound counter seed numbers

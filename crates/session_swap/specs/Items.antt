@@ -12,6 +12,7 @@ use Rattle.tab_spec.specs.Frame.{is_frame}
 use Rattle.tab_spec.specs.Reply.{response}
 use Rattle.tab_spec.specs.Session.{Session}
 use Rattle.tab_spec.specs.Shape.{number_of_session, octet_of}
+use Rattle.tab_spec.specs.declared.contexts.ContextLimits.{ContextLimits}
 use Rattle.device_port.specs.Device.{Seen, asked_of, last_of, sent_of}
 use Rattle.device_port.specs.Use.{all_used, first_unneeded, is_among, used_after, without_first, without_one}
 use Rattle.device_port.specs.declared.own.SwapError.{SwapError}
@@ -36,8 +37,8 @@ pub record Item : Type 0 where
   pub handed : Option (List ℕ)
 
 -- what is seen of a swapper: how much the device has room for, its sessions, by number, the number that the next context gets, the
--- numbers of the loaded sessions, the least recently used first, those of the saved ones, in the order in which they were saved, and
--- those of the left ones, in the order in which they were left
+-- numbers of the loaded sessions, the least recently used first, those of the saved ones, in the order in which they were saved,
+-- those of the left ones, in the order in which they were left, and what contexts there is room for
 pub record SessionsView : Type 0 where
   pub numbers : Numbers
   pub items : List (Option Item)
@@ -45,6 +46,7 @@ pub record SessionsView : Type 0 where
   pub order : List ℕ
   pub saved : List ℕ
   pub left : List ℕ
+  pub contexts : ContextLimits
 
 -- ---- items
 
@@ -422,10 +424,10 @@ pub record KeepsRest {D : Type 0} (seen : D → Seen) (old new : D) : Type 0 whe
 
 -- what a save for a client leaves over every device: the reply is the last response, a frame with a success. Its context is kept
 -- under the number that it begins with, and it is handed out. Every other session is as it was
-pub record SavesForClient (last : Option (List ℕ)) (reply : List ℕ) (handle : ℕ) (old new : SessionsView) : Type 0 where
+pub record SavesForClient (contexts : ContextLimits) (last : Option (List ℕ)) (reply : List ℕ) (handle : ℕ) (old new : SessionsView) : Type 0 where
   pub last_is : last ≡ Some reply
   pub frame : is_frame reply ≡ true
-  pub success : Succeeds (context_save_command handle) reply
+  pub success : Succeeds contexts (context_save_command handle) reply
   pub view_is : new ≡ record old {
     items = set old.items (number_of_session handle)
         (saved_by_client (drop HEADER_BYTES reply) (item_at old.items (number_of_session handle)));
@@ -451,6 +453,7 @@ pub record KeepsSessions (old_state new_state : Option SlotState) (old new : Lis
 pub record Moved {D : Type 0} (seen : D → Seen) (old new : D) (view new_view : SessionsView) : Type 0 where
   pub numbers : new_view.numbers ≡ view.numbers
   pub left : new_view.left ≡ view.left
+  pub contexts : new_view.contexts ≡ view.contexts
   pub sessions : KeepsSessions (seen old).state (seen new).state view.items new_view.items
   pub stand : Stand (seen new).state new_view []
   pub rest : KeepsRest seen old new
@@ -551,13 +554,13 @@ pub record MakesNoContext (state new_state : Option SlotState) : Type 0 where
 
 -- the session of a handle was renewed: it is saved in the context of the last response, which has the latest number, and a place
 -- is free
-pub record Renews (old new : Seen) (handle : ℕ) (items new_items : List (Option Item)) : Type 0 where
+pub record Renews (contexts : ContextLimits) (old new : Seen) (handle : ℕ) (items new_items : List (Option Item)) : Type 0 where
   pub renewed : IfSome new.state (λ slots. IsRenewed slots new_items (number_of_session handle))
   pub fresh : IsFresh (counter_of old.state) items new_items (number_of_session handle)
   -- over every device
   pub asked : asked_of new ≡ context_save_command handle
   pub context : IsSomeAnd (item_of new_items handle) (λ item. HasLastContext (last_of new) item)
-  pub answered : IsAnswered (asked_of new) (last_of new)
+  pub answered : IsAnswered contexts (asked_of new) (last_of new)
   pub free : AreFree new.state 1
   pub saved : saved_items items ≤ saved_items new_items
   -- the number that comes next rose by one, and by one more where another session had to be saved first

@@ -6,6 +6,7 @@ use Rattle.tab_spec.specs.declared.numbers.Numbers.{Numbers}
 use Rattle.tab_spec.specs.Frame.{is_frame}
 use Rattle.tab_spec.specs.Session.{Session}
 use Rattle.tab_spec.specs.Shape.{number_of_session, octet_of}
+use Rattle.tab_spec.specs.declared.contexts.ContextLimits.{ContextLimits}
 use Rattle.device_spec.specs.ContextCommands.{context_save_command}
 use Rattle.device_port.specs.Device.{Seen, asked_of, last_of, sent_of}
 use Rattle.device_port.specs.declared.own.SwapError.{SwapError}
@@ -86,8 +87,8 @@ HasPlace state = IfSome state (λ slots. loaded_count slots.sessions < slots.num
 -- ---- what moves keep
 
 -- records that moves may begin with, where these active numbers of the device are nobody's
-pub record Ready (state : Option SlotState) (numbers : Numbers) (records : List Record) (next : ℕ) (others : List ℕ) : Type 0 where
-  pub sound : AreRecords records
+pub record Ready (contexts : ContextLimits) (state : Option SlotState) (numbers : Numbers) (records : List Record) (next : ℕ) (others : List ℕ) : Type 0 where
+  pub sound : AreRecords contexts records
   pub stand : Stand state (view_of numbers records next) others
 
 -- what moves of sessions keep, of a device and of the records: every session stands, and whose it is. The gap grows by no more
@@ -118,8 +119,8 @@ pub record KeepsReply (last : Option (List ℕ)) (reply : List ℕ) (items new_i
   pub next_is : new_next ≡ number_after (context_number (drop HEADER_BYTES reply))
 
 -- the response is a success, and has the context of the session of this item
-pub record RepliesOf (state : Option SlotState) (reply : List ℕ) (item : Item) : Type 0 where
-  pub success : Succeeds (context_save_command item.handle) reply
+pub record RepliesOf (contexts : ContextLimits) (state : Option SlotState) (reply : List ℕ) (item : Item) : Type 0 where
+  pub success : Succeeds contexts (context_save_command item.handle) reply
   pub context : IfSome state (λ slots. HandsOut slots item.handle (item_session slots (Some item)) reply)
 
 -- one session was loaded, and every other stays where it was
@@ -142,25 +143,25 @@ abbrev pub HasContexts : Option SlotState → Type 0
 HasContexts state = IfSome state MaySaveAll
 
 -- a session of this handle is saved in these bytes, under this number, and they are the response's
-pub record SavesIn (old new : Seen) (handle number : ℕ) (context reply : List ℕ) : Type 0 where
+pub record SavesIn (contexts : ContextLimits) (old new : Seen) (handle number : ℕ) (context reply : List ℕ) : Type 0 where
   pub state : new.state ≡ put_out handle old.state
   pub counted : IfSome old.state (λ slots. number ≡ slots.counter)
   pub same : IfSome old.state
       (λ slots. session_of_context slots.persist.seed handle number (Some context) ≡ loaded_session slots handle)
   pub told : IfSome old.state (λ slots. HandsOut slots handle (loaded_session slots handle) reply)
   -- over every device
-  pub kept : IsContext handle number context
+  pub kept : IsContext contexts handle number context
   pub last : last_of new ≡ Some reply
-  pub success : Succeeds (context_save_command handle) reply
+  pub success : Succeeds contexts (context_save_command handle) reply
   pub bytes : context ≡ drop HEADER_BYTES reply
   pub begins : number ≡ context_number (drop HEADER_BYTES reply)
 
 -- one session was saved: in the state, and over every device by what was sent and which context is kept
-pub record PutsOut (old new : Seen) (reply : List ℕ) (items new_items : List (Option Item)) (number new_next : ℕ) : Type 0 where
+pub record PutsOut (contexts : ContextLimits) (old new : Seen) (reply : List ℕ) (items new_items : List (Option Item)) (number new_next : ℕ) : Type 0 where
   pub saves : Saves old.state new.state items new_items number
   pub sent : IsSomeAnd (item_at new_items number) (λ item. IsSentOut (asked_of new) (last_of new) item)
   pub reply_is : KeepsReply (last_of new) reply items new_items number new_next
-  pub told : IsSomeAnd (item_at items number) (λ item. RepliesOf old.state reply item)
+  pub told : IsSomeAnd (item_at items number) (λ item. RepliesOf contexts old.state reply item)
 
 -- every session that was saved stays where it was, and a context with a number below what came next is one that was there already
 pub record KeepsSaved (state : Option SlotState) (items new_items : List (Option Item)) : Type 0 where
@@ -191,11 +192,11 @@ pub record FreeingCounts {D : Type 0} (seen : D → Seen) (old new : D) (view : 
   pub sent : sent_of (seen new) ≤ sent_of (seen old) + full_kept view
 
 -- the session of a number was renewed (`Renews` of `Items.antt`, of the records)
-pub record RenewsAt (old new : Seen) (items new_items : List (Option Item)) (number : ℕ) : Type 0 where
+pub record RenewsAt (contexts : ContextLimits) (old new : Seen) (items new_items : List (Option Item)) (number : ℕ) : Type 0 where
   pub renewed : IfSome new.state (λ slots. IsRenewed slots new_items number)
   pub fresh : IsFresh (counter_of old.state) items new_items number
   pub sent : IsSomeAnd (item_at new_items number) (λ item. IsSentOut (asked_of new) (last_of new) item)
-  pub answered : IsAnswered (asked_of new) (last_of new)
+  pub answered : IsAnswered contexts (asked_of new) (last_of new)
   pub free : AreFree new.state 1
   pub saved : saved_items items ≤ saved_items new_items
   pub exact : IfSome new.state (λ slots. slots.counter ≡ counter_of old.state + full_flag old.state + 1)
@@ -223,8 +224,8 @@ abbrev pub RiseIn : Option SlotState → List (Option Item) → List ℕ → Typ
 RiseIn state items numbers = IfSome state (λ slots. Rise (numbers_along items numbers))
 
 -- records that moves may begin with, and the lists of their sessions
-pub record ReadyIn (state : Option SlotState) (numbers : Numbers) (records : List Record) (next : ℕ) (order : OrderView) : Type 0 where
-  pub ready : Ready state numbers records next []
+pub record ReadyIn (contexts : ContextLimits) (state : Option SlotState) (numbers : Numbers) (records : List Record) (next : ℕ) (order : OrderView) : Type 0 where
+  pub ready : Ready contexts state numbers records next []
   pub listed : ListsIn numbers records order
   pub rise : RiseIn state (items_of records) order.saved
 

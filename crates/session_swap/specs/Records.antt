@@ -9,9 +9,10 @@ use Rattle.tab_spec.specs.declared.numbers.Numbers.{Numbers}
 use Rattle.tab_spec.specs.Numbers.{AreInRange}
 use Rattle.tab_spec.specs.Admission.{is_session_handle}
 use Rattle.tab_spec.specs.Values.{Reading}
-use Rattle.effect_spec.specs.Contexts as contexts
+use Rattle.tab_spec.specs.declared.contexts.ContextLimits.{ContextLimits}
+use Rattle.tab_spec.specs.declared.contexts.TheConstants.{PROFILE_CONTEXTS}
+use Rattle.effect_spec.specs.Contexts as forms
 use Rattle.effect_spec.specs.Contexts.{Context}
-use Rattle.device_spec.specs.declared.TheConstants.{MOST_SESSION_CONTEXT_BYTES}
 use Rattle.device_spec.specs.Answers.{is_context_of}
 use Rattle.session_swap.specs.declared.record.Place.{Place}
 use Rattle.session_swap.specs.declared.record.Place.TheVariants as places
@@ -47,24 +48,26 @@ pub record OrderView : Type 0 where
 abbrev pub no_order : OrderView
 no_order = record { loaded = []; saved = [] }
 
--- what is seen of the records, over a device of these numbers, where the numbers of these sessions are listed, and these were left
-abbrev pub whole_view : Numbers → List Record → ℕ → OrderView → List ℕ → SessionsView
-whole_view numbers records next order left = record {
+-- what is seen of the records, over a device of these numbers, where the numbers of these sessions are listed, these were left, and
+-- there is room for such contexts
+abbrev pub whole_view : Numbers → List Record → ℕ → OrderView → List ℕ → ContextLimits → SessionsView
+whole_view numbers records next order left contexts = record {
   numbers = numbers;
   items = items_of records;
   next = next;
   order = order.loaded;
   saved = order.saved;
   left = left;
+  contexts = contexts;
 }
 
 -- the same where it doesn't count which ones were left
-abbrev pub view_with : Numbers → List Record → ℕ → OrderView → SessionsView
-view_with numbers records next order = whole_view numbers records next order []
+abbrev pub view_with : Numbers → List Record → ℕ → OrderView → ContextLimits → SessionsView
+view_with numbers records next order contexts = whole_view numbers records next order [] contexts
 
--- the same where the order of the sessions doesn't count
+-- the same where neither the order of the sessions counts nor room
 abbrev pub view_of : Numbers → List Record → ℕ → SessionsView
-view_of numbers records next = view_with numbers records next no_order
+view_of numbers records next = view_with numbers records next no_order PROFILE_CONTEXTS
 
 -- the number of a context
 abbrev pub sequence_of : Reading Context → ℕ
@@ -72,20 +75,20 @@ sequence_of (Err code) = 0
 sequence_of (Ok read) = read.0.sequence
 
 -- the whole context of the session of this handle, with this number
-pub record IsContext (handle number : ℕ) (bytes : List ℕ) : Type 0 where
-  pub whole : is_context_of handle bytes (contexts.context_of bytes) ≡ true
-  pub number_is : sequence_of (contexts.context_of bytes) ≡ number
+pub record IsContext (contexts : ContextLimits) (handle number : ℕ) (bytes : List ℕ) : Type 0 where
+  pub whole : is_context_of contexts handle bytes (forms.context_of bytes) ≡ true
+  pub number_is : sequence_of (forms.context_of bytes) ≡ number
 
-abbrev pub KeepsContext : Place → ℕ → List ℕ → Type 0
-KeepsContext places.Unused handle context = Unit {0}
-KeepsContext places.Loaded handle context = Unit {0}
-KeepsContext (places.Saved number) handle context = IsContext handle number context
+abbrev pub KeepsContext : ContextLimits → Place → ℕ → List ℕ → Type 0
+KeepsContext contexts places.Unused handle context = Unit {0}
+KeepsContext contexts places.Loaded handle context = Unit {0}
+KeepsContext contexts (places.Saved number) handle context = IsContext contexts handle number context
 
 -- what holds of a record: its room is enough for two contexts, and holds one where the session is saved
-pub record IsRecord (r : Record) : Type 0 where
-  pub room : MOST_SESSION_CONTEXT_BYTES ≤ vec_capacity r.context
-  pub handed_room : MOST_SESSION_CONTEXT_BYTES ≤ vec_capacity r.handed
-  pub context : KeepsContext r.place r.handle r.context.items
+pub record IsRecord (contexts : ContextLimits) (r : Record) : Type 0 where
+  pub room : contexts.session_bytes ≤ vec_capacity r.context
+  pub handed_room : contexts.session_bytes ≤ vec_capacity r.handed
+  pub context : KeepsContext contexts r.place r.handle r.context.items
 
 -- an item has the handle of a session with this number
 pub record IsHandleOf (number : ℕ) (item : Item) : Type 0 where
@@ -93,9 +96,9 @@ pub record IsHandleOf (number : ℕ) (item : Item) : Type 0 where
   pub number_is : number_of_session item.handle ≡ number
 
 -- what holds of the records: there is one for each number
-pub record AreRecords (records : List Record) : Type 0 where
+pub record AreRecords (contexts : ContextLimits) (records : List Record) : Type 0 where
   pub count : length records ≡ SESSION_NUMBERS
-  pub each : All (λ r. IsRecord r) records
+  pub each : All (λ r. IsRecord contexts r) records
   pub handles : (number : ℕ) → IfSome (item_at (items_of records) number) (λ item. IsHandleOf number item)
 
 -- each loaded session is listed, no more of them than the device has places, and each saved one
@@ -107,8 +110,8 @@ pub record ListsIn (numbers : Numbers) (records : List Record) (order : OrderVie
 
 -- what holds of all that is kept: each left session is listed, so many sessions are clients' or left, and there are no more than may
 -- be active
-pub record AreListed (numbers : Numbers) (records : List Record) (order : OrderView) (left : List ℕ) (held : ℕ) : Type 0 where
-  pub sound : AreRecords records
+pub record AreListed (contexts : ContextLimits) (numbers : Numbers) (records : List Record) (order : OrderView) (left : List ℕ) (held : ℕ) : Type 0 where
+  pub sound : AreRecords contexts records
   pub listed : ListsIn numbers records order
   pub left_are : ListsThose is_left left (items_of records)
   pub held_is : held ≡ count_by is_held (items_of records)

@@ -22,6 +22,7 @@ pub fn refresh<D: Device>(
     device: &mut D,
     scratch: &mut Buffer,
 ) -> Result<u32, SwapError>
+    requires contexts { sessions.old.contexts ≡ D.CONTEXTS }
     requires stand { Stand (D.seen device.old).state sessions.old [] }
     requires may { HasGapRoom (D.seen device.old).state
         × (counter_of (D.seen device.old).state + 1000 ≤ CONTEXT_LIMIT) }
@@ -34,7 +35,7 @@ pub fn refresh<D: Device>(
         (λ slots. KeepsRecent slots sessions.old.items sessions.new.items) }
     ensures moved { Moved D.seen device.old device.new sessions.old sessions.new }
     ensures counts { RefreshCounts D.seen device.old device.new sessions.old }
-    ensures asks { AsksSome D.seen device.old device.new result }
+    ensures asks { AsksSome D.CONTEXTS D.seen device.old device.new result }
 {
     refresh_by(sessions, device, scratch, &mut Uncounted)
 }
@@ -48,6 +49,7 @@ pub fn refresh_counted<D: Device, L: Ledger>(
     scratch: &mut Buffer,
     steps: &mut Steps<L>,
 ) -> Result<u32, SwapError>
+    requires contexts { sessions.old.contexts ≡ D.CONTEXTS }
     requires stand { Stand (D.seen device.old).state sessions.old [] }
     requires may { HasGapRoom (D.seen device.old).state
         × (counter_of (D.seen device.old).state + 1000 ≤ CONTEXT_LIMIT) }
@@ -61,7 +63,7 @@ pub fn refresh_counted<D: Device, L: Ledger>(
     ensures counts { RefreshCounts D.seen device.old device.new sessions.old
         × Visited steps.old steps.new (saved_items sessions.old.items) result }
     ensures counted { IfOk result (λ renewed. steps.old + 5 * renewed ≤ steps.new) }
-    ensures asks { AsksSome D.seen device.old device.new result }
+    ensures asks { AsksSome D.CONTEXTS D.seen device.old device.new result }
 {
     refresh_by(sessions, device, scratch, steps)
 }
@@ -72,6 +74,7 @@ fn refresh_by<D: Device, C: Visits>(
     scratch: &mut Buffer,
     steps: &mut C,
 ) -> Result<u32, SwapError>
+    requires contexts { sessions.old.contexts ≡ D.CONTEXTS }
     requires stand { Stand (D.seen device.old).state sessions.old [] }
     requires may { HasGapRoom (D.seen device.old).state
         × (counter_of (D.seen device.old).state + 1000 ≤ CONTEXT_LIMIT) }
@@ -86,7 +89,7 @@ fn refresh_by<D: Device, C: Visits>(
         × Visited (C.count steps.old) (C.count steps.new) (saved_items sessions.old.items) result }
     ensures counted { IfOk result (λ renewed.
         C.count steps.old + renewed * (5 * C.weight) ≤ C.count steps.new) }
-    ensures asks { AsksSome D.seen device.old device.new result }
+    ensures asks { AsksSome D.CONTEXTS D.seen device.old device.new result }
 {
     let most = u32::from(sessions.saved());
     for renewed in 0..most {

@@ -23,18 +23,18 @@ pub fn put_out<D: Device>(
 ) -> Result<(), SwapError>
     requires loaded { is_loaded_item (item_at (items_of records.old) number) ≡ true }
     requires ready { (numbers : Numbers) × (others : List ℕ)
-        × Ready (D.seen device.old).state numbers records.old next.old others }
+        × Ready D.CONTEXTS (D.seen device.old).state numbers records.old next.old others }
     requires may { HasNumber (D.seen device.old).state }
     ensures swaps { Swaps D.seen device.old device.new records.old records.new }
     ensures ready { (numbers : Numbers) (others : List ℕ)
-        → Ready (D.seen device.old).state numbers records.old next.old others
-        → Ready (D.seen device.new).state numbers records.new next.new others }
-    ensures ok { OnOk result (PutsOut (D.seen device.old) (D.seen device.new) scratch.new
+        → Ready D.CONTEXTS (D.seen device.old).state numbers records.old next.old others
+        → Ready D.CONTEXTS (D.seen device.new).state numbers records.new next.new others }
+    ensures ok { OnOk result (PutsOut D.CONTEXTS (D.seen device.old) (D.seen device.new) scratch.new
         (items_of records.old) (items_of records.new) number next.new) }
     ensures err { OnErr result (Stays (D.seen device.old).state (D.seen device.new).state
         (items_of records.old) (items_of records.new) × (next.new ≡ next.old)) }
     ensures asks { IsSomeAnd (item_at (items_of records.old) number) (λ item.
-        Asks D.seen device.old device.new (context_save_command item.handle) result) }
+        Asks D.CONTEXTS D.seen device.old device.new (context_save_command item.handle) result) }
 {
     let record = &mut records[number];
     let context = save(device, record.handle, &mut record.context, scratch)?;
@@ -61,18 +61,19 @@ pub fn bring_in<D: Device>(
 ) -> Result<(), SwapError>
     requires saved { is_saved_item (item_at (items_of records.old) number) ≡ true }
     requires ready { (numbers : Numbers)
-        × Ready (D.seen device.old).state numbers records.old next [] }
+        × Ready D.CONTEXTS (D.seen device.old).state numbers records.old next [] }
     requires place { HasPlace (D.seen device.old).state }
     ensures swaps { Swaps D.seen device.old device.new records.old records.new }
     ensures ready { (numbers : Numbers)
-        → Ready (D.seen device.old).state numbers records.old next []
-        → Ready (D.seen device.new).state numbers records.new next [] }
+        → Ready D.CONTEXTS (D.seen device.old).state numbers records.old next []
+        → Ready D.CONTEXTS (D.seen device.new).state numbers records.new next [] }
     ensures ok { OnOk result (Loads (D.seen device.old).state (D.seen device.new).state
         (items_of records.old) (items_of records.new) number) }
     ensures err { OnErr result (Stays (D.seen device.old).state (D.seen device.new).state
         (items_of records.old) (items_of records.new)) }
     ensures asks { IsSomeAnd (item_at (items_of records.old) number) (λ item. IsSomeAnd item.saved
-        (λ saved. Asks D.seen device.old device.new (context_load_command saved.context) result)) }
+        (λ saved. Asks D.CONTEXTS D.seen device.old device.new (context_load_command saved.context)
+        result)) }
 {
     let record = &mut records[number];
     load(device, record.handle, bytes_of(&record.context), scratch)?;

@@ -2,6 +2,7 @@ ghost use Rattle.std.specs.Prelude.{◌≡◌, ◌≤◌, ◌<◌, length, vec_c
 ghost use Rattle.std.specs.Prelude.{MatchOption, Some, false, true, ℕ};
 ghost use Rattle.std.specs.List.{count_by, list_any};
 ghost use Rattle.tab_spec.specs.Shape.{number_of_session};
+ghost use Rattle.tab_spec.specs.declared.contexts.ContextLimits.{ContextLimits};
 ghost use Rattle.device_spec.specs.Answers.{word_at};
 ghost use Rattle.device_spec.specs.Slots.{gap_from};
 ghost use Rattle.session_swap.specs.Items.{Names, equals_handed};
@@ -14,9 +15,8 @@ ghost use Rattle.session_swap.specs.Records.{items_of};
 
 use crate::record::{Place, Record};
 use crate::sessions::number_of;
-use device_spec::MOST_SESSION_CONTEXT_BYTES;
 use std::alloc::{AllocError, Global};
-use tab_spec::SESSION_NUMBERS;
+use tab_spec::{ContextLimits, SESSION_NUMBERS};
 
 impl Record {
     /// Whether there is a session with its number.
@@ -127,15 +127,15 @@ impl Record {
     }
 }
 
-/// The records of no sessions, with the memory of all 64 numbers.
-pub fn unused_records(alloc: Global) -> Result<Vec<Record>, AllocError>
-    ensures sound { IfOk result (λ records. AreRecords records.items) }
+/// The records of no sessions, with the memory of all 64 numbers, for such contexts.
+pub fn unused_records(alloc: Global, contexts: ContextLimits) -> Result<Vec<Record>, AllocError>
+    ensures sound { IfOk result (λ records. AreRecords contexts records.items) }
     ensures none { IfOk result (λ records. items_of records.items ≡ no_items) }
 {
     let mut records = Vec::with_capacity(alloc, SESSION_NUMBERS as usize)?;
     for _ in 0..SESSION_NUMBERS {
-        let context = Vec::with_capacity(alloc, MOST_SESSION_CONTEXT_BYTES as usize)?;
-        let handed = Vec::with_capacity(alloc, MOST_SESSION_CONTEXT_BYTES as usize)?;
+        let context = Vec::with_capacity(alloc, usize::from(contexts.session_bytes))?;
+        let handed = Vec::with_capacity(alloc, usize::from(contexts.session_bytes))?;
         records
             .push(Record {
                 client: None,
@@ -173,7 +173,7 @@ pub fn has_number(records: &[Record], handle: u32) -> bool
 
 /// The handle of the session of this client that has the least number; nothing where it has none.
 pub fn find_owned(records: &[Record], client: u32) -> Option<u32>
-    requires { AreRecords records.now }
+    requires { (contexts : ContextLimits) × AreRecords contexts records.now }
     ensures { MatchOption result (list_any (is_owned client) (items_of records.now) ≡ false)
         (λ handle. Names (items_of records.now) handle
         × (is_owner client (owner_in (items_of records.now) handle) ≡ true)
@@ -190,7 +190,7 @@ pub fn find_owned(records: &[Record], client: u32) -> Option<u32>
 
 /// The handle of an orphan; nothing where there is none.
 pub fn find_orphan(records: &[Record]) -> Option<u32>
-    requires { AreRecords records.now }
+    requires { (contexts : ContextLimits) × AreRecords contexts records.now }
     ensures { MatchOption result (list_any is_orphan (items_of records.now) ≡ false)
         (λ handle. Names (items_of records.now) handle
         × (is_orphan (item_at (items_of records.now) (number_of_session handle)) ≡ true)) }

@@ -9,9 +9,9 @@ ghost use Rattle.session_swap.specs.Items.{context_number};
 ghost use Rattle.session_swap.specs.Records.{IsContext};
 ghost use Rattle.session_swap.specs.Moves.{IsIn, IsOut, MaySave, SavesIn, brought_in, ended};
 
-use device_port::{Device, SwapError, ask, command_of};
+use device_port::{Device, SwapError, ask, command_of, load_command};
 use tab_bytes::Buffer;
-use tab_spec::{CC_CONTEXT_LOAD, CC_CONTEXT_SAVE, CC_FLUSH_CONTEXT, HEADER_BYTES};
+use tab_spec::{CC_CONTEXT_SAVE, CC_FLUSH_CONTEXT, HEADER_BYTES};
 
 // The number that a context begins with (Part 2, "TPMS_CONTEXT").
 fn number_of(context: &[u8]) -> u64
@@ -32,12 +32,12 @@ pub fn save<D: Device>(
     scratch: &mut Buffer,
 ) -> Result<u64, SwapError>
     requires session { is_session_handle handle ≡ true }
-    requires room { 256 ≤ vec_capacity context.old }
+    requires room { D.CONTEXTS.session_bytes ≤ vec_capacity context.old }
     requires told { IfSome (D.seen device.old).state (λ slots. IsIn slots handle × MaySave slots) }
-    ensures saved { IfOk result (λ number. SavesIn (D.seen device.old) (D.seen device.new)
-        handle number context.new.items scratch.new) }
-    ensures room { 256 ≤ vec_capacity context.new }
-    ensures asks { Asks D.seen device.old device.new (context_save_command handle) result }
+    ensures saved { IfOk result (λ number. SavesIn D.CONTEXTS
+        (D.seen device.old) (D.seen device.new) handle number context.new.items scratch.new) }
+    ensures room { D.CONTEXTS.session_bytes ≤ vec_capacity context.new }
+    ensures asks { Asks D.CONTEXTS D.seen device.old device.new (context_save_command handle) result }
 {
     let command = command_of(CC_CONTEXT_SAVE, &handle.to_be_bytes());
     ask(device, command.as_slice(), scratch)?;
@@ -55,13 +55,14 @@ pub fn load<D: Device>(
     scratch: &mut Buffer,
 ) -> Result<(), SwapError>
     requires session { is_session_handle handle ≡ true }
-    requires kept { (number : ℕ) × IsContext handle number context.now }
+    requires kept { (number : ℕ) × IsContext D.CONTEXTS handle number context.now }
     requires told { IfSome (D.seen device.old).state (λ slots. IsOut slots handle context.now) }
     ensures state { OnOk result
         ((D.seen device.new).state ≡ brought_in handle context.now (D.seen device.old).state) }
-    ensures asks { Asks D.seen device.old device.new (context_load_command context.now) result }
+    ensures asks { Asks D.CONTEXTS D.seen device.old device.new (context_load_command context.now)
+        result }
 {
-    let command = command_of(CC_CONTEXT_LOAD, context);
+    let command = load_command(context);
     ask(device, command.as_slice(), scratch)
 }
 
@@ -72,7 +73,8 @@ pub fn flush<D: Device>(device: &mut D, handle: u32, scratch: &mut Buffer) -> Re
         × IsSlots slots × (is_active_with (octet_of handle) (place_of slots handle) ≡ true)) }
     ensures state { OnOk result
         ((D.seen device.new).state ≡ ended handle (D.seen device.old).state) }
-    ensures asks { Asks D.seen device.old device.new (flush_context_command handle) result }
+    ensures asks { Asks D.CONTEXTS D.seen device.old device.new (flush_context_command handle)
+        result }
 {
     let command = command_of(CC_FLUSH_CONTEXT, &handle.to_be_bytes());
     ask(device, command.as_slice(), scratch)

@@ -9,6 +9,7 @@ ghost use Rattle.session_swap.specs.Moves.{HasContexts, ReadyIn, Swaps, SwapsFor
 ghost use Rattle.device_port.specs.Own.{AsksSome};
 ghost use Rattle.device_port.specs.Use.{is_among};
 ghost use Rattle.tab_spec.specs.declared.numbers.Numbers.{Numbers};
+ghost use Rattle.tab_spec.specs.declared.contexts.ContextLimits.{ContextLimits};
 
 use crate::items::{bring_in, put_out};
 use crate::order::{Order, Uncounted};
@@ -54,7 +55,7 @@ fn is_needed(session: &Record, needed: &[u32]) -> bool
 
 // The loaded session that was used least recently, of those that aren't needed.
 fn unneeded(records: &[Record], order: &Order, needed: &[u32]) -> Option<usize>
-    requires sound { AreRecords records.now }
+    requires sound { (contexts : ContextLimits) × AreRecords contexts records.now }
     requires listed { Lists order.now.loaded (items_of records.now) }
     ensures { MatchOption result
         (AllNeeded (items_of records.now) order.now.loaded needed.now (length order.now.loaded))
@@ -86,17 +87,17 @@ fn clear_places<D: Device>(
 ) -> Result<(), SwapError>
     requires needed { CanClear records.old needed.now most }
     requires ready { (numbers : Numbers)
-        × ReadyIn (D.seen device.old).state numbers records.old next.old order.old }
+        × ReadyIn D.CONTEXTS (D.seen device.old).state numbers records.old next.old order.old }
     requires may { HasContexts (D.seen device.old).state }
     ensures swaps { Swaps D.seen device.old device.new records.old records.new }
     ensures ready { (numbers : Numbers)
-        → ReadyIn (D.seen device.old).state numbers records.old next.old order.old
-        → ReadyIn (D.seen device.new).state numbers records.new next.new order.new }
+        → ReadyIn D.CONTEXTS (D.seen device.old).state numbers records.old next.old order.old
+        → ReadyIn D.CONTEXTS (D.seen device.new).state numbers records.new next.new order.new }
     ensures evicts { Evicts D.seen device.old device.new records.old records.new
         order.old order.new needed.now most result }
     ensures idle { loaded_items (items_of records.old) ≤ most → (device.new ≡ device.old)
         × (records.new ≡ records.old) × (next.new ≡ next.old) × (result ≡ Ok tt) }
-    ensures asks { AsksSome D.seen device.old device.new result }
+    ensures asks { AsksSome D.CONTEXTS D.seen device.old device.new result }
 {
     while order.loaded() > most {
         // What is needed alone would fit.
@@ -118,19 +119,19 @@ fn make_loaded<D: Device>(
 ) -> Result<(), SwapError>
     requires named { Names (items_of records.old) handle }
     requires ready { (numbers : Numbers)
-        × ReadyIn (D.seen device.old).state numbers records.old next order.old
+        × ReadyIn D.CONTEXTS (D.seen device.old).state numbers records.old next order.old
         × (is_loaded_item (item_of (items_of records.old) handle) ≡ false
         → loaded_items (items_of records.old) < numbers.loaded) }
     ensures swaps { Swaps D.seen device.old device.new records.old records.new }
     ensures ready { (numbers : Numbers)
-        → ReadyIn (D.seen device.old).state numbers records.old next order.old
+        → ReadyIn D.CONTEXTS (D.seen device.old).state numbers records.old next order.old
         → (is_loaded_item (item_of (items_of records.old) handle) ≡ false
         → loaded_items (items_of records.old) < numbers.loaded)
-        → ReadyIn (D.seen device.new).state numbers records.new next order.new }
+        → ReadyIn D.CONTEXTS (D.seen device.new).state numbers records.new next order.new }
     ensures counter { counter_of (D.seen device.new).state ≡ counter_of (D.seen device.old).state }
     ensures brings { Brings D.seen device.old device.new records.old records.new
         order.old order.new handle result }
-    ensures asks { AsksSome D.seen device.old device.new result }
+    ensures asks { AsksSome D.CONTEXTS D.seen device.old device.new result }
 {
     let number = number_of(handle);
     if records[number].is_loaded() {
@@ -152,17 +153,17 @@ fn fill_places<D: Device>(
     scratch: &mut Buffer,
 ) -> Result<(), SwapError>
     requires ready { (numbers : Numbers)
-        × ReadyIn (D.seen device.old).state numbers records.old next order.old
+        × ReadyIn D.CONTEXTS (D.seen device.old).state numbers records.old next order.old
         × CanFill numbers records.old needed.now }
     ensures swaps { Swaps D.seen device.old device.new records.old records.new }
     ensures ready { (numbers : Numbers)
-        → ReadyIn (D.seen device.old).state numbers records.old next order.old
+        → ReadyIn D.CONTEXTS (D.seen device.old).state numbers records.old next order.old
         → CanFill numbers records.old needed.now
-        → ReadyIn (D.seen device.new).state numbers records.new next order.new }
+        → ReadyIn D.CONTEXTS (D.seen device.new).state numbers records.new next order.new }
     ensures counter { counter_of (D.seen device.new).state ≡ counter_of (D.seen device.old).state }
     ensures fills { Fills D.seen device.old device.new records.old records.new
         order.old order.new needed.now result }
-    ensures asks { AsksSome D.seen device.old device.new result }
+    ensures asks { AsksSome D.CONTEXTS D.seen device.old device.new result }
 {
     for handle in needed {
         make_loaded(records, next, order, *handle, device, scratch)?;
@@ -183,16 +184,18 @@ pub fn swap_sessions<D: Device>(
     scratch: &mut Buffer,
 ) -> Result<(), SwapError>
     requires needed { AreNeeded needed.now new_places (items_of records.old) }
-    requires ready { ReadyIn (D.seen device.old).state numbers records.old next.old order.old }
+    requires ready { ReadyIn D.CONTEXTS (D.seen device.old).state numbers records.old next.old
+        order.old }
     requires may { HasContexts (D.seen device.old).state }
     ensures swaps { SwapsFor D.seen device.old device.new records.old records.new needed.now }
-    ensures ready { ReadyIn (D.seen device.new).state numbers records.new next.new order.new }
+    ensures ready { ReadyIn D.CONTEXTS (D.seen device.new).state numbers records.new next.new
+        order.new }
     ensures ok { OnOk result (HavePlaces needed.now new_places (D.seen device.new).state
-        (view_with numbers records.new next.new order.new)) }
+        (view_with numbers records.new next.new order.new D.CONTEXTS)) }
     ensures room { MakesRoom D.seen device.old device.new needed.now new_places
-        (view_with numbers records.old next.old order.old)
-        (view_with numbers records.new next.new order.new) result }
-    ensures asks { AsksSome D.seen device.old device.new result }
+        (view_with numbers records.old next.old order.old D.CONTEXTS)
+        (view_with numbers records.new next.new order.new D.CONTEXTS) result }
+    ensures asks { AsksSome D.CONTEXTS D.seen device.old device.new result }
 {
     let most = usize::from(numbers.loaded) - usize::from(new_places);
     let missing = count_missing(records, needed);

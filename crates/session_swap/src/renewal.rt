@@ -24,11 +24,13 @@ fn free_place<D: Device, C: Visits>(
     scratch: &mut Buffer,
     steps: &mut C,
 ) -> Result<(), SwapError>
-    requires ready { ReadyIn (D.seen device.old).state numbers records.old next.old order.old }
+    requires ready { ReadyIn D.CONTEXTS (D.seen device.old).state numbers records.old next.old
+        order.old }
     requires may { HasGapRoom (D.seen device.old).state
         × (counter_of (D.seen device.old).state < CONTEXT_LIMIT) }
     ensures swaps { Swaps D.seen device.old device.new records.old records.new }
-    ensures ready { ReadyIn (D.seen device.new).state numbers records.new next.new order.new }
+    ensures ready { ReadyIn D.CONTEXTS (D.seen device.new).state numbers records.new next.new
+        order.new }
     ensures ok { OnOk result (Frees (D.seen device.old).state (D.seen device.new).state
         (view_of numbers records.old next.old) (items_of records.new) order.old order.new) }
     ensures kept { KeepsSaved (D.seen device.old).state (items_of records.old)
@@ -38,7 +40,7 @@ fn free_place<D: Device, C: Visits>(
         × (C.count steps.new
         ≤ C.count steps.old + 6 * full_kept (view_of numbers records.old next.old)) }
     ensures rises { C.count steps.old ≤ C.count steps.new }
-    ensures asks { AsksSome D.seen device.old device.new result }
+    ensures asks { AsksSome D.CONTEXTS D.seen device.old device.new result }
 {
     if order.loaded() < usize::from(numbers.loaded) {
         return Ok(());
@@ -62,12 +64,14 @@ pub fn renew_session<D: Device, C: Visits>(
     steps: &mut C,
 ) -> Result<(), SwapError>
     requires oldest { IsOldestAt (D.seen device.old).state (items_of records.old) number }
-    requires ready { ReadyIn (D.seen device.old).state numbers records.old next.old order.old }
+    requires ready { ReadyIn D.CONTEXTS (D.seen device.old).state numbers records.old next.old
+        order.old }
     requires may { HasGapRoom (D.seen device.old).state
         × (counter_of (D.seen device.old).state + 900 ≤ CONTEXT_LIMIT) }
     ensures swaps { Swaps D.seen device.old device.new records.old records.new }
-    ensures ready { ReadyIn (D.seen device.new).state numbers records.new next.new order.new }
-    ensures ok { OnOk result (RenewsAt (D.seen device.old) (D.seen device.new)
+    ensures ready { ReadyIn D.CONTEXTS (D.seen device.new).state numbers records.new next.new
+        order.new }
+    ensures ok { OnOk result (RenewsAt D.CONTEXTS (D.seen device.old) (D.seen device.new)
         (items_of records.old) (items_of records.new) number
         × (order.new
         ≡ order_renewed (full_kept (view_of numbers records.old next.old)) number order.old)) }
@@ -77,7 +81,7 @@ pub fn renew_session<D: Device, C: Visits>(
         × (C.count steps.new
         ≤ C.count steps.old + 10 + 6 * full_kept (view_of numbers records.old next.old)) }
     ensures counted { OnOk result (C.count steps.old + 4 * C.weight ≤ C.count steps.new) }
-    ensures asks { AsksSome D.seen device.old device.new result }
+    ensures asks { AsksSome D.CONTEXTS D.seen device.old device.new result }
 {
     free_place(records, next, order, numbers, device, scratch, steps)?;
     bring_in(records, *next, number, device, scratch)?;

@@ -6,7 +6,7 @@ ghost use Rattle.std.specs.List.{count_by, list_any};
 ghost use Rattle.tab_spec.specs.Shape.{number_of_session};
 ghost use Rattle.tab_spec.specs.declared.TheConstants.{CONTEXT_LIMIT, SESSION_NUMBERS};
 ghost use Rattle.tab_spec.specs.declared.TheConstants.{RC_1, RC_HANDLE, RC_P};
-ghost use Rattle.tab_spec.specs.Numbers.{AreInRange, left_most};
+ghost use Rattle.tab_spec.specs.Numbers.{AreInRange, leave_limit};
 ghost use Rattle.device_port.specs.Device.{last_of};
 ghost use Rattle.device_port.specs.Use.{without_one};
 ghost use Rattle.session_swap.specs.declared.TheConstants.{NEEDED_MOST};
@@ -46,7 +46,7 @@ use std::alloc::{AllocError, Global};
 use std::marker::Model;
 use std::sync::ledger::Ledger;
 use tab_bytes::Buffer;
-use tab_spec::{Numbers, RC_1, RC_HANDLE, RC_P, left_most};
+use tab_spec::{ContextLimits, Numbers, RC_1, RC_HANDLE, RC_P, leave_limit};
 
 /// The number of a session handle (Part 2, "TPM_HC").
 pub(crate) fn number_of(handle: u32) -> usize
@@ -68,8 +68,8 @@ fn less_one(count: u8, one: bool) -> u8
 /// device made of it. It is a client's, or was left by one that had saved it and closed, or is an
 /// orphan, which is only still to be flushed. It is seen as how much the device has room for, its
 /// items, by number, the number that the next context gets, the numbers of the loaded sessions, the
-/// least recently used first, those of the saved ones, in the order in which they were saved, and
-/// those of the left ones, in the order in which they were left.
+/// least recently used first, those of the saved ones, in the order in which they were saved, those
+/// of the left ones, in the order in which they were left, and what contexts there is room for.
 #[derive(Drop)]
 pub struct Sessions {
     records: Vec<Record>,
@@ -80,6 +80,8 @@ pub struct Sessions {
     held: u8,
     // How much the device has room for.
     numbers: Numbers,
+    // What its contexts may be. Each record has room for two of the largest of a session.
+    contexts: ContextLimits,
 }
 
 impl Model for Sessions {
@@ -88,14 +90,20 @@ impl Model for Sessions {
 
     ghost Value = { SessionsView };
 
-    ghost view = { λ s. whole_view s.numbers s.records.items s.next s.order s.left };
+    ghost view = { λ s. whole_view s.numbers s.records.items s.next s.order s.left s.contexts };
 
-    ghost invariant = { λ s. AreListed s.numbers s.records.items s.order s.left s.held };
+    ghost invariant = { λ s. AreListed s.contexts s.numbers s.records.items s.order s.left
+        s.held };
 }
 
 impl Sessions {
-    /// No sessions, over a device of these numbers. It takes the memory of all 64 session numbers.
-    pub fn new(alloc: Global, numbers: Numbers) -> Result<Sessions, AllocError>
+    /// No sessions, over a device of these numbers, whose contexts may be these. It takes the
+    /// memory of all 64 session numbers.
+    pub fn new(
+        alloc: Global,
+        numbers: Numbers,
+        contexts: ContextLimits,
+    ) -> Result<Sessions, AllocError>
         requires range { AreInRange numbers }
         ensures { IfOk result (λ s. s ≡ record {
           numbers = numbers;
@@ -104,9 +112,10 @@ impl Sessions {
           order = [];
           saved = [];
           left = [];
+          contexts = contexts;
         }) }
     {
-        let records = unused_records(alloc)?;
+        let records = unused_records(alloc, contexts)?;
         let order = Order::new(alloc)?;
         let left = Left::new(alloc)?;
         Ok(Sessions {
@@ -116,6 +125,7 @@ impl Sessions {
             next: 0,
             held: 0,
             numbers,
+            contexts,
         })
     }
 
@@ -285,6 +295,7 @@ impl Sessions {
         scratch: &mut Buffer,
     ) -> Result<(), SwapError>
         requires needed { AreNeeded needed.now new_places self.old.items }
+        requires contexts { self.old.contexts ≡ D.CONTEXTS }
         requires stand { Stand (D.seen device.old).state self.old [] }
         requires may { IsNarrow (D.seen device.old).state
             × (counter_of (D.seen device.old).state + 1000 ≤ CONTEXT_LIMIT) }
@@ -300,7 +311,7 @@ impl Sessions {
             ≤ counter_of (D.seen device.old).state + NEEDED_MOST) }
         ensures room { MakesRoom D.seen device.old device.new
             needed.now new_places self.old self.new result }
-        ensures asks { AsksSome D.seen device.old device.new result }
+        ensures asks { AsksSome D.CONTEXTS D.seen device.old device.new result }
     {
         swap_sessions(
             &mut self.records,
@@ -348,15 +359,15 @@ impl Sessions {
           left = self.old.left ++ number_of_session handle ∷ [];
         } }
         ensures first { MatchOption result
-            (length self.new.left ≤ left_most self.new.numbers.active)
-            (λ first. (left_most self.new.numbers.active < length self.new.left)
+            (length self.new.left ≤ leave_limit self.new.numbers.active)
+            (λ first. (leave_limit self.new.numbers.active < length self.new.left)
             × (slice_get self.new.left 0 ≡ Some (number_of_session first))
             × Names self.new.items first) }
     {
         let number = number_of(handle);
         self.records[number].client = None;
         self.left.push(number);
-        if self.left.count() <= left_most(self.numbers.active) {
+        if self.left.count() <= leave_limit(self.numbers.active) {
             return None;
         }
         self.left_at(0)
@@ -457,7 +468,8 @@ impl Sessions {
         // Each left session was listed, and once.
         ensures listed { ListsThose is_left self.old.left self.old.items }
         // Exactly one FlushContext is sent.
-        ensures asks { Asks D.seen device.old device.new (flush_context_command handle) result }
+        ensures asks { Asks D.CONTEXTS D.seen device.old device.new (flush_context_command handle)
+            result }
     {
         // So what holds of the fields is known here.
         let _ = &self.records;
@@ -476,11 +488,12 @@ impl Sessions {
         reply: &mut Buffer,
     ) -> Result<(), SwapError>
         requires may { MayHandOut (D.seen device.old).state handle self.old.items }
+        requires contexts { self.old.contexts ≡ D.CONTEXTS }
         requires stand { (others : List ℕ) × Stand (D.seen device.old).state self.old others }
         ensures ok { OnOk result
-            (SavesForClient (last_of (D.seen device.new)) reply.new handle self.old self.new
-            × SavesTold (D.seen device.old).state (D.seen device.new).state reply.new handle
-            self.old.items) }
+            (SavesForClient D.CONTEXTS (last_of (D.seen device.new)) reply.new handle self.old
+            self.new × SavesTold (D.seen device.old).state (D.seen device.new).state reply.new
+            handle self.old.items) }
         ensures err { OnErr result (self.new ≡ self.old) }
         // Every session stands as before.
         ensures sessions { sessions_of (D.seen device.new).state self.new.items
@@ -488,7 +501,8 @@ impl Sessions {
         ensures stands { StillStand D.seen device.old device.new self.old self.new }
         ensures room { HasGapRoom (D.seen device.new).state }
         // Exactly one ContextSave is sent.
-        ensures asks { Asks D.seen device.old device.new (context_save_command handle) result }
+        ensures asks { Asks D.CONTEXTS D.seen device.old device.new (context_save_command handle)
+            result }
     {
         let saved = save_for_client(&mut self.records, &mut self.next, handle, device, reply);
         list_saved(&mut self.order, number_of(handle), &saved, &mut Uncounted);
@@ -539,16 +553,17 @@ impl Sessions {
         scratch: &mut Buffer,
     ) -> Result<(), SwapError>
         requires oldest { IsFirst self.old handle }
+        requires contexts { self.old.contexts ≡ D.CONTEXTS }
         requires stand { Stand (D.seen device.old).state self.old [] }
         requires may { HasGapRoom (D.seen device.old).state
             × (counter_of (D.seen device.old).state + 900 ≤ CONTEXT_LIMIT) }
-        ensures ok { OnOk result (Renews (D.seen device.old) (D.seen device.new) handle
+        ensures ok { OnOk result (Renews D.CONTEXTS (D.seen device.old) (D.seen device.new) handle
             self.old.items self.new.items × IsSavedAgain self.old self.new handle) }
         // Every other session that was saved stays where it was.
         ensures others { AreKept (number_of_session handle) self.old.items self.new.items }
         ensures moved { Moved D.seen device.old device.new self.old self.new }
         ensures counts { RenewalCounts D.seen device.old device.new self.old }
-        ensures asks { AsksSome D.seen device.old device.new result }
+        ensures asks { AsksSome D.CONTEXTS D.seen device.old device.new result }
     {
         self.renew_by(device, handle, scratch, &mut Uncounted)
     }
@@ -563,17 +578,18 @@ impl Sessions {
         steps: &mut Steps<L>,
     ) -> Result<(), SwapError>
         requires oldest { IsFirst self.old handle }
+        requires contexts { self.old.contexts ≡ D.CONTEXTS }
         requires stand { Stand (D.seen device.old).state self.old [] }
         requires may { HasGapRoom (D.seen device.old).state
             × (counter_of (D.seen device.old).state + 900 ≤ CONTEXT_LIMIT) }
-        ensures ok { OnOk result (Renews (D.seen device.old) (D.seen device.new) handle
+        ensures ok { OnOk result (Renews D.CONTEXTS (D.seen device.old) (D.seen device.new) handle
             self.old.items self.new.items × IsSavedAgain self.old self.new handle) }
         ensures others { AreKept (number_of_session handle) self.old.items self.new.items }
         ensures moved { Moved D.seen device.old device.new self.old self.new }
         ensures counts { RenewalCounts D.seen device.old device.new self.old
             × (steps.new ≤ steps.old + 10 + 6 * full_kept self.old) }
         ensures counted { OnOk result (steps.old + 4 ≤ steps.new) }
-        ensures asks { AsksSome D.seen device.old device.new result }
+        ensures asks { AsksSome D.CONTEXTS D.seen device.old device.new result }
     {
         self.renew_by(device, handle, scratch, steps)
     }
@@ -586,17 +602,18 @@ impl Sessions {
         steps: &mut C,
     ) -> Result<(), SwapError>
         requires oldest { IsFirst self.old handle }
+        requires contexts { self.old.contexts ≡ D.CONTEXTS }
         requires stand { Stand (D.seen device.old).state self.old [] }
         requires may { HasGapRoom (D.seen device.old).state
             × (counter_of (D.seen device.old).state + 900 ≤ CONTEXT_LIMIT) }
-        ensures ok { OnOk result (Renews (D.seen device.old) (D.seen device.new) handle
+        ensures ok { OnOk result (Renews D.CONTEXTS (D.seen device.old) (D.seen device.new) handle
             self.old.items self.new.items × IsSavedAgain self.old self.new handle) }
         ensures others { AreKept (number_of_session handle) self.old.items self.new.items }
         ensures moved { Moved D.seen device.old device.new self.old self.new }
         ensures counts { RenewalCounts D.seen device.old device.new self.old
             × (C.count steps.new ≤ C.count steps.old + 10 + 6 * full_kept self.old) }
         ensures counted { OnOk result (C.count steps.old + 4 * C.weight ≤ C.count steps.new) }
-        ensures asks { AsksSome D.seen device.old device.new result }
+        ensures asks { AsksSome D.CONTEXTS D.seen device.old device.new result }
     {
         renew_session(
             &mut self.records,

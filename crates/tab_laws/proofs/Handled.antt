@@ -8,13 +8,14 @@ use Rattle.std.proofs.lemmas.List.{drop-take}
 use Rattle.std.proofs.lemmas.Bool.{eqb-true, leb-true, ltb-false}
 use Rattle.std.proofs.lemmas.Nat.{from_be_bytes-to_be_bytes_4}
 use Rattle.tab_spec.specs.declared.Kind.{Kind}
-use Rattle.tab_spec.specs.declared.TheConstants.{CC_CREATE_PRIMARY, CC_LOAD, CC_CONTEXT_LOAD, CC_STARTUP, HEADER_BYTES, TRANSIENT_FIRST, RC_1, RC_BAD_TAG, RC_COMMAND_SIZE, RC_INSUFFICIENT, RC_OBJECT_MEMORY, RC_INITIALIZE}
+use Rattle.tab_spec.specs.declared.TheConstants.{CC_CREATE_PRIMARY, CC_LOAD, CC_CONTEXT_LOAD, CC_STARTUP, HEADER_BYTES, RC_1, RC_BAD_TAG, RC_COMMAND_SIZE, RC_INSUFFICIENT, RC_OBJECT_MEMORY, RC_INITIALIZE}
 use Rattle.tab_spec.specs.declared.CommandRow.{CommandRow}
 use Rattle.tab_spec.specs.declared.Shape.{Shape}
 use Rattle.tab_spec.specs.declared.Auths.{Auths}
 use Rattle.tab_spec.specs.declared.Admitted.{Admitted}
 use Rattle.tab_spec.specs.Commands.{all_commands, row_of}
 use Rattle.tab_spec.specs.Frame.{code_of, is_frame, is_size, size_of, tag_of}
+use Rattle.tab_spec.specs.Contexts.{is_saved_object}
 use Rattle.tab_spec.specs.Shape.{are_of_kinds, count_in, cut_handle, handle_at, handle_bytes, handles_in, is_command_tag, is_of_kind, is_present, kind_code, known_row, loads_object, rest_of, row_in, shape_by, shape_from, shape_with, with_handles, wrong_handle}
 use Rattle.tab_spec.specs.Auths.{auths_of}
 use Rattle.tab_spec.specs.Admission.{Tables, admitted, admitted_auths, admitted_by, admitted_shape, client_admitted, missing_handle, missing_session, object_too_many, repeated_session, spare_auth, unless_fault, unless_startup}
@@ -390,7 +391,8 @@ handled_is tables bytes a first second e =
 room_same : (tables : Tables) (bytes new : List ℕ) (shape : Shape) (first second : ℕ) → length new ≡ length bytes → drop 18 new ≡ drop 18 bytes
     → object_too_many tables (handled shape first second) new ≡ object_too_many tables shape bytes
 room_same tables bytes new shape first second size behind =
-    let loads : loads_object new ≡ loads_object bytes = λ i. not (nat_lt (size i) 22) && from_be_bytes w32 (take 4 (behind i)) == TRANSIENT_FIRST in
+    let loads : loads_object tables.contexts new ≡ loads_object tables.contexts bytes =
+    λ i. not (nat_lt (size i) 22) && is_saved_object tables.contexts (from_be_bytes w32 (take 4 (behind i))) in
     ap (λ (loads : Bool). if ((shape.row.code == CC_CREATE_PRIMARY || shape.row.code == CC_LOAD) || (shape.row.code == CC_CONTEXT_LOAD && loads)) && tables.is_full
     then Some RC_OBJECT_MEMORY else None) loads
 

@@ -3,6 +3,7 @@ use Rattle.std.proofs.Common.{◌≡◌, ◌∙◌, ◌++◌, ◌+◌, ◌≤◌
 use Rattle.std.specs.Prelude.{◌⊎◌, IfSome, IsTrue, IsFalse}
 use Rattle.std.proofs.lemmas.Bool.{cases_eq}
 use Rattle.tab_spec.specs.Count.{Rose}
+use Rattle.tab_spec.specs.declared.contexts.ContextLimits.{ContextLimits}
 use Rattle.device_spec.specs.Slots.{SlotState}
 use Rattle.link_port.specs.Port.{with_more}
 use Rattle.history_spec.specs.Entry.{Entry}
@@ -10,6 +11,7 @@ use Rattle.script_spec.specs.declared.TheConstants.{SCRIPT_BYTES}
 use Rattle.script_spec.specs.Script.{script}
 use Rattle.script_spec.specs.Calls.{Call}
 use Rattle.history_spec.specs.AuditText.{audit_text}
+use Rattle.history_spec.specs.Told.{Limits}
 use Rattle.audit_journal.specs.Text.{WroteFrontOf}
 use Rattle.tab_server.specs.declared.cause.Cause.{Cause}
 use Rattle.tab_server.specs.declared.cause.Cause.TheVariants as causes
@@ -18,7 +20,7 @@ use Rattle.script_player.proofs.Ending.{if_given}
 use Rattle.script_player.proofs.Writing.{with_more-append}
 use Rattle.tab_server.specs.Status.{EndsAs, Faults, HasCause, IsPulled, detail_of, status_of}
 use Rattle.tab_server.specs.Endings.{WroteBehind}
-use Rattle.tab_server.specs.Run.{After, Before, Ended, IsSound, Leaves, whole, part, read, full, answered}
+use Rattle.tab_server.specs.Run.{After, Before, Ended, IsSound, Leaves, whole, part, read, full, answered, limits}
 
 -- what was written in the end, and how often the output had failed then
 abbrev pub ended_with : After → Option (List ℕ) → ℕ → After
@@ -47,12 +49,12 @@ sound_at_4 written faults was = record {
 text_behind : (written lines lines_new : Option (List ℕ)) (output text : List ℕ) → lines ≡ with_more written output → lines_new ≡ with_more lines text → lines_new ≡ with_more written (output ++ text)
 text_behind written lines lines_new output text first second = second ∙ ap (λ (w : Option (List ℕ)). with_more w text) first ∙ with_more-append written output text
 
-makes_text : {limit : ℕ} {done : List Call} {written lines lines_new : Option (List ℕ)} {history : List Entry} → Makes limit false done written lines history → lines_new ≡ with_more lines (audit_text history)
+makes_text : {limit : Limits} {done : List Call} {written lines lines_new : Option (List ℕ)} {history : List Entry} → Makes limit false done written lines history → lines_new ≡ with_more lines (audit_text history)
     → Makes limit true done written lines_new history
 makes_text made wrote = record { output = made.output; written_is = text_behind _ _ _ made.output _ made.written_is wrote; plays = made.plays }
 
-cause_after : {status detail : ℕ} {before after : Faults} {asked : List ℕ} {last : Option (List ℕ)} {state : Option SlotState} (faults : ℕ) → HasCause status detail before after asked last state → (status ≡ 4 → ⊥)
-    → faults ≡ after.output → HasCause status detail before (record after { output = faults }) asked last state
+cause_after : {contexts : ContextLimits} {status detail : ℕ} {before after : Faults} {asked : List ℕ} {last : Option (List ℕ)} {state : Option SlotState} (faults : ℕ) → HasCause contexts status detail before after asked last state → (status ≡ 4 → ⊥)
+    → faults ≡ after.output → HasCause contexts status detail before (record after { output = faults }) asked last state
 cause_after faults was not_4 same = record {
   known = was.known;
   plain = was.plain;
@@ -87,7 +89,7 @@ text_written limit before after status detail history written faults left not_4 
 
 -- how a run ended before
 ended : (why : Cause) (limit : ℕ) (before : Before) (after : After) (history : List Entry) (written : Option (List ℕ)) (faults : ℕ) → Leaves limit false before after (status_of why) (detail_of why) (Some history) → (status_of why ≡ 4 → ⊥)
-    → Ended limit before (ended_with after written faults) after.written history
+    → Ended (limits before.contexts limit) before (ended_with after written faults) after.written history
 ended causes.End limit before after history written faults left not_4 = whole (left.cause.input_quiet (λ is. absurd (omega arith)) not_4) (left.whole (inl refl))
 ended (causes.BadLine n) limit before after history written faults left not_4 = whole (left.cause.input_quiet (λ is. absurd (omega arith)) not_4) (left.whole (inr refl))
 ended causes.Memory limit before after history written faults left not_4 = part (left.cause.input_quiet (λ is. absurd (omega arith)) not_4) (left.part refl)
@@ -97,8 +99,8 @@ ended (causes.Input n) limit before after history written faults left not_4 = re
 ended (causes.Answer n) limit before after history written faults left not_4 =
     let wrong = left.cause.answer refl in answered n wrong.0 wrong.1 (left.cause.input_quiet (λ is. absurd (omega arith)) not_4) (left.answered refl)
 
-cause_cut : {status detail : ℕ} {before after : Faults} {asked : List ℕ} {last : Option (List ℕ)} {state : Option SlotState} (faults : ℕ) → HasCause status detail before after asked last state → (status ≡ 4 → ⊥)
-    → Rose after.output faults → HasCause 4 faults before (record after { output = faults }) asked last state
+cause_cut : {contexts : ContextLimits} {status detail : ℕ} {before after : Faults} {asked : List ℕ} {last : Option (List ℕ)} {state : Option SlotState} (faults : ℕ) → HasCause contexts status detail before after asked last state → (status ≡ 4 → ⊥)
+    → Rose after.output faults → HasCause contexts 4 faults before (record after { output = faults }) asked last state
 cause_cut faults was not_4 rose = record {
   known = refl;
   plain = λ is. elim is [ inl zero ↦ absurd (omega arith) | inr five ↦ absurd (omega arith) ];

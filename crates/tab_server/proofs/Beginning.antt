@@ -5,7 +5,8 @@ use Rattle.tab_spec.specs.declared.numbers.Numbers.{Numbers}
 use Rattle.tab_spec.specs.Count.{Rose}
 use Rattle.tab_spec.specs.Numbers.{AreInRange}
 use Rattle.tab_spec.specs.Persist.{Persist}
-use Rattle.device_spec.specs.Answers.{IsWrongAnswer, takes, value_told}
+use Rattle.tab_spec.specs.declared.contexts.ContextLimits.{ContextLimits}
+use Rattle.device_spec.specs.Answers.{IsWrongAnswer, profile_takes as takes, value_told}
 use Rattle.device_spec.specs.Numbers.{number_command, number_properties}
 use Rattle.device_spec.specs.Slots.{SlotState}
 use Rattle.device_port.specs.Device.{Seen, Transmission, asked_of, last_of, newest_command, newest_response}
@@ -82,9 +83,9 @@ number_out old new property value stops own =
 
 -- ---- how far a start came, by its status
 
-pub ends_lacking : {D : Type 0} (seen : D → Seen) (old new : D) → (new ≡ old) ⊎ LackedMemory (seen old) (seen new)
-    → HoldsNoMoreIf (seen old).state (seen new).state → EndsStart seen 5 0 old new
-ends_lacking seen old new lacks few = record {
+pub ends_lacking : {D : Type 0} (contexts : ContextLimits) (seen : D → Seen) (old new : D) → (new ≡ old) ⊎ LackedMemory (seen old) (seen new)
+    → HoldsNoMoreIf (seen old).state (seen new).state → EndsStart contexts seen 5 0 old new
+ends_lacking contexts seen old new lacks few = record {
   of_start = refl;
   memory = λ is. lacks;
   unanswered = λ is. elim is [ inl six ↦ absurd (omega arith) | inr seven ↦ absurd (omega arith) ];
@@ -95,15 +96,15 @@ ends_lacking seen old new lacks few = record {
 
 -- ---- where no broker began
 
-module _ (limit : ℕ) (audit : Bool) (old new : Seen) (left written : Option (List ℕ)) (input output : ℕ) where
+module _ (contexts : ContextLimits) (limit : ℕ) (audit : Bool) (old new : Seen) (left written : Option (List ℕ)) (input output : ℕ) where
   abbrev then : Before
-  then = before_of (told_origin old.base old.state) old.faults left input written output
+  then = before_of contexts (told_origin old.base old.state) old.faults left input written output
 
   abbrev now : After
   now = after_of new left input written output
 
   -- such a status comes of a start alone
-  unplayed : (status detail : ℕ) → told_origin new.base new.state ≡ told_origin old.base old.state → HasCause status detail then.faults now.faults (asked_of new) (last_of new) new.state
+  unplayed : (status detail : ℕ) → told_origin new.base new.state ≡ told_origin old.base old.state → HasCause contexts status detail then.faults now.faults (asked_of new) (last_of new) new.state
       → (status ≡ 0 → ⊥) → (status ≡ 4 → ⊥) → (status ≡ 8 → ⊥) → (status ≡ 9 → ⊥) → (status ≡ 10 → ⊥) → Leaves limit audit then now status detail None
   unplayed status detail same cause not_0 not_4 not_8 not_9 not_10 = record {
     sound = record { legal = tt; faulted = tt; replies = tt; right = λ is. tt; begun = λ is. refl; base = same; held = tt };
@@ -149,7 +150,7 @@ module _ (limit : ℕ) (audit : Bool) (old new : Seen) (left written : Option (L
       }) (λ is. omega arith) (λ is. omega arith) (λ is. omega arith) (λ is. omega arith) (λ is. omega arith)
 
   -- the device gave a wrong answer
-  pub answered_wrong : (code : ℕ) → told_origin new.base new.state ≡ told_origin old.base old.state → IsWrongAnswer (asked_of new) (last_of new) code → new.state ≡ None → Leaves limit audit then now 7 code None
+  pub answered_wrong : (code : ℕ) → told_origin new.base new.state ≡ told_origin old.base old.state → IsWrongAnswer contexts (asked_of new) (last_of new) code → new.state ≡ None → Leaves limit audit then now 7 code None
   answered_wrong code same answer none = unplayed 7 code same
       (record {
         known = refl;

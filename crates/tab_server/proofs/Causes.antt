@@ -6,6 +6,7 @@ use Rattle.device_spec.specs.Slots.{SlotState}
 use Rattle.device_spec.specs.Answers.{IsWrongAnswer}
 use Rattle.tab_spec.specs.declared.numbers.Numbers.{Numbers}
 use Rattle.tab_spec.specs.Persist.{Persist}
+use Rattle.tab_spec.specs.declared.contexts.ContextLimits.{ContextLimits}
 use Rattle.device_port.specs.Device.{Seen}
 use Rattle.history_spec.specs.Entry.{Entry}
 use Rattle.world_spec.specs.World.{world_of}
@@ -25,11 +26,11 @@ untold None wrong taken some = refl
 untold (Some s) None taken some = absurd (let no : false ≡ true = some in cc)
 untold (Some s) (Some code) taken some = absurd (let none : Some code ≡ None = taken refl in cc)
 
-module _ (before after : Faults) (asked : List ℕ) (last : Option (List ℕ)) (state : Option SlotState) where
+module _ (contexts : ContextLimits) (before after : Faults) (asked : List ℕ) (last : Option (List ℕ)) (state : Option SlotState) where
   -- nothing went wrong
   quiet_cause : (status detail : ℕ) → ((status ≡ 0) ⊎ (status ≡ 5) → detail ≡ 0)
       → IsTrue (list_any (λ n. n == status) (0 ∷ 4 ∷ 5 ∷ 6 ∷ 7 ∷ 8 ∷ 9 ∷ 10 ∷ 11 ∷ [])) → (status ≡ 4 → ⊥) → (status ≡ 6 → ⊥) → (status ≡ 7 → ⊥) → (status ≡ 9 → ⊥) → (status ≡ 11 → ⊥)
-      → after.output ≡ before.output → after.input ≡ before.input → HasCause status detail before after asked last state
+      → after.output ≡ before.output → after.input ≡ before.input → HasCause contexts status detail before after asked last state
   quiet_cause status detail plain known not_4 not_6 not_7 not_9 not_11 output input = record {
     known = known;
     plain = plain;
@@ -43,7 +44,7 @@ module _ (before after : Faults) (asked : List ℕ) (last : Option (List ℕ)) (
   }
 
   -- the device gave a wrong answer
-  wrong_cause : (code : ℕ) → IsWrongAnswer asked last code → state ≡ None → after.output ≡ before.output → after.input ≡ before.input → HasCause 7 code before after asked last state
+  wrong_cause : (code : ℕ) → IsWrongAnswer contexts asked last code → state ≡ None → after.output ≡ before.output → after.input ≡ before.input → HasCause contexts 7 code before after asked last state
   wrong_cause code answer none output input = record {
     known = refl;
     plain = λ is. elim is [ inl zero ↦ absurd (omega arith) | inr five ↦ absurd (omega arith) ];
@@ -57,7 +58,7 @@ module _ (before after : Faults) (asked : List ℕ) (last : Option (List ℕ)) (
   }
 
   pub has_cause : (stop : Stop) (wrong : Option ℕ) → IsCaused stop before.input after.input before.output after.output (is_some wrong)
-      → IfSome wrong (IsWrongAnswer asked last) → (IsSome state → wrong ≡ None) → HasCause (status_of (cause_of stop wrong)) (detail_of (cause_of stop wrong)) before after asked last state
+      → IfSome wrong (IsWrongAnswer contexts asked last) → (IsSome state → wrong ≡ None) → HasCause contexts (status_of (cause_of stop wrong)) (detail_of (cause_of stop wrong)) before after asked last state
   has_cause stops.End None caused answer taken =
       quiet_cause 0 0 (λ is. refl) refl (λ is. omega arith) (λ is. omega arith) (λ is. omega arith) (λ is. omega arith) (λ is. omega arith) caused.cause.0 caused.cause.2
   has_cause stops.End (Some code) caused answer taken = wrong_cause code answer (untold state (Some code) taken refl) caused.cause.0 caused.cause.2

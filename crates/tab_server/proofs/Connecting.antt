@@ -1,6 +1,6 @@
 -- What `serve` leaves, by what its parts tell.
 use Rattle.std.proofs.Common.{◌≡◌, ◌∙◌, eqb-true, ℕ, Bool, true, false, List, [], Option, Some, None, Result, Ok, Err, refl, sym, ap, subst, inl, inr, ⊎_elim, arith}
-use Rattle.std.specs.Prelude.{◌⊎◌, ◌==◌, ◌≤◌, ◌∷◌, ◌||◌, is_some, length, IfSome, IsSome, IsTrue, OnOk}
+use Rattle.std.specs.Prelude.{◌⊎◌, ◌==◌, ◌≤◌, ◌∷◌, ◌||◌, is_some, length, IfNone, IfSome, IsSome, IsTrue, OnOk}
 use Rattle.std.specs.List.{list_any}
 use Rattle.std.specs.Option.{option_map}
 use Rattle.tab_spec.specs.Count.{Rose}
@@ -28,7 +28,7 @@ untold None code taken = refl
 untold (Some slots) code taken = absurd (let none : ◌≡◌ {A = Option ℕ} (Some code) None = taken refl in cc)
 
 cause_of : (wrong accept output : Option ℕ) (lacked : Bool) (text : List ℕ) (before : Before) (after : After) (accepted accepted_new : ℕ)
-    → WroteOr output text before.written after.written before.faults.output after.faults.output → AcceptOr accept accepted accepted_new → IfSome wrong (IsWrongAnswer (asked_of after.seen) (last_of after.seen)) → (IsSome after.seen.state → wrong ≡ None)
+    → WroteOr output text before.written after.written before.faults.output after.faults.output → AcceptOr accept accepted accepted_new → IfSome wrong (IsWrongAnswer before.contexts (asked_of after.seen) (last_of after.seen)) → (IsSome after.seen.state → wrong ≡ None)
     → ServeCause before after accepted accepted_new (serve_status wrong accept output lacked) (serve_detail wrong accept output)
 cause_of (Some code) accept output lacked text before after accepted accepted_new wrote has answer taken = record {
   known = refl;
@@ -123,7 +123,7 @@ never_start None None None false = ⊎_elim (λ is. omega arith) (λ is. omega a
 
 module _ {L M : Type 0} (are_served : List Entry → List M → Type 0) (ending_of : M → Ending) (audit : Bool) (most : ℕ) (before : Before) (after : After) (coming coming_new : Option (List L)) (accepted accepted_new : ℕ) where
   served_by : (wrong accept output : Option ℕ) (history : List Entry) (links : List M)
-      → IsEnded before.base before.faults.device after.seen wrong history
+      → IsEnded before.contexts before.base before.faults.device after.seen wrong history
       → WroteOr output (end_text audit (length links) history) before.written after.written before.faults.output after.faults.output
       → AcceptOr accept accepted accepted_new → are_served history links → (accept ≡ None → AreEnough most coming_new links)
       → (after.left ≡ before.left) × (after.faults.input ≡ before.faults.input)
@@ -155,7 +155,7 @@ module _ {L M : Type 0} (are_served : List Entry → List M → Type 0) (ending_
 
   -- connections were served, and the text written
   pub leaves_served : (wrong accept : Option ℕ) (status detail : ℕ) (history : List Entry) (links : List M)
-      → IsEnded before.base before.faults.device after.seen wrong history
+      → IsEnded before.contexts before.base before.faults.device after.seen wrong history
       → TellsEnd wrong accept (list_any (λ link. lacks_memory (ending_of link)) links) (end_text audit (length links) history) before.written after.written before.faults.output after.faults.output status detail
       → AcceptOr accept accepted accepted_new → are_served history links → (accept ≡ None → AreEnough most coming_new links)
       → (after.left ≡ before.left) × (after.faults.input ≡ before.faults.input)
@@ -165,7 +165,7 @@ module _ {L M : Type 0} (are_served : List Entry → List M → Type 0) (ending_
 
   -- memory lacked before the first connection
   pub leaves_idle : (history : List Entry) (links : List M)
-      → IsEnded before.base before.faults.device after.seen None history
+      → IsEnded before.contexts before.base before.faults.device after.seen None history
       → are_served history links
       → IsIdle before after coming coming_new history links → accepted_new ≡ accepted → (after.left ≡ before.left) × (after.faults.input ≡ before.faults.input)
       → LeavesServed are_served ending_of audit most before after coming coming_new accepted accepted_new 5 0 (Some history) links
@@ -250,7 +250,7 @@ pool_told is_link given_of client_of wrong told history coming coming_new most l
 -- ---- over a device, by what the calls tell
 
 abbrev over : Fixed → (left written : Option (List ℕ)) (input output : ℕ) → Before
-over fixed left written input output = before_of fixed.base fixed.began left input written output
+over fixed left written input output = before_of fixed.contexts fixed.base fixed.began left input written output
 
 module _ {D : Type 0} (seen : D → Seen) where
   abbrev left_by : D → (left written : Option (List ℕ)) (input output : ℕ) → After
@@ -261,7 +261,7 @@ module _ {D : Type 0} (seen : D → Seen) where
       (left : Option (List ℕ)) (input : ℕ) (written written_new : Option (List ℕ)) (output output_new : ℕ) (coming coming_new : Option (List L)) (accepted accepted_new status detail : ℕ) (wrong accept : Option ℕ)
       (device ran_device : D) (history : List Entry) (journal : J) (ran_journal : Option J) (links ran_links : List M)
       → value_fixed ≡ fixed → entries journal ≡ history → ran_device ≡ device → ran_journal ≡ Some journal → ran_links ≡ links
-      → IsEnded value_fixed.base value_fixed.began (seen device) wrong (entries journal)
+      → IsEnded value_fixed.contexts value_fixed.base value_fixed.began (seen device) wrong (entries journal)
       → TellsEnd wrong accept (list_any (λ link. lacks_memory (ending_of link)) links) (end_text audit (length links) (entries journal)) written written_new output output_new status detail
       → AcceptOr accept accepted accepted_new → are_served history links → (accept ≡ None → AreEnough most coming_new links)
       → LeavesServed are_served ending_of audit most (over fixed left written input output) (left_by ran_device left written_new input output_new) coming coming_new accepted accepted_new status detail
@@ -276,7 +276,7 @@ module _ {D : Type 0} (seen : D → Seen) where
       (Some (entries journal)) l) (sym links_are)
       (leaves_served are_served ending_of audit most (over fixed left written input output) (left_by device left written_new input output_new) coming coming_new accepted accepted_new wrong accept status detail
       (entries journal) links
-      (subst (λ (f : Fixed). IsEnded f.base f.began (seen device) wrong (entries journal)) fixed_is ended)
+      (subst (λ (f : Fixed). IsEnded f.contexts f.base f.began (seen device) wrong (entries journal)) fixed_is ended)
       told has (subst (λ (h : List Entry). are_served h links) (sym journal_is) served) enough (refl, refl))))
 
   -- memory lacked before the first connection
@@ -284,14 +284,14 @@ module _ {D : Type 0} (seen : D → Seen) where
       (left : Option (List ℕ)) (input : ℕ) (written : Option (List ℕ)) (output : ℕ) (coming coming_new : Option (List L)) (accepted accepted_new : ℕ) (wrong : Option ℕ) (device : D)
       (value_history history : List Entry) (links : List M)
       → value_fixed ≡ fixed → history ≡ value_history → value_history ≡ [] → links ≡ [] → coming_new ≡ coming → accepted_new ≡ accepted → wrong ≡ None
-      → IsEnded value_fixed.base value_fixed.began (seen device) wrong history
+      → IsEnded value_fixed.contexts value_fixed.base value_fixed.began (seen device) wrong history
       → are_served value_history links
       → LeavesServed are_served ending_of audit most (over fixed left written input output) (left_by device left written input output) coming coming_new accepted accepted_new 5 0 (Some history) links
   leaves_lacking {L} {M} are_served ending_of audit most fixed value_fixed left input written output coming coming_new accepted accepted_new wrong device value_history history links
       fixed_is journal_is empty none same stays right ended served =
       leaves_idle are_served ending_of audit most (over fixed left written input output) (left_by device left written input output) coming coming_new accepted accepted_new history links
-      (subst (λ (w : Option ℕ). IsEnded fixed.base fixed.began (seen device) w history) right
-      (subst (λ (f : Fixed). IsEnded f.base f.began (seen device) wrong history) fixed_is ended))
+      (subst (λ (w : Option ℕ). IsEnded fixed.contexts fixed.base fixed.began (seen device) w history) right
+      (subst (λ (f : Fixed). IsEnded f.contexts f.base f.began (seen device) wrong history) fixed_is ended))
       (subst (λ (h : List Entry). are_served h links) (sym journal_is) served)
       (record { nothing = journal_is ∙ empty; nobody = none; same = same; unwritten = refl; quiet = refl }) stays (refl, refl)
 
@@ -317,7 +317,11 @@ pub pool_over : {L M : Type 0} (is_link : Fixed → Bool → List Entry → M �
 pool_over is_link given_of client_of ending_of audit most fixed other left written input output after coming coming_new accepted accepted_new status detail journal links =
     leaves_over (λ f history served. AreServedOnce (is_link f (status == 7) history) given_of client_of history coming coming_new most served) ending_of audit most fixed other left written input output after coming coming_new accepted accepted_new status detail journal links
 
--- ---- where the broker didn't begin
+-- ---- where the broker began, and where it didn't
+
+pub journal_there : {J : Type 0} (P : Type 0) (journal : Option J) → IsSome journal → IfNone journal P
+journal_there P None there = absurd (let no : false ≡ true = there in cc)
+journal_there P (Some entries) there = tt
 
 same_number : (n m : ℕ) → (n == m) ≡ true → m ≡ n
 same_number n m is = sym (eqb-true n m is)

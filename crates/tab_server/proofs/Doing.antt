@@ -15,7 +15,7 @@ use Rattle.tab_server.specs.Run.{After, Before, IsSound}
 use Rattle.tab_server.specs.Done.{LeavesBy, LeavesPlan}
 
 pub cause_by : (job : Verb) (plan : Plan) (before : Before) (after : After) (status detail : ℕ) (journal : Option (List Entry)) → LeavesBy job plan before after status detail journal
-    → HasCause status detail before.faults after.faults (asked_of after.seen) (last_of after.seen) after.seen.state
+    → HasCause before.contexts status detail before.faults after.faults (asked_of after.seen) (last_of after.seen) after.seen.state
 cause_by Run plan before after status detail journal left = left.cause
 cause_by Workload plan before after status detail journal left = left.cause
 cause_by Serve plan before after status detail journal left = absurd left

@@ -3,6 +3,7 @@ use Rattle.std.specs.Prelude.{◌≡◌, ◌⊎◌, ℕ, Bool, true, false, List
 use Rattle.tab_spec.specs.Count.{Rose}
 use Rattle.link_port.specs.Port.{with_more}
 use Rattle.history_spec.specs.Entry.{Entry}
+use Rattle.history_spec.specs.Told.{Limits}
 use Rattle.audit_journal.specs.Text.{WroteFrontOf}
 use Rattle.script_player.specs.declared.stop.Stop.{Stop}
 use Rattle.script_player.specs.declared.stop.Stop.TheVariants as stops
@@ -22,7 +23,7 @@ is_end (stops.Input count) = false
 is_end stops.Answer = false
 
 -- whether the whole script was played, and no line was bad: a wrong answer in the closes behind it may be why the run stopped
-abbrev pub StandsToEnd : Bool → (limit status : ℕ) → Option (List ℕ) → Option (List ℕ) → Option (List ℕ) → List Entry → Type 0
+abbrev pub StandsToEnd : Bool → (limit : Limits) (status : ℕ) → Option (List ℕ) → Option (List ℕ) → Option (List ℕ) → List Entry → Type 0
 StandsToEnd true limit status given written written_new history =
     ((status ≡ DONE) ⊎ (status ≡ WRONG_ANSWER)) × LeavesWhole limit false given written written_new history
 StandsToEnd false limit status given written written_new history =

@@ -1,10 +1,12 @@
 -- What a run leaves: how its status, its journal and its output stand to what there was before it.
 use Rattle.std.specs.Prelude.{◌≡◌, ◌≤◌, ◌⊎◌, ℕ, Bool, false, true, IsTrue, List, [], Option, None, Some, IfSome, IsSome, IsSomeAnd}
 use Rattle.tab_spec.specs.Count.{Rose}
+use Rattle.tab_spec.specs.declared.contexts.ContextLimits.{ContextLimits}
 use Rattle.device_spec.specs.Slots.{SlotState, IsSlots}
 use Rattle.device_spec.specs.Answers.{IsRight, IsWrongAnswer, wrong}
 use Rattle.history_spec.specs.Entry.{Entry}
 use Rattle.history_spec.specs.AuditText.{audit_text}
+use Rattle.history_spec.specs.Told.{Limits}
 use Rattle.world_spec.specs.World.{world_of}
 use Rattle.link_port.specs.Port.{with_more}
 use Rattle.script_spec.specs.Script.{script}
@@ -18,9 +20,14 @@ use Rattle.script_player.specs.Stops.{AreFirst, EndsInClose, Unanswered, WroteFr
 use Rattle.tab_server.specs.declared.status.TheConstants.{BAD_LINE, DONE, INPUT_FAILED, JOURNAL_FULL, NO_MEMORY, OUTPUT_FAILED, OUT_OF_RANGE, START_FAILED, WRONG_ANSWER}
 use Rattle.tab_server.specs.Status.{EndsAs, Faults, HasCause, IsPulled}
 
--- what there was before a run: what the device's history begins from and its numbers, what the input has, what was written to the output, and how
--- often each of them failed
+-- what a client may be told by a journal of so many bytes, over a device with these contexts
+abbrev pub limits : ContextLimits → ℕ → Limits
+limits contexts limit = record { bytes = limit; contexts = contexts }
+
+-- what there was before a run: what the contexts of the device may be, what its history begins from and its numbers, what the input has, what was
+-- written to the output, and how often each of them failed
 pub record Before : Type 0 where
+  pub contexts : ContextLimits
   pub base : Option Origin
   pub left : Option (List ℕ)
   pub written : Option (List ℕ)
@@ -34,8 +41,9 @@ pub record After : Type 0 where
   pub faults : Faults
 
 -- the same, by what each of them tells
-abbrev pub before_of : (base : Option Origin) → (began : ℕ) → (left : Option (List ℕ)) → (input : ℕ) → (written : Option (List ℕ)) → (output : ℕ) → Before
-before_of base began left input written output = record {
+abbrev pub before_of : (contexts : ContextLimits) → (base : Option Origin) → (began : ℕ) → (left : Option (List ℕ)) → (input : ℕ) → (written : Option (List ℕ)) → (output : ℕ) → Before
+before_of contexts base began left input written output = record {
+  contexts = contexts;
   base = base;
   left = left;
   written = written;
@@ -51,10 +59,10 @@ after_of seen left input written output = record {
 }
 
 -- the same by a device, an input and an output, and what each of them tells
-abbrev pub before : {D I O : Type 0} → (seen : D → Seen) → (left : I → Option (List ℕ)) → (input_faults : I → ℕ)
+abbrev pub before : {D I O : Type 0} → (contexts : ContextLimits) → (seen : D → Seen) → (left : I → Option (List ℕ)) → (input_faults : I → ℕ)
     → (written : O → Option (List ℕ)) → (output_faults : O → ℕ) → D → I → O → Before
-before seen left input_faults written output_faults device input output =
-    before_of (told_origin (seen device).base (seen device).state) (seen device).faults (left input) (input_faults input) (written output) (output_faults output)
+before contexts seen left input_faults written output_faults device input output =
+    before_of contexts (told_origin (seen device).base (seen device).state) (seen device).faults (left input) (input_faults input) (written output) (output_faults output)
 
 abbrev pub after : {D I O : Type 0} → (seen : D → Seen) → (left : I → Option (List ℕ)) → (input_faults : I → ℕ)
     → (written : O → Option (List ℕ)) → (output_faults : O → ℕ) → D → I → O → After
@@ -92,21 +100,21 @@ HoldsLeftOf base began seen history =
     → HoldsLeft began seen.faults history slots (world_of o.persist o.numbers.active history).left
 
 -- what there is of a broker whose clients are all closed
-pub record IsEnded (base : Option Origin) (began : ℕ) (seen : Seen) (wrong : Option ℕ) (history : List Entry) : Type 0 where
+pub record IsEnded (contexts : ContextLimits) (base : Option Origin) (began : ℕ) (seen : Seen) (wrong : Option ℕ) (history : List Entry) : Type 0 where
   pub legal : IsHistoryOf base seen.state history
   pub faulted : FaultsCounted began seen.faults history 0
   pub replies : AreWhole history
   pub base_is : told_origin seen.base seen.state ≡ base
   pub holds : HoldsLeftOf base began seen history
-  pub right : wrong ≡ None → IsRight (asked_of seen) (last_of seen)
-  pub answer : IfSome wrong (IsWrongAnswer (asked_of seen) (last_of seen))
+  pub right : wrong ≡ None → IsRight contexts (asked_of seen) (last_of seen)
+  pub answer : IfSome wrong (IsWrongAnswer contexts (asked_of seen) (last_of seen))
   pub taken : IsSome seen.state → wrong ≡ None
 
 -- ---- how a run ended
 
 -- a run that a wrong answer stopped: journal and output are what the first of the script's calls make. The call behind them
 -- was told DEVICE_ANSWER, or the answer came in the last of them, a close, or in the closes behind all calls of the script
-abbrev pub LeavesAnswered : ℕ → Bool → Option (List ℕ) → Option (List ℕ) → Option (List ℕ) → List Entry → Type 0
+abbrev pub LeavesAnswered : Limits → Bool → Option (List ℕ) → Option (List ℕ) → Option (List ℕ) → List Entry → Type 0
 LeavesAnswered limit audit given written written_new history = (done : List Call) × (last : Option Unanswered)
     × (last ≡ None → EndsInClose done ⊎ IfSome given (λ all. calls_from [] (script all).items ≡ done))
     × IfSome given (λ all. AreFirst done last all)
@@ -115,9 +123,9 @@ LeavesAnswered limit audit given written written_new history = (done : List Call
 -- a run that a failed write stopped: the journal is what the first of the script's calls make, and the output lacks a part
 -- of the last line that they write. Only after a wrong answer of the device, which then tells no state, was the last of
 -- them told DEVICE_ANSWER
-abbrev pub LeavesFront : ℕ → List ℕ → Option (List ℕ) → Option SlotState → Option (List ℕ) → Option (List ℕ) → Option (List ℕ) → List Entry → Type 0
+abbrev pub LeavesFront : Limits → List ℕ → Option (List ℕ) → Option SlotState → Option (List ℕ) → Option (List ℕ) → Option (List ℕ) → List Entry → Type 0
 LeavesFront limit asked response state given written written_new history = (done : List Call) × (last : Option Unanswered)
-    × (IsSome last → (state ≡ None) × (wrong asked response ≡ true))
+    × (IsSome last → (state ≡ None) × (wrong limit.contexts asked response ≡ true))
     × IfSome given (λ all. AreFirst done last all)
     × MakesUpTo limit done last (λ all. WroteFront all written written_new) history
 
@@ -126,17 +134,17 @@ abbrev pub NoReadFailed : Before → After → Type 0
 NoReadFailed before after = after.faults.input ≡ before.faults.input
 
 -- how a run ended that no failed write stopped: the lines that were written, and the journal, are what calls make
-pub data Ended (limit : ℕ) (before : Before) (after : After) (lines : Option (List ℕ)) (history : List Entry) : Type 0 where
+pub data Ended (limit : Limits) (before : Before) (after : After) (lines : Option (List ℕ)) (history : List Entry) : Type 0 where
   whole : NoReadFailed before after → LeavesWhole limit false before.left before.written lines history → Ended limit before after lines history
   part : NoReadFailed before after → LeavesPart limit false before.left before.written lines history → Ended limit before after lines history
   read : Rose before.faults.input after.faults.input → LeavesRead limit false before.left after.left before.written lines history
       → Ended limit before after lines history
   full : (detail : ℕ) → NoReadFailed before after → LeavesFull limit false before.left before.written lines detail history → Ended limit before after lines history
-  answered : (code : ℕ) → IsWrongAnswer (asked_of after.seen) (last_of after.seen) code → after.seen.state ≡ None → NoReadFailed before after → LeavesAnswered limit false before.left before.written lines history
+  answered : (code : ℕ) → IsWrongAnswer limit.contexts (asked_of after.seen) (last_of after.seen) code → after.seen.state ≡ None → NoReadFailed before after → LeavesAnswered limit false before.left before.written lines history
       → Ended limit before after lines history
 
 -- a run that ended so, and whose audit text couldn't be written whole: a front of it stands behind all lines
-pub record LeavesText (limit : ℕ) (before : Before) (after : After) (history : List Entry) : Type 0 where
+pub record LeavesText (limit : Limits) (before : Before) (after : After) (history : List Entry) : Type 0 where
   pub lines : Option (List ℕ)
   pub ended : Ended limit before after lines history
   pub text : WroteFrontOf (audit_text history) lines after.written
@@ -148,7 +156,7 @@ pub record IsSound (before : Before) (after : After) (status : ℕ) (journal : O
   pub legal : IfSome journal (λ history. IsHistoryOf before.base after.seen.state history)
   pub faulted : IfSome journal (λ history. FaultsCounted before.faults.device after.seen.faults history 0)
   pub replies : IfSome journal AreWhole
-  pub right : status ≡ DONE → IfSome journal (λ history. IsRight (asked_of after.seen) (last_of after.seen))
+  pub right : status ≡ DONE → IfSome journal (λ history. IsRight before.contexts (asked_of after.seen) (last_of after.seen))
   pub begun : (status ≡ START_FAILED) ⊎ (status ≡ OUT_OF_RANGE) → journal ≡ None
   -- The device keeps its base and its numbers.
   pub base : told_origin after.seen.base after.seen.state ≡ before.base
@@ -162,15 +170,15 @@ pub record Leaves (limit : ℕ) (audit : Bool) (before : Before) (after : After)
   -- The journal and the output are what the script's calls make, each once and in order, as far as each status says. Where it
   -- is asked for, the audit text of the journal follows. After a failed write nothing more is written. It is the write of a
   -- reply line, and no read failed before it, or that of the audit text, behind a run that ended in its own way.
-  pub whole : (status ≡ DONE) ⊎ (status ≡ BAD_LINE) → IsSomeAnd journal (λ history. LeavesWhole limit audit before.left before.written after.written history)
-  pub part : status ≡ NO_MEMORY → IfSome journal (λ history. LeavesPart limit audit before.left before.written after.written history)
-  pub read : status ≡ INPUT_FAILED → IsSomeAnd journal (λ history. LeavesRead limit audit before.left after.left before.written after.written history)
-  pub full : status ≡ JOURNAL_FULL → IsSomeAnd journal (λ history. LeavesFull limit audit before.left before.written after.written detail history)
-  pub answered : status ≡ WRONG_ANSWER → IfSome journal (λ history. LeavesAnswered limit audit before.left before.written after.written history)
+  pub whole : (status ≡ DONE) ⊎ (status ≡ BAD_LINE) → IsSomeAnd journal (λ history. LeavesWhole (limits before.contexts limit) audit before.left before.written after.written history)
+  pub part : status ≡ NO_MEMORY → IfSome journal (λ history. LeavesPart (limits before.contexts limit) audit before.left before.written after.written history)
+  pub read : status ≡ INPUT_FAILED → IsSomeAnd journal (λ history. LeavesRead (limits before.contexts limit) audit before.left after.left before.written after.written history)
+  pub full : status ≡ JOURNAL_FULL → IsSomeAnd journal (λ history. LeavesFull (limits before.contexts limit) audit before.left before.written after.written detail history)
+  pub answered : status ≡ WRONG_ANSWER → IfSome journal (λ history. LeavesAnswered (limits before.contexts limit) audit before.left before.written after.written history)
   pub front : status ≡ OUTPUT_FAILED → IsSomeAnd journal (λ history.
-      (NoReadFailed before after × LeavesFront limit (asked_of after.seen) (last_of after.seen) after.seen.state before.left before.written after.written history)
-      ⊎ (IsTrue audit × LeavesText limit before after history))
+      (NoReadFailed before after × LeavesFront (limits before.contexts limit) (asked_of after.seen) (last_of after.seen) after.seen.state before.left before.written after.written history)
+      ⊎ (IsTrue audit × LeavesText (limits before.contexts limit) before after history))
   -- When each status comes, and how much is read at most.
   pub pulled : IsPulled status before.left after.left
   pub ending : IfSome before.left (λ all. EndsAs (script all).ending status detail)
-  pub cause : HasCause status detail before.faults after.faults (asked_of after.seen) (last_of after.seen) after.seen.state
+  pub cause : HasCause before.contexts status detail before.faults after.faults (asked_of after.seen) (last_of after.seen) after.seen.state

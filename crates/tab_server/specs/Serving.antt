@@ -74,7 +74,7 @@ pub record ServeCause (before : Before) (after : After) (accept accept_new statu
   pub accepted : (status ≡ ACCEPTOR_FAILED → ⊥) → (status ≡ WRONG_ANSWER → ⊥) → accept_new ≡ accept
   pub output : status ≡ OUTPUT_FAILED → Rose before.faults.output after.faults.output × (detail ≡ after.faults.output)
   pub start : status ≡ START_FAILED → Rose before.faults.device after.faults.device × (detail ≡ after.faults.device)
-  pub answer : status ≡ WRONG_ANSWER → IsWrongAnswer (asked_of after.seen) (last_of after.seen) detail × (after.seen.state ≡ None)
+  pub answer : status ≡ WRONG_ANSWER → IsWrongAnswer before.contexts (asked_of after.seen) (last_of after.seen) detail × (after.seen.state ≡ None)
   pub numbers : status ≡ OUT_OF_RANGE → IsNumberOut detail (asked_of after.seen) (last_of after.seen) after.seen.state
 
 -- What is told in the end, behind the text: by the code of a wrong answer, the acceptor's fault count where it failed, and
@@ -99,7 +99,7 @@ pub record LeavesLinks {L M : Type 0} (are_served : List Entry → List M → Ty
   pub lacked : status ≡ NO_MEMORY → IsIdle before after coming coming_new history links
       ⊎ ((list_any (λ link. lacks_memory (ending_of link)) links ≡ true) × AreEnough most coming_new links)
   -- No wrong answer was taken for an answer.
-  pub right : (status ≡ WRONG_ANSWER → ⊥) → IsRight (asked_of after.seen) (last_of after.seen)
+  pub right : (status ≡ WRONG_ANSWER → ⊥) → IsRight before.contexts (asked_of after.seen) (last_of after.seen)
 
 -- where it didn't begin: nobody was accepted, and nothing was written
 pub record IsUnserved {L M : Type 0} (before : Before) (after : After) (coming coming_new : Option (List L)) (accept accept_new status : ℕ) (links : List M) : Type 0 where

@@ -3,8 +3,9 @@ use Rattle.std.specs.Prelude.{◌≡◌, ◌⊎◌, ◌==◌, ◌+◌, ℕ, IsTr
 use Rattle.std.specs.List.{list_any}
 use Rattle.tab_spec.specs.Count.{Rose}
 use Rattle.tab_spec.specs.Numbers.{AreInRange}
+use Rattle.tab_spec.specs.declared.contexts.ContextLimits.{ContextLimits}
 use Rattle.device_spec.specs.Slots.{SlotState}
-use Rattle.device_spec.specs.Answers.{IsWrongAnswer, takes, value_told}
+use Rattle.device_spec.specs.Answers.{IsWrongAnswer, profile_takes as takes, value_told}
 use Rattle.device_spec.specs.Numbers.{IsOutOfRange, number_command}
 use Rattle.device_port.specs.Device.{Seen, last_of}
 use Rattle.device_start.specs.Start.{HoldsNoMoreIf, StopsAtNumber, StopsUnanswered}
@@ -87,7 +88,7 @@ pub record IsNumberOut (property : ℕ) (asked : List ℕ) (last : Option (List 
 
 -- each status that comes of a fault, a wrong answer or a number comes only where there was one, and there is no other status than these.
 -- Where the audit text can't be written, status 4 comes in place of any other: what a run leaves says whether a read failed then
-pub record HasCause (status detail : ℕ) (before after : Faults) (asked : List ℕ) (last : Option (List ℕ)) (state : Option SlotState) : Type 0 where
+pub record HasCause (contexts : ContextLimits) (status detail : ℕ) (before after : Faults) (asked : List ℕ) (last : Option (List ℕ)) (state : Option SlotState) : Type 0 where
   pub known : IsTrue (list_any (λ n. n == status)
       (DONE ∷ OUTPUT_FAILED ∷ NO_MEMORY ∷ START_FAILED ∷ WRONG_ANSWER ∷ BAD_LINE ∷ INPUT_FAILED ∷ JOURNAL_FULL ∷ OUT_OF_RANGE ∷ []))
   pub plain : (status ≡ DONE) ⊎ (status ≡ NO_MEMORY) → detail ≡ 0
@@ -95,16 +96,16 @@ pub record HasCause (status detail : ℕ) (before after : Faults) (asked : List 
   pub quiet : (status ≡ OUTPUT_FAILED → ⊥) → after.output ≡ before.output
   pub input_quiet : (status ≡ INPUT_FAILED → ⊥) → (status ≡ OUTPUT_FAILED → ⊥) → after.input ≡ before.input
   pub start : status ≡ START_FAILED → Rose before.device after.device × (detail ≡ after.device)
-  pub answer : status ≡ WRONG_ANSWER → IsWrongAnswer asked last detail × (state ≡ None)
+  pub answer : status ≡ WRONG_ANSWER → IsWrongAnswer contexts asked last detail × (state ≡ None)
   pub numbers : status ≡ OUT_OF_RANGE → IsNumberOut detail asked last state
   pub input : status ≡ INPUT_FAILED → Rose before.input after.input × (detail ≡ after.input)
 
 -- How far a start came after which there is no broker, by the status. Each number that the device told before the last command is in
 -- range. At 11 the one that it told then isn't, and nothing was sent after it.
-pub record EndsStart {D : Type 0} (seen : D → Seen) (status detail : ℕ) (old new : D) : Type 0 where
+pub record EndsStart {D : Type 0} (contexts : ContextLimits) (seen : D → Seen) (status detail : ℕ) (old new : D) : Type 0 where
   pub of_start : IsOfStart status
   pub memory : status ≡ NO_MEMORY → (new ≡ old) ⊎ LackedMemory (seen old) (seen new)
-  pub unanswered : (status ≡ START_FAILED) ⊎ (status ≡ WRONG_ANSWER) → StopsUnanswered (seen old).trace (seen new).trace
+  pub unanswered : (status ≡ START_FAILED) ⊎ (status ≡ WRONG_ANSWER) → StopsUnanswered contexts (seen old).trace (seen new).trace
   -- no response came to the last command
   pub failed : status ≡ START_FAILED → last_of (seen new) ≡ None
   pub number : status ≡ OUT_OF_RANGE → (value : ℕ) × StopsAtNumber (seen old).trace (seen new).trace detail value

@@ -4,6 +4,7 @@ use Rattle.device_spec.specs.Answers.{IsWrongAnswer}
 use Rattle.device_port.specs.Device.{asked_of, last_of}
 use Rattle.link_port.specs.Port.{with_more}
 use Rattle.history_spec.specs.Entry.{Entry}
+use Rattle.history_spec.specs.Told.{Limits}
 use Rattle.script_spec.specs.Script.{script}
 use Rattle.script_spec.specs.Calls.{Call, opening, calls_from, with_closes}
 use Rattle.script_spec.specs.Plays.{Plays}
@@ -14,14 +15,14 @@ use Rattle.script_player.specs.Ends.{IsFullAt, with_audit}
 use Rattle.script_player.specs.Stops.{AreFirst, EndsInClose, Unanswered}
 use Rattle.tab_server.specs.declared.status.TheConstants.{BAD_LINE, DONE, INPUT_FAILED, JOURNAL_FULL, NO_MEMORY, OUTPUT_FAILED, WRONG_ANSWER}
 use Rattle.tab_server.specs.Status.{HasCause}
-use Rattle.tab_server.specs.Run.{Before, After, IsSound}
+use Rattle.tab_server.specs.Run.{Before, After, IsSound, limits}
 
 -- the journal and the replies that were told are what these calls make, and then the closes of the labels that they leave open
-pub record Tells (limit : ℕ) (done : List Call) (told : List Reply) (history : List Entry) : Type 0 where
+pub record Tells (limit : Limits) (done : List Call) (told : List Reply) (history : List Entry) : Type 0 where
   pub plays : Plays history limit (with_closes done) (reply_lines told)
   pub have : HaveBytes told
 
-abbrev pub TellsOf : ℕ → List Call → List Entry → Type 0
+abbrev pub TellsOf : Limits → List Call → List Entry → Type 0
 TellsOf limit done history = (told : List Reply) × Tells limit done told history
 
 -- the calls of the script, without the closes at its end
@@ -35,35 +36,35 @@ AreUpToOpening start lines done = (label : ℕ) × (more : List Call) × (worklo
 -- ---- how much was played, and the text that comes of it
 
 -- the whole script was played, and the text is its summary
-abbrev pub PlayedWhole : (limit start lines : ℕ) → List Entry → List ℕ → Type 0
+abbrev pub PlayedWhole : (limit : Limits) (start lines : ℕ) → List Entry → List ℕ → Type 0
 PlayedWhole limit start lines history text =
     (told : List Reply) × Tells limit (workload_calls start lines) told history × (text ≡ summary_line lines told (length history))
 
 -- it was played up to an opening, and there is no text
-abbrev pub PlayedPart : (limit start lines : ℕ) → List Entry → List ℕ → Type 0
+abbrev pub PlayedPart : (limit : Limits) (start lines : ℕ) → List Entry → List ℕ → Type 0
 PlayedPart limit start lines history text =
     (done : List Call) × AreUpToOpening start lines done × TellsOf limit done history × (text ≡ [])
 
 -- the same, and the journal had no room for another client then
-abbrev pub PlayedFull : (limit start lines detail : ℕ) → List Entry → List ℕ → Type 0
+abbrev pub PlayedFull : (limit : Limits) (start lines detail : ℕ) → List Entry → List ℕ → Type 0
 PlayedFull limit start lines detail history text =
     (done : List Call) × AreUpToOpening start lines done × TellsOf limit done history × IsFullAt limit done detail history × (text ≡ [])
 
 -- it was played up to a call that was told DEVICE_ANSWER, or up to a close in which the device gave a wrong answer
-abbrev pub PlayedUpToAnswer : (limit start lines : ℕ) → List Entry → List ℕ → Type 0
+abbrev pub PlayedUpToAnswer : (limit : Limits) (start lines : ℕ) → List Entry → List ℕ → Type 0
 PlayedUpToAnswer limit start lines history text = (done : List Call) × (last : Option Unanswered)
     × (last ≡ None → EndsInClose done) × AreFirst done last (workload_text start lines) × TellsOf limit done history × (text ≡ [])
 
 -- or the wrong answer came in the closes behind all calls
-abbrev pub PlayedToAnswer : (limit start lines : ℕ) → List Entry → List ℕ → Type 0
+abbrev pub PlayedToAnswer : (limit : Limits) (start lines : ℕ) → List Entry → List ℕ → Type 0
 PlayedToAnswer limit start lines history text = PlayedWhole limit start lines history text ⊎ PlayedUpToAnswer limit start lines history text
 
 -- how a run ended that no failed write stopped, and its text
-pub data WorkloadEnded (limit start lines : ℕ) (after : After) (history : List Entry) (text : List ℕ) : Type 0 where
+pub data WorkloadEnded (limit : Limits) (start lines : ℕ) (after : After) (history : List Entry) (text : List ℕ) : Type 0 where
   whole : PlayedWhole limit start lines history text → WorkloadEnded limit start lines after history text
   part : PlayedPart limit start lines history text → WorkloadEnded limit start lines after history text
   full : (detail : ℕ) → PlayedFull limit start lines detail history text → WorkloadEnded limit start lines after history text
-  answered : (code : ℕ) → IsWrongAnswer (asked_of after.seen) (last_of after.seen) code → after.seen.state ≡ None → PlayedToAnswer limit start lines history text
+  answered : (code : ℕ) → IsWrongAnswer limit.contexts (asked_of after.seen) (last_of after.seen) code → after.seen.state ≡ None → PlayedToAnswer limit start lines history text
       → WorkloadEnded limit start lines after history text
 
 -- ---- what is written
@@ -81,12 +82,12 @@ WrotePart audit before after history IsText =
 -- what a workload of words that aren't refused leaves, with a journal where the broker began. No reply is written
 pub record LeavesWorkload (limit : ℕ) (audit : Bool) (start lines : ℕ) (before : Before) (after : After) (status detail : ℕ) (journal : Option (List Entry)) : Type 0 where
   pub sound : IsSound before after status journal
-  pub whole : status ≡ DONE → IsSomeAnd journal (λ history. WroteText audit before after history (PlayedWhole limit start lines history))
-  pub part : status ≡ NO_MEMORY → IfSome journal (λ history. WroteText audit before after history (PlayedPart limit start lines history))
-  pub full : status ≡ JOURNAL_FULL → IsSomeAnd journal (λ history. WroteText audit before after history (PlayedFull limit start lines detail history))
-  pub answered : status ≡ WRONG_ANSWER → IfSome journal (λ history. WroteText audit before after history (PlayedToAnswer limit start lines history))
-  pub front : status ≡ OUTPUT_FAILED → IsSomeAnd journal (λ history. WrotePart audit before after history (WorkloadEnded limit start lines after history))
+  pub whole : status ≡ DONE → IsSomeAnd journal (λ history. WroteText audit before after history (PlayedWhole (limits before.contexts limit) start lines history))
+  pub part : status ≡ NO_MEMORY → IfSome journal (λ history. WroteText audit before after history (PlayedPart (limits before.contexts limit) start lines history))
+  pub full : status ≡ JOURNAL_FULL → IsSomeAnd journal (λ history. WroteText audit before after history (PlayedFull (limits before.contexts limit) start lines detail history))
+  pub answered : status ≡ WRONG_ANSWER → IfSome journal (λ history. WroteText audit before after history (PlayedToAnswer (limits before.contexts limit) start lines history))
+  pub front : status ≡ OUTPUT_FAILED → IsSomeAnd journal (λ history. WrotePart audit before after history (WorkloadEnded (limits before.contexts limit) start lines after history))
   -- When each status comes: no line is bad, and no read fails. The input is left as it was.
   pub never : (status ≡ BAD_LINE) ⊎ (status ≡ INPUT_FAILED) → ⊥
-  pub cause : HasCause status detail before.faults after.faults (asked_of after.seen) (last_of after.seen) after.seen.state
+  pub cause : HasCause before.contexts status detail before.faults after.faults (asked_of after.seen) (last_of after.seen) after.seen.state
   pub unread : (after.left ≡ before.left) × (after.faults.input ≡ before.faults.input)

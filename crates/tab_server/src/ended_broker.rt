@@ -14,8 +14,9 @@ pub(crate) fn end_broker<D: Device>(broker: Broker<D>) -> (D, Journal, Option<u6
     requires closed { (clients_of broker.journal).present ≡ [] }
     ensures journal { result.1.entries ≡ broker.journal }
     ensures limit { result.1.limit ≡ broker.limit }
-    ensures ended { IsEnded (origin_of (D.seen broker.device).base broker.held.sessions.numbers)
-        broker.began (D.seen result.0) result.2 result.1.entries }
+    ensures ended { IsEnded D.CONTEXTS
+        (origin_of (D.seen broker.device).base broker.held.sessions.numbers) broker.began
+        (D.seen result.0) result.2 result.1.entries }
     ensures wrong { result.2 ≡ broker.wrong_code }
 {
     let wrong = broker.wrong_answer();

@@ -25,6 +25,7 @@ impl<D: Device> Recorded for PlayedBroker<D> {
       base = origin_of (D.seen p.broker.device).base p.broker.held.sessions.numbers;
       limit = p.broker.limit;
       began = p.broker.began;
+      contexts = D.CONTEXTS;
     } };
 
     ghost wrong = { λ p. is_some p.broker.wrong_code };

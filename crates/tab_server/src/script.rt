@@ -8,7 +8,7 @@ ghost use Rattle.script_spec.specs.Summary.{HaveBytes, Reply, reply_lines, summa
 ghost use Rattle.broker_lock.specs.Known.{origin_of};
 ghost use Rattle.broker_core.specs.Broker.{IsAtBase, told_origin};
 ghost use Rattle.tab_server.specs.Status.{EndsStart, status_of, detail_of};
-ghost use Rattle.tab_server.specs.Run.{Begins, Leaves, after, after_of, before, before_of};
+ghost use Rattle.tab_server.specs.Run.{Begins, Leaves, after, after_of, before, before_of, limits};
 ghost use Rattle.tab_server.specs.Endings.{StandsToEnd, WroteBehind, is_end};
 ghost use Rattle.tab_server.specs.Workload.{LeavesWorkload};
 ghost use Rattle.tab_server.specs.Done.{IsServe, LeavesPlan};
@@ -70,12 +70,12 @@ pub(crate) fn begin_broker<D: Device>(
     ensures broker { IfOk result (λ b. Begins (D.seen device) limit b (D.seen b.device)) }
     ensures leaves { IfErr result (λ played. (audit : Bool) (left written : Option (List ℕ))
         (input output : ℕ) → Leaves limit audit
-        (before_of (told_origin (D.seen device).base (D.seen device).state) (D.seen device).faults
-        left input written output)
+        (before_of D.CONTEXTS (told_origin (D.seen device).base (D.seen device).state)
+        (D.seen device).faults left input written output)
         (after_of (D.seen played.device) left input written output)
         played.status played.detail None) }
     ensures none { IfErr result (λ played. (played.journal ≡ None)
-        × EndsStart D.seen played.status played.detail device played.device) }
+        × EndsStart D.CONTEXTS D.seen played.status played.detail device played.device) }
 {
     match Broker::begin(alloc, device, limit) {
         Ok(broker) => Ok(broker),
@@ -101,12 +101,12 @@ fn begin<D: Device>(alloc: Global, limit: u64, device: D) -> Result<(Room, Broke
     ensures broker { IfOk result (λ b. Begins (D.seen device) limit b.1 (D.seen b.1.device)) }
     ensures leaves { IfErr result (λ played. (audit : Bool) (left written : Option (List ℕ))
         (input output : ℕ) → Leaves limit audit
-        (before_of (told_origin (D.seen device).base (D.seen device).state) (D.seen device).faults
-        left input written output)
+        (before_of D.CONTEXTS (told_origin (D.seen device).base (D.seen device).state)
+        (D.seen device).faults left input written output)
         (after_of (D.seen played.device) left input written output)
         played.status played.detail None) }
     ensures none { IfErr result (λ played. (played.journal ≡ None)
-        × EndsStart D.seen played.status played.detail device played.device) }
+        × EndsStart D.CONTEXTS D.seen played.status played.detail device played.device) }
 {
     let Ok(room) = Room::new(alloc) else {
         return Err(unplayed(NO_MEMORY, 0, device));
@@ -129,14 +129,16 @@ fn play_over<D: Device, I: Source, O: Sink>(
     requires sound { broker.wrong_code ≡ None }
     requires counted { broker.began ≤ (D.seen broker.device).faults }
     ensures leaves { Leaves broker.limit false
-        (before_of (origin_of (D.seen broker.device).base broker.held.sessions.numbers)
+        (before_of D.CONTEXTS
+        (origin_of (D.seen broker.device).base broker.held.sessions.numbers)
         broker.began (I.left input.old) (I.faults input.old)
         (O.written output.old) (O.faults output.old))
         (after D.seen I.left I.faults O.written O.faults result.device input.new output.new)
         (status_of result.cause) (detail_of result.cause) (Some result.journal.entries) }
     ensures limit { result.journal.limit ≡ broker.limit }
-    ensures to_end { StandsToEnd result.whole broker.limit (status_of result.cause)
-        (I.left input.old) (O.written output.old) (O.written output.new) result.journal.entries }
+    ensures to_end { StandsToEnd result.whole (limits D.CONTEXTS broker.limit)
+        (status_of result.cause) (I.left input.old) (O.written output.old) (O.written output.new)
+        result.journal.entries }
 {
     let played = PlayedBroker { broker };
     let PlayedScript { stop, value } = play_script(alloc, room, played, input, output);
@@ -210,11 +212,11 @@ fn play_input<D: Device, I: Source, O: Sink>(
     requires limit { IsLimit plan.now.limit }
     requires audit { IsTrue plan.now.audit → plan.now.limit ≤ JOURNAL_MOST }
     ensures leaves { Leaves plan.now.limit plan.now.audit
-        (before D.seen I.left I.faults O.written O.faults device input.old output.old)
+        (before D.CONTEXTS D.seen I.left I.faults O.written O.faults device input.old output.old)
         (after D.seen I.left I.faults O.written O.faults result.device input.new output.new)
         result.status result.detail (option_map (λ journal. journal.entries) result.journal) }
     ensures none { IfNone result.journal
-        (EndsStart D.seen result.status result.detail device result.device
+        (EndsStart D.CONTEXTS D.seen result.status result.detail device result.device
         × (input.new ≡ input.old) × (output.new ≡ output.old)) }
 {
     match begin(alloc, plan.limit, device) {
@@ -245,12 +247,12 @@ fn play_workload<D: Device, O: Sink>(
     requires lines { plan.now.lines ≤ LINES_MOST }
     ensures leaves { (left : Option (List ℕ)) (input : ℕ) → LeavesWorkload plan.now.limit
         plan.now.audit plan.now.start plan.now.lines
-        (before_of (told_origin (D.seen device).base (D.seen device).state) (D.seen device).faults
-        left input (O.written output.old) (O.faults output.old))
+        (before_of D.CONTEXTS (told_origin (D.seen device).base (D.seen device).state)
+        (D.seen device).faults left input (O.written output.old) (O.faults output.old))
         (after_of (D.seen result.device) left input (O.written output.new) (O.faults output.new))
         result.status result.detail (option_map (λ journal. journal.entries) result.journal) }
     ensures none { IfNone result.journal
-        (EndsStart D.seen result.status result.detail device result.device
+        (EndsStart D.CONTEXTS D.seen result.status result.detail device result.device
         × (output.new ≡ output.old)) }
 {
     match begin(alloc, plan.limit, device) {
@@ -297,7 +299,7 @@ pub fn play<D: Device, I: Source, O: Sink>(
     requires job { IsServe plan.now.job → ⊥ }
 
     ensures leaves { LeavesPlan plan.now
-        (before D.seen I.left I.faults O.written O.faults device input.old output.old)
+        (before D.CONTEXTS D.seen I.left I.faults O.written O.faults device input.old output.old)
         (after D.seen I.left I.faults O.written O.faults result.device input.new output.new)
         result.status result.detail (option_map (λ journal. journal.entries) result.journal) }
     // Where the broker didn't begin there is no journal, the device holds no more than it did, and
@@ -305,7 +307,7 @@ pub fn play<D: Device, I: Source, O: Sink>(
     // or the device was started and flushed. Each number that it told before the last command is in
     // range, and at 11 the one that it told then isn't.
     ensures none { IfNone result.journal
-        (EndsStart D.seen result.status result.detail device result.device
+        (EndsStart D.CONTEXTS D.seen result.status result.detail device result.device
         × (input.new ≡ input.old) × (output.new ≡ output.old)) }
 {
     match plan.job {

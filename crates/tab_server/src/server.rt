@@ -82,6 +82,7 @@ pub fn tabrmd<
     // Nobody is accepted.
     ensures leaves { IfSome (accepted (map string_bytes words.now))
         (λ plan. (IsServe plan.job → ⊥) → LeavesPlan plan (record {
+          contexts = D.CONTEXTS;
           base = told_origin (D.seen device).base (D.seen device).state;
           left = I.left input.old;
           written = O.written output.old;
@@ -109,10 +110,11 @@ pub fn tabrmd<
           base = told_origin (D.seen device).base (D.seen device).state;
           limit = plan.limit;
           began = (D.seen device).faults;
+          contexts = D.CONTEXTS;
         })) (λ link. link.client) (λ link. link.ending) plan.audit plan.connections
-        (before_of (told_origin (D.seen device).base (D.seen device).state) (D.seen device).faults
-        (I.left input.old) (I.faults input.old) (O.written output.old) (O.faults output.old))
-        (after_of (D.seen result.device)
+        (before_of D.CONTEXTS (told_origin (D.seen device).base (D.seen device).state)
+        (D.seen device).faults (I.left input.old) (I.faults input.old)
+        (O.written output.old) (O.faults output.old)) (after_of (D.seen result.device)
         (I.left input.new) (I.faults input.new) (O.written output.new) (O.faults output.new))
         (A.coming acceptor.old) (A.coming acceptor.new)
         (A.faults acceptor.old) (A.faults acceptor.new) result.status result.detail
@@ -125,10 +127,11 @@ pub fn tabrmd<
           base = told_origin (D.seen device).base (D.seen device).state;
           limit = plan.limit;
           began = (D.seen device).faults;
+          contexts = D.CONTEXTS;
         })) given_of client_of (λ s. s.ending) plan.audit plan.connections
-        (before_of (told_origin (D.seen device).base (D.seen device).state) (D.seen device).faults
-        (I.left input.old) (I.faults input.old) (O.written output.old) (O.faults output.old))
-        (after_of (D.seen result.device)
+        (before_of D.CONTEXTS (told_origin (D.seen device).base (D.seen device).state)
+        (D.seen device).faults (I.left input.old) (I.faults input.old)
+        (O.written output.old) (O.faults output.old)) (after_of (D.seen result.device)
         (I.left input.new) (I.faults input.new) (O.written output.new) (O.faults output.new))
         (A.coming acceptor.old) (A.coming acceptor.new)
         (A.faults acceptor.old) (A.faults acceptor.new) result.status result.detail
@@ -140,7 +143,7 @@ pub fn tabrmd<
     // came: at 5 nothing was sent, or the device was started and flushed. Each number that it told
     // before the last command is in range, and at 11 the one that it told then isn't.
     ensures none { IfNone result.journal
-        (EndsStart D.seen result.status result.detail device result.device
+        (EndsStart D.CONTEXTS D.seen result.status result.detail device result.device
         × (acceptor.new ≡ acceptor.old) × (input.new ≡ input.old) × (output.new ≡ output.old)
         × (result.links.items ≡ [])) }
 {

@@ -185,9 +185,10 @@ fn serve_begun<D: Device + Send, A: Acceptor, G: Gate, O: Sink, R: Threads + Wai
           base = origin_of (D.seen broker.device).base broker.held.sessions.numbers;
           limit = broker.limit;
           began = broker.began;
+          contexts = D.CONTEXTS;
         })) (λ link. link.client) (λ link. link.ending) plan.now.audit plan.now.connections
-        (before_of (origin_of (D.seen broker.device).base broker.held.sessions.numbers) broker.began
-        left input (O.written output.old) (O.faults output.old))
+        (before_of D.CONTEXTS (origin_of (D.seen broker.device).base broker.held.sessions.numbers)
+        broker.began left input (O.written output.old) (O.faults output.old))
         (after_of (D.seen result.device) left input (O.written output.new) (O.faults output.new))
         (A.coming acceptor.old) (A.coming acceptor.new)
         (A.faults acceptor.old) (A.faults acceptor.new) result.status result.detail
@@ -243,9 +244,10 @@ fn pool_begun<D: Device + Send, A: Acceptor + Send, G: Gate, O: Sink, R: Threads
           base = origin_of (D.seen broker.device).base broker.held.sessions.numbers;
           limit = broker.limit;
           began = broker.began;
+          contexts = D.CONTEXTS;
         })) given_of client_of (λ s. s.ending) plan.now.audit plan.now.connections
-        (before_of (origin_of (D.seen broker.device).base broker.held.sessions.numbers) broker.began
-        left input (O.written output.old) (O.faults output.old))
+        (before_of D.CONTEXTS (origin_of (D.seen broker.device).base broker.held.sessions.numbers)
+        broker.began left input (O.written output.old) (O.faults output.old))
         (after_of (D.seen result.device) left input (O.written output.new) (O.faults output.new))
         (A.coming acceptor.old) (A.coming acceptor.new)
         (A.faults acceptor.old) (A.faults acceptor.new) result.status result.detail
@@ -333,9 +335,10 @@ pub(crate) fn serve_plan<
           base = told_origin (D.seen device).base (D.seen device).state;
           limit = plan.now.limit;
           began = (D.seen device).faults;
+          contexts = D.CONTEXTS;
         })) (λ link. link.client) (λ link. link.ending) plan.now.audit plan.now.connections
-        (before_of (told_origin (D.seen device).base (D.seen device).state) (D.seen device).faults
-        left input (O.written output.old) (O.faults output.old))
+        (before_of D.CONTEXTS (told_origin (D.seen device).base (D.seen device).state)
+        (D.seen device).faults left input (O.written output.old) (O.faults output.old))
         (after_of (D.seen result.device) left input (O.written output.new) (O.faults output.new))
         (A.coming acceptor.old) (A.coming acceptor.new)
         (A.faults acceptor.old) (A.faults acceptor.new) result.status result.detail
@@ -345,9 +348,10 @@ pub(crate) fn serve_plan<
           base = told_origin (D.seen device).base (D.seen device).state;
           limit = plan.now.limit;
           began = (D.seen device).faults;
+          contexts = D.CONTEXTS;
         })) given_of client_of (λ s. s.ending) plan.now.audit plan.now.connections
-        (before_of (told_origin (D.seen device).base (D.seen device).state) (D.seen device).faults
-        left input (O.written output.old) (O.faults output.old))
+        (before_of D.CONTEXTS (told_origin (D.seen device).base (D.seen device).state)
+        (D.seen device).faults left input (O.written output.old) (O.faults output.old))
         (after_of (D.seen result.device) left input (O.written output.new) (O.faults output.new))
         (A.coming acceptor.old) (A.coming acceptor.new)
         (A.faults acceptor.old) (A.faults acceptor.new) result.status result.detail
@@ -355,7 +359,7 @@ pub(crate) fn serve_plan<
     ensures links { LINKS_MOST < plan.now.connections → result.links.items ≡ [] }
     ensures taken { result.status ≡ REFUSED → ⊥ }
     ensures none { IfNone result.journal
-        (EndsStart D.seen result.status result.detail device result.device
+        (EndsStart D.CONTEXTS D.seen result.status result.detail device result.device
         × (acceptor.new ≡ acceptor.old) × (output.new ≡ output.old) × (result.links.items ≡ [])) }
 {
     match begin_broker(alloc, plan.limit, device) {

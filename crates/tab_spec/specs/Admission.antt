@@ -9,22 +9,25 @@ use Rattle.tab_spec.specs.declared.Auth.{Auth}
 use Rattle.tab_spec.specs.declared.Auths.{Auths}
 use Rattle.tab_spec.specs.declared.Admitted.{Admitted}
 use Rattle.tab_spec.specs.declared.TheConstants.{CC_STARTUP, RC_VALUE, RC_HANDLE, RC_ATTRIBUTES, RC_S, RC_1, RC_INITIALIZE, RC_OBJECT_MEMORY, RC_REFERENCE_H0, RC_REFERENCE_S0, RS_PW, HT_TRANSIENT}
+use Rattle.tab_spec.specs.declared.contexts.ContextLimits.{ContextLimits}
+use Rattle.tab_spec.specs.declared.contexts.TheConstants.{PROFILE_CONTEXTS}
 use Rattle.tab_spec.specs.Commands.{row_of}
 use Rattle.tab_spec.specs.Shape.{is_session_octet, octet_of, makes_object_by, shape_by, row_in}
 use Rattle.tab_spec.specs.Auths.{auths_of}
 
 -- ---- what is there
 
--- what a command may name: by handle, the objects, and the sessions that are in use; and whether there is no room for
--- another object
+-- what a command may name: by handle, the objects, and the sessions that are in use; whether there is no room for another
+-- object; and what the contexts of the device may be, which ContextLoad makes an object of
 pub record Tables : Type 0 where
   pub has_object : ℕ → Bool
   pub has_session : ℕ → Bool
   pub is_full : Bool
+  pub contexts : ContextLimits
 
 -- nothing is there
 abbrev pub no_tables : Tables
-no_tables = record { has_object = λ handle. false; has_session = λ handle. false; is_full = false }
+no_tables = record { has_object = λ handle. false; has_session = λ handle. false; is_full = false; contexts = PROFILE_CONTEXTS }
 
 abbrev pub is_session_handle : ℕ → Bool
 is_session_handle handle = is_session_octet (octet_of handle)
@@ -67,7 +70,7 @@ spare_auth shape auths =
 
 -- step 11: an object that there is no room for
 abbrev pub object_too_many : Tables → Shape → List ℕ → Option ℕ
-object_too_many tables shape bytes = if makes_object_by (Ok shape) bytes && tables.is_full then Some RC_OBJECT_MEMORY else None
+object_too_many tables shape bytes = if makes_object_by tables.contexts (Ok shape) bytes && tables.is_full then Some RC_OBJECT_MEMORY else None
 
 -- where there is a fault that is the error, and else what comes next
 abbrev pub unless_fault : {Y : Type 0} → Option ℕ → Result Y ℕ → Result Y ℕ

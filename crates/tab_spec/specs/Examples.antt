@@ -1,12 +1,14 @@
 -- Worked examples, which the examples in src/ cite: a device whose seed is zero, and commands and replies by
 -- their bytes.
-use Rattle.std.specs.Prelude.{ℕ, zero, suc, ◌/◌, ◌%◌, ◌==◌, true, false, List, [], ◌∷◌, ◌++◌, length, replicate, None, Result, Ok, Err}
+use Rattle.std.specs.Prelude.{ℕ, zero, suc, ◌/◌, ◌%◌, ◌==◌, true, false, Bool, List, [], ◌∷◌, ◌++◌, length, replicate, Option, Some, None, Result, Ok, Err}
 use Rattle.std.specs.Int.{w16, w32, w64, to_be_bytes}
 use Rattle.tab_spec.specs.declared.Shape.{Shape}
 use Rattle.tab_spec.specs.declared.Kind.TheVariants.{Absent}
 use Rattle.tab_spec.specs.declared.TheConstants.{CC_GET_RANDOM, CC_PCR_READ, CC_PCR_EXTEND, CC_FLUSH_CONTEXT, CC_CONTEXT_SAVE, RS_PW}
 use Rattle.tab_spec.specs.declared.SessionKind.TheVariants.{Policy}
 use Rattle.tab_spec.specs.declared.AuthNeeded.TheVariants.{Nothing}
+use Rattle.tab_spec.specs.declared.contexts.ContextLimits.{ContextLimits}
+use Rattle.tab_spec.specs.declared.contexts.TheConstants.{PROFILE_CONTEXTS}
 use Rattle.sha2.specs.Sha256.{sha256}
 use Rattle.tab_spec.specs.NvIndex.{NvIndex}
 use Rattle.tab_spec.specs.Object.{Object}
@@ -16,6 +18,7 @@ use Rattle.tab_spec.specs.Session.{Session}
 use Rattle.tab_spec.specs.Admission.{Tables}
 use Rattle.tab_spec.specs.Commands.{command_row}
 use Rattle.tab_spec.specs.Reply.{response}
+use Rattle.tab_spec.specs.Shape.{needs_slot, shape_of}
 
 -- PCR 7 extended by 32 zeros
 abbrev pub extended_persist : Persist
@@ -86,7 +89,15 @@ pcr_7_reply =
 
 -- the transient object 0, the policy session 1, and no room for another object
 abbrev pub full_tables : Tables
-full_tables = record { has_object = λ handle. handle == 0x80000000; has_session = λ handle. handle == 0x03000001; is_full = true }
+full_tables = record { has_object = λ handle. handle == 0x80000000; has_session = λ handle. handle == 0x03000001; is_full = true; contexts = PROFILE_CONTEXTS }
+
+-- whether a command needs a free slot; nothing where it has no shape
+abbrev pub slot_needed_by : ContextLimits → Result Shape ℕ → List ℕ → Option Bool
+slot_needed_by contexts (Err code) bytes = None
+slot_needed_by contexts (Ok shape) bytes = Some (needs_slot contexts shape bytes)
+
+abbrev pub slot_needed : ContextLimits → List ℕ → Option Bool
+slot_needed contexts bytes = slot_needed_by contexts (shape_of bytes) bytes
 
 -- the shape of a GetRandom with this tag
 abbrev pub random_shape : ℕ → Shape

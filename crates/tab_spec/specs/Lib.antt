@@ -2,6 +2,7 @@ pub mod Count
 pub mod Frame
 pub mod Hash
 pub mod Commands
+pub mod Contexts
 pub mod Shape
 pub mod Numbers
 pub mod Auths

@@ -17,5 +17,5 @@ pub record AreInRange (numbers : Numbers) : Type 0 where
   pub gap_least : CONTEXT_GAP ≤ numbers.gap
 
 -- how many sessions may be left by their clients at once, over a device that may have so many active
-abbrev pub left_most : ℕ → ℕ
-left_most active = min 8 (active / 4)
+abbrev pub leave_limit : ℕ → ℕ
+leave_limit active = min 8 (active / 4)

@@ -7,7 +7,9 @@ use Rattle.tab_spec.specs.declared.Kind.{Kind}
 use Rattle.tab_spec.specs.declared.Kind.TheVariants.{Absent, Owner, Pcr, Nv, NvAuth, Object, Policy, Entity, Saved, Null}
 use Rattle.tab_spec.specs.declared.CommandRow.{CommandRow}
 use Rattle.tab_spec.specs.declared.Shape.{Shape}
-use Rattle.tab_spec.specs.declared.TheConstants.{HEADER_BYTES, ST_NO_SESSIONS, ST_SESSIONS, CC_CREATE_PRIMARY, CC_LOAD, CC_CONTEXT_LOAD, RC_BAD_TAG, RC_COMMAND_SIZE, RC_COMMAND_CODE, RC_INSUFFICIENT, RC_VALUE, RC_HANDLE, RC_1, RH_OWNER, RH_NULL, HT_NV_INDEX, HT_HMAC_SESSION, HT_POLICY_SESSION, HT_TRANSIENT, HT_PERSISTENT, PCRS, TRANSIENT_FIRST}
+use Rattle.tab_spec.specs.declared.TheConstants.{HEADER_BYTES, ST_NO_SESSIONS, ST_SESSIONS, CC_CREATE, CC_CREATE_PRIMARY, CC_LOAD, CC_CONTEXT_LOAD, RC_BAD_TAG, RC_COMMAND_SIZE, RC_COMMAND_CODE, RC_INSUFFICIENT, RC_VALUE, RC_HANDLE, RC_1, RH_OWNER, RH_NULL, HT_NV_INDEX, HT_HMAC_SESSION, HT_POLICY_SESSION, HT_TRANSIENT, HT_PERSISTENT, PCRS}
+use Rattle.tab_spec.specs.declared.contexts.ContextLimits.{ContextLimits}
+use Rattle.tab_spec.specs.Contexts.{is_saved_object}
 use Rattle.tab_spec.specs.Frame.{code_of, is_frame, tag_of}
 use Rattle.tab_spec.specs.Commands.{row_of}
 
@@ -165,15 +167,19 @@ with_handles bytes shape handles = take 10 bytes ++ handle_bytes shape.count han
 
 -- ---- what makes an object
 
--- ContextLoad's savedHandle, of an object
-abbrev pub loads_object : List ℕ → Bool
-loads_object bytes = not (nat_lt (length bytes) 22) && from_be_bytes w32 (take 4 (drop 18 bytes)) == TRANSIENT_FIRST
+-- whether ContextLoad's savedHandle is that of an object
+abbrev pub loads_object : ContextLimits → List ℕ → Bool
+loads_object contexts bytes = not (nat_lt (length bytes) 22) && is_saved_object contexts (from_be_bytes w32 (take 4 (drop 18 bytes)))
 
-abbrev pub makes_object_by : Result Shape ℕ → List ℕ → Bool
-makes_object_by (Err code) bytes = false
-makes_object_by (Ok shape) bytes =
-    (shape.row.code == CC_CREATE_PRIMARY || shape.row.code == CC_LOAD) || (shape.row.code == CC_CONTEXT_LOAD && loads_object bytes)
+abbrev pub makes_object_by : ContextLimits → Result Shape ℕ → List ℕ → Bool
+makes_object_by contexts (Err code) bytes = false
+makes_object_by contexts (Ok shape) bytes =
+    (shape.row.code == CC_CREATE_PRIMARY || shape.row.code == CC_LOAD) || (shape.row.code == CC_CONTEXT_LOAD && loads_object contexts bytes)
 
 -- whether a command makes a transient object where it succeeds
-abbrev pub makes_object : List ℕ → Bool
-makes_object bytes = makes_object_by (shape_of bytes) bytes
+abbrev pub makes_object : ContextLimits → List ℕ → Bool
+makes_object contexts bytes = makes_object_by contexts (shape_of bytes) bytes
+
+-- whether it needs a free slot: it makes an object, or it is Create, where the device builds the object in a slot
+abbrev pub needs_slot : ContextLimits → Shape → List ℕ → Bool
+needs_slot contexts shape bytes = (contexts.create_takes_slot && shape.row.code == CC_CREATE) || makes_object_by contexts (Ok shape) bytes

@@ -15,6 +15,7 @@ ghost use Rattle.tab_spec.specs.declared.TheConstants.{CC_CONTEXT_LOAD, CC_POLIC
 ghost use Rattle.tab_spec.specs.declared.TheConstants.{CC_POLICY_GET_DIGEST, CC_UNSEAL, CC_CREATE};
 ghost use Rattle.tab_spec.specs.declared.TheConstants.{CC_CREATE_PRIMARY, CC_LOAD, RH_OWNER};
 ghost use Rattle.tab_spec.specs.declared.TheConstants.{RH_NULL, RS_PW};
+ghost use Rattle.tab_spec.specs.declared.contexts.TheConstants.{PROFILE_CONTEXTS, TPM_CONTEXTS};
 ghost use Rattle.tab_spec.specs.Commands.{command_row, all_commands, row_of, startup_command};
 ghost use Rattle.tab_spec.specs.Shape.{shape_of, makes_object};
 ghost use Rattle.tab_spec.specs.Auths.{auths_of, no_auth};
@@ -29,6 +30,7 @@ ghost use Rattle.tab_spec.specs.Hash.{hmac, kdfa, name_of};
 ghost use Rattle.tab_spec.specs.Frame.{frames, command, cancel, whole, rest, bad};
 ghost use Rattle.tab_spec.specs.Examples.{get_random, cancel_frame, u32, frame, plain_auth, area};
 ghost use Rattle.tab_spec.specs.Examples.{random_shape, full_tables, counter, hmac_key};
+ghost use Rattle.tab_spec.specs.Examples.{slot_needed};
 ghost use Rattle.tab_spec.specs.Examples.{storage_parent, sealed_bytes, policy_session, sealed};
 
 fn streams_are_cut_into_frames()
@@ -303,18 +305,59 @@ fn commands_are_admitted_in_order()
 {}
 
 fn some_commands_make_objects()
-    ensures primary { makes_object (frame 0x8002 CC_CREATE_PRIMARY (u32 RH_OWNER)) ≡ true }
-    ensures of_null { makes_object (frame 0x8002 CC_CREATE_PRIMARY (u32 RH_NULL)) ≡ false }
-    ensures create { makes_object (frame 0x8002 CC_CREATE (u32 0x80000000)) ≡ false }
-    ensures load { makes_object (frame 0x8002 CC_LOAD (u32 0x80000000)) ≡ true }
-    ensures context { makes_object (frame 0x8001 CC_CONTEXT_LOAD (u32 0 ++ u32 5 ++ u32 0x80000000))
+    ensures primary { makes_object PROFILE_CONTEXTS
+        (frame 0x8002 CC_CREATE_PRIMARY (u32 RH_OWNER))
         ≡ true }
-    ensures session_context { makes_object
+    ensures of_null { makes_object PROFILE_CONTEXTS
+        (frame 0x8002 CC_CREATE_PRIMARY (u32 RH_NULL))
+        ≡ false }
+    ensures create { makes_object PROFILE_CONTEXTS (frame 0x8002 CC_CREATE (u32 0x80000000))
+        ≡ false }
+    ensures load { makes_object PROFILE_CONTEXTS (frame 0x8002 CC_LOAD (u32 0x80000000)) ≡ true }
+    ensures context { makes_object PROFILE_CONTEXTS
+        (frame 0x8001 CC_CONTEXT_LOAD (u32 0 ++ u32 5 ++ u32 0x80000000))
+        ≡ true }
+    ensures session_context { makes_object PROFILE_CONTEXTS
         (frame 0x8001 CC_CONTEXT_LOAD (u32 0 ++ u32 5 ++ u32 0x02000000))
         ≡ false }
-    ensures short_context { makes_object
+    ensures short_context { makes_object PROFILE_CONTEXTS
         (frame 0x8001 CC_CONTEXT_LOAD (u32 0 ++ u32 5 ++ 0x80 ∷ 0 ∷ 0 ∷ []))
         ≡ false }
+{}
+
+// A TPM that isn't the profile's also makes one of the context of an object with stClear set.
+#[tactic(auto, unfolding(crate::specs::Shape::shape_of))]
+fn contexts_make_objects_by_their_handles()
+    ensures profile { filter (λ handle. makes_object PROFILE_CONTEXTS
+        (frame 0x8001 CC_CONTEXT_LOAD (u32 0 ++ u32 5 ++ u32 handle)))
+        (0x7fffffff ∷ 0x80000000 ∷ 0x80000001 ∷ 0x80000002 ∷ 0x80000003 ∷ [])
+        ≡ 0x80000000 ∷ [] }
+    ensures tpm { filter (λ handle. makes_object TPM_CONTEXTS
+        (frame 0x8001 CC_CONTEXT_LOAD (u32 0 ++ u32 5 ++ u32 handle)))
+        (0x7fffffff ∷ 0x80000000 ∷ 0x80000001 ∷ 0x80000002 ∷ 0x80000003 ∷ 0x02000000 ∷ [])
+        ≡ 0x80000000 ∷ 0x80000002 ∷ [] }
+    ensures short { makes_object TPM_CONTEXTS
+        (frame 0x8001 CC_CONTEXT_LOAD (u32 0 ++ u32 5 ++ 0x80 ∷ 0 ∷ 0 ∷ []))
+        ≡ false }
+    ensures primary { makes_object TPM_CONTEXTS (frame 0x8002 CC_CREATE_PRIMARY (u32 RH_OWNER))
+        ≡ true }
+    ensures create { makes_object TPM_CONTEXTS (frame 0x8002 CC_CREATE (u32 0x80000000)) ≡ false }
+    ensures random { makes_object TPM_CONTEXTS (get_random 0 8) ≡ false }
+{}
+
+// Create needs a slot on such a TPM alone, though it makes no object.
+#[tactic(auto, unfolding(crate::specs::Shape::shape_of))]
+fn some_commands_need_a_slot()
+    ensures profile { slot_needed PROFILE_CONTEXTS (frame 0x8002 CC_CREATE (u32 0x80000000))
+        ≡ Some false }
+    ensures tpm { slot_needed TPM_CONTEXTS (frame 0x8002 CC_CREATE (u32 0x80000000)) ≡ Some true }
+    ensures load { slot_needed PROFILE_CONTEXTS (frame 0x8002 CC_LOAD (u32 0x80000000))
+        ≡ Some true }
+    ensures unseal { slot_needed TPM_CONTEXTS (frame 0x8002 CC_UNSEAL (u32 0x80000000))
+        ≡ Some false }
+    ensures st_clear { slot_needed TPM_CONTEXTS
+        (frame 0x8001 CC_CONTEXT_LOAD (u32 0 ++ u32 5 ++ u32 0x80000002))
+        ≡ Some true }
 {}
 
 // A session by its bytes: its kind, nonce and digest, the one command that it is for, and its flags

@@ -3,10 +3,12 @@
 //! "TPM_CC", "TPM_RC", "TPM_ALG_ID", "TPM_RH", "TPM_HT"), without their prefix `TPM_`.
 #![tactic(auto)]
 
+mod contexts;
 mod examples;
 mod numbers;
 
-pub use numbers::{Numbers, left_most};
+pub use contexts::{ContextLimits, PROFILE_CONTEXTS, TPM_CONTEXTS};
+pub use numbers::{Numbers, leave_limit};
 
 /// The fewest bytes of a command or a response: its header, of tag, size and code.
 pub const HEADER_BYTES: u32 = 10;
@@ -320,9 +322,15 @@ pub const MOST_BLOB_BYTES: u32 = 2048;
 /// The number of each context that a device makes is below this one.
 pub const CONTEXT_LIMIT: u64 = 1 << 62;
 
+/// The most bytes of a context that a broker keeps, whatever the device (the project's own).
+pub const MOST_CONTEXT_BYTES: u32 = 2048;
+
 /// The first handle of a transient object (Part 2, "TPM_HC"), and the one that an object's context
 /// is saved under (Part 2, "TPMS_CONTEXT").
 pub const TRANSIENT_FIRST: u32 = 0x8000_0000;
+
+/// What the context of an object is saved under that a restart clears (Part 2, "TPMS_CONTEXT").
+pub const TRANSIENT_ST_CLEAR: u32 = 0x8000_0002;
 
 /// What a handle of a command's handle area may name (Part 2, "Handles").
 #[derive(Clone, Copy)]

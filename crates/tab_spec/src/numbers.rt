@@ -1,5 +1,5 @@
 ghost use Rattle.std.specs.Prelude.{◌≡◌};
-ghost use Rattle.tab_spec.specs.Numbers.{left_most, profile_numbers};
+ghost use Rattle.tab_spec.specs.Numbers.{leave_limit, profile_numbers};
 
 use crate::{ACTIVE_SESSIONS, CONTEXT_GAP, LOADED_SESSIONS, OBJECT_SLOTS};
 
@@ -33,8 +33,8 @@ impl Numbers {
 
 /// How many sessions may be left by their clients at once, over a device that may have so many
 /// active: the lesser of 8 and a quarter of these (the project's own).
-pub fn left_most(active: u8) -> u8
-    ensures { result ≡ left_most active }
+pub fn leave_limit(active: u8) -> u8
+    ensures { result ≡ leave_limit active }
 {
     (active / 4).min(8)
 }

@@ -3,7 +3,8 @@ ghost use Rattle.std.specs.Prelude.{Ok, Some, None, IfOk, MatchResult};
 ghost use Rattle.std.specs.List.{list_any};
 ghost use Rattle.tab_spec.specs.Frame.{is_frame};
 ghost use Rattle.tab_spec.specs.Commands.{row_of};
-ghost use Rattle.tab_spec.specs.Shape.{IsShape, loads_object, makes_object_by};
+ghost use Rattle.tab_spec.specs.Contexts.{is_saved_object};
+ghost use Rattle.tab_spec.specs.Shape.{IsShape, loads_object, makes_object_by, needs_slot};
 ghost use Rattle.tab_spec.specs.Auths.{no_auth, IsAuthWithin};
 ghost use Rattle.tab_spec.specs.Admission.{missing_handle, missing_session, repeated_session};
 ghost use Rattle.tab_spec.specs.Admission.{spare_auth, is_missing, is_session_handle};
@@ -14,10 +15,10 @@ use crate::shapes::{command_row, octet_of, shape_with};
 use crate::tables::Tables;
 use crate::wire::u32_at;
 use tab_spec::{
-    Admitted, Auth, Auths, CC_CONTEXT_LOAD, CC_CREATE_PRIMARY, CC_LOAD, CC_STARTUP, CommandRow,
-    HT_HMAC_SESSION, HT_POLICY_SESSION, HT_TRANSIENT, RC_1, RC_ATTRIBUTES, RC_HANDLE,
-    RC_INITIALIZE, RC_OBJECT_MEMORY, RC_REFERENCE_H0, RC_REFERENCE_S0, RC_S, RC_VALUE, RS_PW,
-    Shape, TRANSIENT_FIRST,
+    Admitted, Auth, Auths, CC_CONTEXT_LOAD, CC_CREATE, CC_CREATE_PRIMARY, CC_LOAD, CC_STARTUP,
+    CommandRow, ContextLimits, HT_HMAC_SESSION, HT_POLICY_SESSION, HT_TRANSIENT, RC_1,
+    RC_ATTRIBUTES, RC_HANDLE, RC_INITIALIZE, RC_OBJECT_MEMORY, RC_REFERENCE_H0, RC_REFERENCE_S0,
+    RC_S, RC_VALUE, RS_PW, Shape, TRANSIENT_FIRST, TRANSIENT_ST_CLEAR,
 };
 
 /// The shape and the authorizations of a frame, whose code has this row, over what is there. An
@@ -177,27 +178,45 @@ fn has_room<T: Tables>(tables: &T, shape: &Shape, bytes: &[u8]) -> Result<(), u3
         (λ u. object_too_many (T.tables tables.now) shape.now bytes.now ≡ None)
         (λ code. object_too_many (T.tables tables.now) shape.now bytes.now ≡ Some code) }
 {
-    if tables.is_full() && makes_object(shape, bytes) {
+    if tables.is_full() && makes_object(tables.contexts(), shape, bytes) {
         return Err(RC_OBJECT_MEMORY);
     }
     Ok(())
 }
 
-// Whether a command of this shape makes an object where it succeeds.
-pub fn makes_object(shape: &Shape, bytes: &[u8]) -> bool
-    ensures { result ≡ makes_object_by (Ok shape.now) bytes.now }
+/// Whether a command of this shape makes an object where it succeeds, on a device with these
+/// contexts.
+pub fn makes_object(contexts: ContextLimits, shape: &Shape, bytes: &[u8]) -> bool
+    ensures { result ≡ makes_object_by contexts (Ok shape.now) bytes.now }
 {
     match shape.row.code {
         CC_CREATE_PRIMARY | CC_LOAD => true,
-        CC_CONTEXT_LOAD => loads_object(bytes),
+        CC_CONTEXT_LOAD => loads_object(contexts, bytes),
         _ => false,
     }
 }
 
 // Whether a ContextLoad has the savedHandle of an object. It stands after the header (10 bytes) and
 // the sequence (8).
-fn loads_object(bytes: &[u8]) -> bool
-    ensures { result ≡ loads_object bytes.now }
+fn loads_object(contexts: ContextLimits, bytes: &[u8]) -> bool
+    ensures { result ≡ loads_object contexts bytes.now }
 {
-    bytes.len() >= 22 && u32_at(bytes, 18) == TRANSIENT_FIRST
+    bytes.len() >= 22 && is_saved_object(contexts, u32_at(bytes, 18))
+}
+
+/// Whether a savedHandle is that of an object, on a device with these contexts (Part 2,
+/// "TPMS_CONTEXT").
+pub fn is_saved_object(contexts: ContextLimits, handle: u32) -> bool
+    ensures { result ≡ is_saved_object contexts handle }
+{
+    (contexts.st_clear && handle == TRANSIENT_ST_CLEAR) || handle == TRANSIENT_FIRST
+}
+
+/// Whether a command of this shape needs a free slot, on a device with these contexts: it makes an
+/// object, or it is Create where the device builds the object in a slot.
+pub fn needs_slot(contexts: ContextLimits, shape: &Shape, bytes: &[u8]) -> bool
+    ensures { result ≡ needs_slot contexts shape.now bytes.now }
+{
+    (contexts.create_takes_slot && shape.row.code == CC_CREATE)
+        || makes_object(contexts, shape, bytes)
 }

@@ -10,7 +10,9 @@ mod shapes;
 mod tables;
 mod wire;
 
-pub use admission::{admit, admit_client, is_session_handle, makes_object};
+pub use admission::{
+    admit, admit_client, is_saved_object, is_session_handle, makes_object, needs_slot,
+};
 pub use area::authorizations;
 pub use rows::row_of;
 pub use shapes::{command_row, handle_count, octet_of, shape, shape_with, with_handles};

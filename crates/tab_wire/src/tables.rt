@@ -3,7 +3,7 @@ ghost use Rattle.tab_spec.specs.Shape.{octet_of};
 ghost use Rattle.tab_spec.specs.Admission as admission;
 ghost use Rattle.tab_spec.specs.Admission.{is_session_handle};
 
-use tab_spec::HT_TRANSIENT;
+use tab_spec::{ContextLimits, HT_TRANSIENT, PROFILE_CONTEXTS};
 
 /// What a command may name beside what all clients share, and whether there is room for another
 /// object.
@@ -24,6 +24,10 @@ pub trait Tables {
     /// Whether there is no room for another object.
     fn is_full(&self) -> bool
         ensures { result ≡ (tables self.now).is_full };
+
+    /// What the contexts of the device may be.
+    fn contexts(&self) -> ContextLimits
+        ensures { result ≡ (tables self.now).contexts };
 }
 
 /// Nothing is there.
@@ -43,5 +47,9 @@ impl Tables for NoTables {
 
     fn is_full(&self) -> bool {
         false
+    }
+
+    fn contexts(&self) -> ContextLimits {
+        PROFILE_CONTEXTS
     }
 }

@@ -11,6 +11,8 @@ pub(crate) enum Target<S: Source, K: Sink> {
     Memory([u8; 32]),
     // Behind these two ends of a connection.
     Link(S, K),
+    // The same, where it is a TPM that needn't be of this project's profile.
+    Tpm(S, K),
     // Nowhere: nobody takes a connection to it.
     Unreachable,
 }
@@ -19,7 +21,7 @@ impl<S: Source + Drop, K: Sink + Drop> Target<S, K> {
     // Whether there is a device.
     pub(crate) fn is_there(&self) -> bool {
         match self {
-            Target::Memory(_) | Target::Link(_, _) => true,
+            Target::Memory(_) | Target::Link(_, _) | Target::Tpm(_, _) => true,
             Target::Unreachable => false,
         }
     }
@@ -30,7 +32,7 @@ impl<S: Source + Drop, K: Sink + Drop> Target<S, K> {
         ensures memory { (seed : List ℕ) → self ≡ targets.Memory seed → result ≡ self }
     {
         match self {
-            Target::Link(_, _) if !is_used => Target::Memory([0; 32]),
+            Target::Link(_, _) | Target::Tpm(_, _) if !is_used => Target::Memory([0; 32]),
             target => target,
         }
     }

@@ -5,14 +5,17 @@ ghost use Rattle.std.specs.Prelude.{◌==◌};
 
 use hex::FromHex;
 use std::alloc::Global;
+use tab_spec::{ContextLimits, PROFILE_CONTEXTS, TPM_CONTEXTS};
 use tab_wire::{NoTables, Tables, admit, admit_client, authorizations, command_row, shape};
 
-// There is one object and one session, and no room for another object where it says so.
+// There is one object and one session, and no room for another object where it says so. The device
+// is of the profile, or it isn't.
 #[derive(Clone, Copy)]
 struct OneOfEach {
     object: u32,
     session: u32,
     full: bool,
+    contexts: ContextLimits,
 }
 
 impl Tables for OneOfEach {
@@ -20,6 +23,7 @@ impl Tables for OneOfEach {
       has_object = λ handle. handle == t.object;
       has_session = λ handle. handle == t.session;
       is_full = t.full;
+      contexts = t.contexts;
     } };
 
     fn has_object(&self, handle: u32) -> bool {
@@ -32,6 +36,10 @@ impl Tables for OneOfEach {
 
     fn is_full(&self) -> bool {
         self.full
+    }
+
+    fn contexts(&self) -> ContextLimits {
+        self.contexts
     }
 }
 
@@ -178,11 +186,25 @@ const WITH_ROOM: [&str; 2] = [
 ];
 
 // With none.
-const FULL: [&str; 3] = [
+const FULL: [&str; 4] = [
     // CreatePrimary
     "00000902 80020000001b000001314000000100000009400000090000000000",
     // ContextLoad of 80000000
     "00000902 80010000001600000161000000000000000180000000",
+    // ContextLoad of 02000000
+    "00000000 80010000001600000161000000000000000102000000",
+    // ContextLoad of 80000002, which makes no object of the profile
+    "00000000 80010000001600000161000000000000000180000002",
+];
+
+// With none, on a TPM that isn't the profile's.
+const FULL_TPM: [&str; 4] = [
+    // ContextLoad of 80000000
+    "00000902 80010000001600000161000000000000000180000000",
+    // ContextLoad of 80000001
+    "00000000 80010000001600000161000000000000000180000001",
+    // ContextLoad of 80000002
+    "00000902 80010000001600000161000000000000000180000002",
     // ContextLoad of 02000000
     "00000000 80010000001600000161000000000000000102000000",
 ];
@@ -193,10 +215,16 @@ fn tests_room(rt: HostRuntime) {
         object: 0x80000000,
         session: 0x02000000,
         full: false,
+        contexts: PROFILE_CONTEXTS,
     };
     let full = OneOfEach { full: true, ..room };
+    let full_tpm = OneOfEach {
+        contexts: TPM_CONTEXTS,
+        ..full
+    };
     assert_eq!(rt; untold(rt.alloc(), View::Device(room), &WITH_ROOM), None);
     assert_eq!(rt; untold(rt.alloc(), View::Device(full), &FULL), None);
+    assert_eq!(rt; untold(rt.alloc(), View::Device(full_tpm), &FULL_TPM), None);
 }
 
 // With object 80000001 and session 03000002.
@@ -256,12 +284,14 @@ fn tests_what_commands_name(rt: HostRuntime) {
         object: 0x80000001,
         session: 0x03000002,
         full: true,
+        contexts: PROFILE_CONTEXTS,
     };
     assert_eq!(rt; untold(rt.alloc(), View::Device(named), &NAMED), None);
     let policy = OneOfEach {
         object: 0x80000000,
         session: 0x03000005,
         full: false,
+        contexts: PROFILE_CONTEXTS,
     };
     assert_eq!(rt; untold(rt.alloc(), View::Device(policy), &SECRETS), None);
     let hmac = OneOfEach {

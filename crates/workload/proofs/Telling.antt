@@ -8,7 +8,7 @@ use Rattle.tab_spec.specs.declared.TheConstants.{RC_COMMAND_SIZE, RC_JOURNAL_FUL
 use Rattle.tab_spec.specs.Reply.{error_reply}
 use Rattle.tab_spec.specs.Values.{AreBytes}
 use Rattle.history_spec.specs.Entry.{Entry, own, part_before}
-use Rattle.history_spec.specs.Told.{Told, ToldBy, entry_of}
+use Rattle.history_spec.specs.Told.{Told, ToldBy, entry_of, Limits}
 use Rattle.script_spec.specs.Calls.{Call, bad_size, closing, command, opening}
 use Rattle.script_spec.specs.Plays.{MayAddEntry, Plays1, PlaysTo, Stage, reply_line}
 use Rattle.script_spec.specs.Summary.{AreTold, is_answered, replies_to, reply_lines}
@@ -40,13 +40,13 @@ bytes_found p (e ∷ history) bytes =
     ]
 
 -- what is told is of bytes
-bytes_by : (entry : Option Entry) (limit : ℕ) (before : List Entry) (bytes reply : List ℕ) → IfSome entry (λ e. AreBytes e.reply)
+bytes_by : (entry : Option Entry) (limit : Limits) (before : List Entry) (bytes reply : List ℕ) → IfSome entry (λ e. AreBytes e.reply)
     → ToldBy entry limit before bytes reply → AreBytes reply
 bytes_by (Some e) limit before bytes reply known told = subst AreBytes told.reply_is known
 bytes_by None limit before bytes reply known (inl memory) = subst AreBytes (sym memory.reply_is) (listed_bytes (error_reply RC_MEMORY) refl)
 bytes_by None limit before bytes reply known (inr full) = subst AreBytes (sym full.reply_is) (listed_bytes (error_reply RC_JOURNAL_FULL) refl)
 
-bytes_told : (history : List Entry) (limit client number : ℕ) (bytes reply : List ℕ) → HaveBytes history → Told history limit client number bytes reply → AreBytes reply
+bytes_told : (history : List Entry) (limit : Limits) (client number : ℕ) (bytes reply : List ℕ) → HaveBytes history → Told history limit client number bytes reply → AreBytes reply
 bytes_told history limit client number bytes reply all told =
     bytes_by (entry_of history client number) limit (part_before client number history) bytes reply
     (bytes_found (λ e. eqb e.number number) (own history client) (bytes_filtered (λ e. eqb e.client client) history all)) told
@@ -57,13 +57,13 @@ bytes_added : (limit : ℕ) (old new : List Entry) (client number : ℕ) (bytes 
 bytes_added limit old new client number bytes covered (inl same) all = subst HaveBytes same all
 bytes_added limit old new client number bytes covered (inr added) all = bytes_before old (added.0 ∷ []) (subst HaveBytes added.1 all)
 
-bytes_then : (limit : ℕ) (before after : Stage) (call : Call) → Plays1 limit before call after → HaveBytes after.history → HaveBytes before.history
+bytes_then : (limit : Limits) (before after : Stage) (call : Call) → Plays1 limit before call after → HaveBytes after.history → HaveBytes before.history
 bytes_then limit before after (opening label) opened all = bytes_before before.history _ (subst (λ (s : Stage). HaveBytes s.history) opened.1 all)
-bytes_then limit before after (command label number bytes covered) answered all = bytes_added limit before.history after.history answered.client number bytes covered answered.entry all
+bytes_then limit before after (command label number bytes covered) answered all = bytes_added limit.bytes before.history after.history answered.client number bytes covered answered.entry all
 bytes_then limit before after (bad_size label) told all = subst (λ (s : Stage). HaveBytes s.history) told.2 all
 bytes_then limit before after (closing label) closed all = bytes_before before.history _ (subst (λ (s : Stage). HaveBytes s.history) closed.2 all)
 
-bytes_from : (limit : ℕ) (calls : List Call) (before after : Stage) → PlaysTo limit before calls after → HaveBytes after.history → HaveBytes before.history
+bytes_from : (limit : Limits) (calls : List Call) (before after : Stage) → PlaysTo limit before calls after → HaveBytes after.history → HaveBytes before.history
 bytes_from limit [] before after plays all = subst (λ (s : Stage). HaveBytes s.history) plays all
 bytes_from limit (call ∷ calls) before after plays all =
     bytes_then limit before plays.0 call plays.1 (bytes_from limit calls plays.0 after plays.2 all)
@@ -95,7 +95,7 @@ answered call calls label reply old between new has more bytes told =
       have = (bytes, told.have);
     }
 
-told_by : (limit : ℕ) (before between : Stage) (new : List ℕ) (call : Call) (calls : List Call) → Plays1 limit before call between → HaveBytes between.history
+told_by : (limit : Limits) (before between : Stage) (new : List ℕ) (call : Call) (calls : List Call) → Plays1 limit before call between → HaveBytes between.history
     → AreTold calls between.output new → AreTold (call ∷ calls) before.output new
 told_by limit before between new (opening label) calls opened all told = silent (opening label) calls _ _ _ refl (ap (λ (s : Stage). s.output) opened.1) told
 told_by limit before between new (command label number bytes covered) calls a all told =
@@ -104,7 +104,7 @@ told_by limit before between new (bad_size label) calls b all told =
     answered (bad_size label) calls label (error_reply RC_COMMAND_SIZE) _ _ _ refl (ap (λ (s : Stage). s.output) b.2) (listed_bytes (error_reply RC_COMMAND_SIZE) refl) told
 told_by limit before between new (closing label) calls closed all told = silent (closing label) calls _ _ _ refl (ap (λ (s : Stage). s.output) closed.2) told
 
-pub calls_are_told : (limit : ℕ) (calls : List Call) (before after : Stage) → PlaysTo limit before calls after → HaveBytes after.history
+pub calls_are_told : (limit : Limits) (calls : List Call) (before after : Stage) → PlaysTo limit before calls after → HaveBytes after.history
     → AreTold calls before.output after.output
 calls_are_told limit [] before after plays all = record {
   replies = [];

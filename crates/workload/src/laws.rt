@@ -1,5 +1,6 @@
 ghost use Rattle.std.specs.Prelude.{◌≡◌, ◌<◌, ◌≤◌, ◌*◌, ◌^◌, ℕ, List, length};
 ghost use Rattle.std.specs.List.{AllByRecursion};
+ghost use Rattle.history_spec.specs.Told.{Limits};
 ghost use Rattle.tab_spec.specs.Values.{AreBytes};
 ghost use Rattle.script_spec.specs.Script.{end, script};
 ghost use Rattle.script_spec.specs.Calls.{Call, calls};
@@ -26,7 +27,7 @@ pub fn workloads_have_few_replies()
 /// Calls add the lines of replies to the output: one for each command and each bad size. The
 /// replies are of bytes where those of the journal's entries are.
 pub fn replies_are_told()
-    ensures { (limit : ℕ) (before after : Stage) (calls : List Call)
+    ensures { (limit : Limits) (before after : Stage) (calls : List Call)
         → PlaysTo limit before calls after → AllByRecursion (λ e. AreBytes e.reply) after.history
         → AreTold calls before.output after.output }
 {}

@@ -3,7 +3,7 @@ use Rattle.std.proofs.Common.{◌≡◌, ◌<◌, ◌≤◌, ◌+◌, ℕ, zero,
 use Rattle.std.specs.Prelude.{◌||◌, Option, Some, None, IfSome, if◌then◌else◌}
 use Rattle.std.specs.List.{AllByRecursion, list_any, filter}
 use Rattle.std.proofs.lemmas.List.{append-nil}
-use Rattle.tab_spec.specs.Numbers.{left_most}
+use Rattle.tab_spec.specs.Numbers.{leave_limit}
 use Rattle.tab_spec.specs.Persist.{Persist}
 use Rattle.tab_spec.specs.declared.TheConstants.{SESSION_NUMBERS}
 use Rattle.tab_spec.specs.Count.{Rose}
@@ -59,13 +59,13 @@ world_most base most history = from_most (empty_world base most) history
 -- it stands after each entry, and has no more than may be left
 record Lists (world : World) : Type 0 where
   stands : LeftStands world.sessions world.left
-  few : length world.left ≤ left_most world.most
+  few : length world.left ≤ leave_limit world.most
 
 stepped_lists : (world : World) (client : ℕ) (step : Option ClientStep) → Lists world → IfSome step (λ s. s.0.most ≡ world.most)
     → IfSome step (λ s. LeftStands s.0.sessions s.0.left × (length s.0.left ≤ length world.left)) → Lists (after_step world (step_in world client step))
 stepped_lists world client None lists keeps follows = lists
 stepped_lists world client (Some step) lists keeps follows =
-    record { stands = follows.0; few = omega (arith, follows.1, lists.few, ap left_most keeps) }
+    record { stands = follows.0; few = omega (arith, follows.1, lists.few, ap leave_limit keeps) }
 
 after_lists : (kind : EntryKind) (world : World) (e : Entry) → Lists world → Lists (world_after kind world e)
 unfolding plain_step
@@ -101,8 +101,8 @@ pub left_stands : (base : Persist) (most : ℕ) (history : List Entry)
     → (let world = world_of base most history in LeftStands world.sessions world.left)
 left_stands base most history = (lists_of base most history).stands
 
-pub left_few : (base : Persist) (most : ℕ) (history : List Entry) → length (world_of base most history).left ≤ left_most most
-left_few base most history = omega (arith, (lists_of base most history).few, ap left_most (world_most base most history))
+pub left_few : (base : Persist) (most : ℕ) (history : List Entry) → length (world_of base most history).left ≤ leave_limit most
+left_few base most history = omega (arith, (lists_of base most history).few, ap leave_limit (world_most base most history))
 
 -- ---- legal histories
 

@@ -3,7 +3,7 @@ use Rattle.std.proofs.Common.{◌≡◌, ◌+◌, ◌-◌, ◌≤◌, ◌<◌, �
 use Rattle.std.specs.Prelude.{◌==◌, ◌&&◌, not, Some, None, is_some, if◌then◌else◌}
 use Rattle.std.proofs.lemmas.Bool.{eq-eqb, eqb-true, ne_eqb}
 use Rattle.std.proofs.lemmas.List.Sums.{sum_by-take-drop}
-use Rattle.tab_spec.specs.Numbers.{left_most}
+use Rattle.tab_spec.specs.Numbers.{leave_limit}
 use Rattle.tab_spec.specs.Shape.{number_of_session, octet_of}
 use Rattle.history_laws.proofs.Counts.{one_if}
 use Rattle.history_laws.proofs.Tables.{get_or_mapped}
@@ -158,7 +158,7 @@ abbrev all_left : World → ℕ → List ℕ
 all_left world client = world.left ++ saved_numbers client 0 world.sessions
 
 abbrev past : World → ℕ → ℕ
-past world client = length (all_left world client) - left_most world.most
+past world client = length (all_left world client) - leave_limit world.most
 
 mapped : (client : ℕ) (sessions : List (Option Owned)) (n : ℕ) → place_at (map (left_place client) sessions) n ≡ left_place client (place_at sessions n)
 mapped client sessions n = get_or_mapped (left_place client) sessions n refl
@@ -218,7 +218,7 @@ closed_stands world client stands = record {
   saved = λ n. saved_by (times n (take (past world client) (all_left world client))) world client n stands refl;
 }
 
-pub closed_few : (world : World) (client : ℕ) → length (closed_world world client).left ≤ left_most world.most
+pub closed_few : (world : World) (client : ℕ) → length (closed_world world client).left ≤ leave_limit world.most
 closed_few world client = omega (arith, length-drop (past world client) (all_left world client))
 
 -- ---- whose the sessions are then

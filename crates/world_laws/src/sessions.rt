@@ -1,5 +1,5 @@
 ghost use Rattle.std.specs.Prelude.{◌≡◌, ◌≤◌, ◌==◌, ℕ, false, length, List, None};
-ghost use Rattle.tab_spec.specs.Numbers.{left_most};
+ghost use Rattle.tab_spec.specs.Numbers.{leave_limit};
 ghost use Rattle.tab_spec.specs.Persist.{Persist};
 ghost use Rattle.history_spec.specs.Entry.{Entry};
 ghost use Rattle.world_spec.specs.World.{World, closed_world, opened_world, owned_under};
@@ -26,5 +26,5 @@ pub fn left_sessions_are_listed()
     ensures stands { (base : Persist) (most : ℕ) (history : List Entry)
         → LeftStands (world_of base most history).sessions (world_of base most history).left }
     ensures few { (base : Persist) (most : ℕ) (history : List Entry)
-        → length (world_of base most history).left ≤ left_most most }
+        → length (world_of base most history).left ≤ leave_limit most }
 {}

@@ -10,7 +10,7 @@ use Rattle.tab_spec.specs.declared.Auths.{Auths}
 use Rattle.tab_spec.specs.declared.Admitted.{Admitted}
 use Rattle.tab_spec.specs.Admission.{Tables, client_admitted, is_session_handle}
 use Rattle.tab_spec.specs.Commands.{all_commands}
-use Rattle.tab_spec.specs.Numbers.{left_most}
+use Rattle.tab_spec.specs.Numbers.{leave_limit}
 use Rattle.tab_spec.specs.Object.{Object}
 use Rattle.tab_spec.specs.Parameters.{in_parameter, nothing_of, when_read}
 use Rattle.tab_spec.specs.Persist.{Persist}
@@ -18,6 +18,7 @@ use Rattle.tab_spec.specs.Reply.{error_reply, response, with_response_handle}
 use Rattle.tab_spec.specs.Session.{Session, kind_octet}
 use Rattle.tab_spec.specs.Shape.{number_of_session, octet_of}
 use Rattle.tab_spec.specs.Values.{number32}
+use Rattle.tab_spec.specs.declared.contexts.TheConstants.{PROFILE_CONTEXTS}
 use Rattle.effect_spec.specs.Capabilities.{Listed, capability_of, client_limits, transient_from}
 use Rattle.effect_spec.specs.Contexts.{Context, context_parameter, object_context, opened_object, session_context}
 use Rattle.effect_spec.specs.Effect.{Effect, effect_of}
@@ -175,7 +176,7 @@ without_places (number ∷ numbers) sessions = without_places numbers (set sessi
 abbrev pub closed_sessions : ℕ → ℕ → List (Option Owned) → List ℕ → List (Option Owned) × List ℕ
 closed_sessions client most sessions left =
     let all = left ++ saved_numbers client 0 sessions in
-    let gone = length all - left_most most in
+    let gone = length all - leave_limit most in
     (without_places (take gone all) (map (left_place client) sessions), drop gone all)
 
 -- ---- what a command names
@@ -197,6 +198,7 @@ tables_of client state = record {
   has_object = λ handle. is_some (held_under state.objects handle);
   has_session = λ handle. is_some (session_of state.sessions client handle);
   is_full = is_full state.objects;
+  contexts = PROFILE_CONTEXTS;
 }
 
 abbrev pub client_operands : ℕ → ClientState → Shape → Auths → Operands

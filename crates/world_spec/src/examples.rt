@@ -21,7 +21,7 @@ ghost use Rattle.history_spec.specs.Told.{Told};
 ghost use Rattle.history_spec.specs.Examples.{get_random, full_reply, zero_persist, eight_reply};
 ghost use Rattle.history_spec.specs.Examples.{six_reply, four_reply, canceled_reply};
 ghost use Rattle.history_spec.specs.Examples.{canceled_before, canceled_first, plain_entry};
-ghost use Rattle.history_spec.specs.Examples.{failed_entry, two_clients};
+ghost use Rattle.history_spec.specs.Examples.{failed_entry, two_clients, limit_of};
 ghost use Rattle.world_spec.specs.Examples.{world_with, new_world, extended_world, left_with};
 ghost use Rattle.world_spec.specs.Examples.{step_of, read_public, tells_public, a_key, state_with};
 ghost use Rattle.world_spec.specs.Examples.{three_places, many_objects, two_tables, one_table};
@@ -177,7 +177,7 @@ fn commands_are_canceled()
     ensures legal { Legal (zero_persist 4) 64 canceled_first }
     ensures world { world_of (zero_persist 4) 64 (take 2 canceled_first)
         ≡ world_with (zero_persist 4) 1 (new_client 0 ∷ []) }
-    ensures told { Told canceled_first 8192 0 1 (get_random 8) canceled_reply }
+    ensures told { Told canceled_first (limit_of 8192) 0 1 (get_random 8) canceled_reply }
     ensures above { Legal (zero_persist 0) 64 (open_entry 0 ∷ canceled_before 1 2 ∷ []) }
     ensures below { Legal (zero_persist 0) 64 (open_entry 0 ∷ canceled_before 2 1 ∷ []) → ⊥ }
     ensures other_reply { Legal (zero_persist 0) 64

@@ -4,6 +4,7 @@
 ghost use Rattle.std.specs.Prelude.{◌≡◌, ◌∷◌, ◌++◌, [], take, length, true, false, Some, None};
 ghost use Rattle.std.specs.List.{range_with_len};
 ghost use Rattle.tab_spec.specs.declared.TheConstants.{CC_GET_RANDOM, CC_SELF_TEST};
+ghost use Rattle.tab_spec.specs.declared.contexts.TheConstants.{PROFILE_CONTEXTS, TPM_CONTEXTS};
 ghost use Rattle.tab_spec.specs.Commands.{startup_command};
 ghost use Rattle.device_spec.specs.Answers.{takes, wrong, saved_handle_place, word_at};
 ghost use Rattle.tab_spec.specs.Examples.{u32, bytes_of, frame, get_random, refusal, flush, save};
@@ -18,24 +19,27 @@ ghost use Rattle.device_spec.specs.Examples.{lists_taken, starts_taken, saves};
 
 // A response is one frame of 10 to 4,096 bytes. A success has the tag of the command.
 fn frames_are_taken()
-    ensures success { takes true true (get_random 0 4)
+    ensures success { takes PROFILE_CONTEXTS true true (get_random 0 4)
         (frame 0x8001 0 (0 ∷ 4 ∷ 0x76 ∷ 0xb8 ∷ 0xe0 ∷ 0xad ∷ []))
         ≡ true }
-    ensures other_tag { takes false false (get_random 0 4)
+    ensures other_tag { takes PROFILE_CONTEXTS false false (get_random 0 4)
         (frame 0x8002 0 (0 ∷ 4 ∷ 0x76 ∷ 0xb8 ∷ 0xe0 ∷ 0xad ∷ []))
         ≡ false }
-    ensures bad_tag { takes false false (get_random 0 4) (frame 0x00c4 0 []) ≡ false }
-    ensures plain_tag { takes false false (frame 0x8002 CC_GET_RANDOM []) (frame 0x8001 0 [])
+    ensures bad_tag { takes PROFILE_CONTEXTS false false (get_random 0 4) (frame 0x00c4 0 [])
         ≡ false }
-    ensures shortest { takes true true (frame 0x8001 CC_SELF_TEST (1 ∷ [])) (refusal 0 0) ≡ true }
-    ensures nine_bytes { takes false false
+    ensures plain_tag { takes PROFILE_CONTEXTS false false (frame 0x8002 CC_GET_RANDOM [])
+        (frame 0x8001 0 []) ≡ false }
+    ensures shortest { takes PROFILE_CONTEXTS true true (frame 0x8001 CC_SELF_TEST (1 ∷ []))
+        (refusal 0 0) ≡ true }
+    ensures nine_bytes { takes PROFILE_CONTEXTS false false
         (frame 0x8001 CC_SELF_TEST (1 ∷ [])) (take 9 (refusal 0 0))
         ≡ false }
-    ensures nothing { takes false false (frame 0x8001 CC_SELF_TEST (1 ∷ [])) [] ≡ false }
-    ensures a_byte_more { takes false false
+    ensures nothing { takes PROFILE_CONTEXTS false false (frame 0x8001 CC_SELF_TEST (1 ∷ [])) []
+        ≡ false }
+    ensures a_byte_more { takes PROFILE_CONTEXTS false false
         (frame 0x8001 CC_SELF_TEST (1 ∷ [])) (refusal 0 0 ++ 0 ∷ [])
         ≡ false }
-    ensures size_of_one_more { takes false false
+    ensures size_of_one_more { takes PROFILE_CONTEXTS false false
         (frame 0x8001 CC_SELF_TEST (1 ∷ [])) (0x80 ∷ 0x01 ∷ 0 ∷ 0 ∷ 0 ∷ 0x0b ∷ 0 ∷ 0 ∷ 0 ∷ 0 ∷ [])
         ≡ false }
 {}
@@ -46,45 +50,45 @@ fn objects_and_authorizations_are_whole()
     ensures bytes { primary_reply 0x80000000 217 password_response_auth
         ≡ bytes_of 18 0x8002000000f00000000080000000000000d9 ++ primary_params
         ++ bytes_of 5 0x10000 }
-    ensures taken { takes true true primary_asked
+    ensures taken { takes PROFILE_CONTEXTS true true primary_asked
         (primary_reply 0x80000000 217 password_response_auth)
         ≡ true }
-    ensures any_object { takes true true primary_asked
+    ensures any_object { takes PROFILE_CONTEXTS true true primary_asked
         (primary_reply 0x80ffffff 217 password_response_auth)
         ≡ true }
-    ensures session { takes false false primary_asked
+    ensures session { takes PROFILE_CONTEXTS false false primary_asked
         (primary_reply 0x02000000 217 password_response_auth)
         ≡ false }
-    ensures persistent { takes false false primary_asked
+    ensures persistent { takes PROFILE_CONTEXTS false false primary_asked
         (primary_reply 0x81000000 217 password_response_auth)
         ≡ false }
-    ensures other_tag { takes false false primary_asked
+    ensures other_tag { takes PROFILE_CONTEXTS false false primary_asked
         (frame 0x8001 0 (u32 0x80000000 ++ u32 217 ++ primary_params ++ password_response_auth))
         ≡ false }
-    ensures parameters_one_less { takes false false primary_asked
+    ensures parameters_one_less { takes PROFILE_CONTEXTS false false primary_asked
         (primary_reply 0x80000000 216 password_response_auth)
         ≡ false }
-    ensures parameters_one_more { takes false false primary_asked
+    ensures parameters_one_more { takes PROFILE_CONTEXTS false false primary_asked
         (primary_reply 0x80000000 218 password_response_auth)
         ≡ false }
-    ensures no_authorization { takes false false primary_asked (primary_reply 0x80000000 217 [])
-        ≡ false }
-    ensures cut { takes false false primary_asked
+    ensures no_authorization { takes PROFILE_CONTEXTS false false primary_asked
+        (primary_reply 0x80000000 217 []) ≡ false }
+    ensures cut { takes PROFILE_CONTEXTS false false primary_asked
         (primary_reply 0x80000000 217 (0 ∷ 0 ∷ 1 ∷ 0 ∷ []))
         ≡ false }
-    ensures a_byte_over { takes false false primary_asked
+    ensures a_byte_over { takes PROFILE_CONTEXTS false false primary_asked
         (primary_reply 0x80000000 217 (password_response_auth ++ 0 ∷ []))
         ≡ false }
-    ensures nonce_and_hmac { takes true true primary_asked
+    ensures nonce_and_hmac { takes PROFILE_CONTEXTS true true primary_asked
         (primary_reply 0x80000000 217 (0 ∷ 2 ∷ 7 ∷ 7 ∷ 1 ∷ 0 ∷ 1 ∷ 7 ∷ []))
         ≡ true }
-    ensures two_authorizations { takes false false primary_asked
+    ensures two_authorizations { takes PROFILE_CONTEXTS false false primary_asked
         (primary_reply 0x80000000 217 (password_response_auth ++ password_response_auth))
         ≡ false }
-    ensures without_a_handle { takes true true
+    ensures without_a_handle { takes PROFILE_CONTEXTS true true
         (extend (plain_auth 0x40000009) (one_digest [])) extend_reply
         ≡ true }
-    ensures no_area { takes false false
+    ensures no_area { takes PROFILE_CONTEXTS false false
         (extend (plain_auth 0x40000009) (one_digest [])) (frame 0x8002 0 [])
         ≡ false }
 {}
@@ -100,12 +104,12 @@ fn loads_have_their_handles()
     ensures policy { handles_taken (load_context second_context)
         (0x02000001 ∷ 0x03000001 ∷ 0x03000000 ∷ [])
         ≡ 0x03000001 ∷ [] }
-    ensures no_handle { takes false false (load_context (first_context 0xca)) (frame 0x8001 0 [])
-        ≡ false }
-    ensures three_bytes { takes false false
+    ensures no_handle { takes PROFILE_CONTEXTS false false (load_context (first_context 0xca))
+        (frame 0x8001 0 []) ≡ false }
+    ensures three_bytes { takes PROFILE_CONTEXTS false false
         (load_context (sealed_context 1 (0xdb ∷ []))) (frame 0x8001 0 (0x80 ∷ 0 ∷ 0 ∷ []))
         ≡ false }
-    ensures four_bytes { takes true true
+    ensures four_bytes { takes PROFILE_CONTEXTS true true
         (load_context (sealed_context 1 (0xdb ∷ []))) (frame 0x8001 0 (0x80 ∷ 0 ∷ 0 ∷ 0 ∷ []))
         ≡ true }
     ensures saved_handle { word_at saved_handle_place (load_context second_context)
@@ -125,15 +129,16 @@ fn starts_have_their_handles()
     ensures trial { starts_taken 3 (0x02000001 ∷ 0x03000001 ∷ 0x0300003f ∷ 0x03000040 ∷ [])
         ≡ 0x03000001 ∷ 0x0300003f ∷ [] }
     ensures no_type { starts_taken 2 (0x02000000 ∷ 0x03000000 ∷ []) ≡ [] }
-    ensures taken_number { takes false true (start_session 0) (start_reply 0x02000000 next_32)
-        ≡ false }
-    ensures free_number { takes true false (start_session 0) (start_reply 0x02000000 next_32)
-        ≡ true }
-    ensures maybe_taken { wrong (start_session 0) (Some (start_reply 0x02000000 next_32)) ≡ true }
-    ensures cut_before_the_type { takes false false (take 54 (start_session 0))
+    ensures taken_number { takes PROFILE_CONTEXTS false true (start_session 0)
+        (start_reply 0x02000000 next_32) ≡ false }
+    ensures free_number { takes PROFILE_CONTEXTS true false (start_session 0)
+        (start_reply 0x02000000 next_32) ≡ true }
+    ensures maybe_taken { wrong PROFILE_CONTEXTS (start_session 0) (Some (start_reply 0x02000000
+        next_32)) ≡ true }
+    ensures cut_before_the_type { takes PROFILE_CONTEXTS false false (take 54 (start_session 0))
         (start_reply 0x02000000 next_32)
         ≡ false }
-    ensures cut_after_the_type { takes false false (take 55 (start_session 0))
+    ensures cut_after_the_type { takes PROFILE_CONTEXTS false false (take 55 (start_session 0))
         (start_reply 0x02000000 next_32)
         ≡ true }
 {}
@@ -141,35 +146,78 @@ fn starts_have_their_handles()
 // ContextSave has one whole context of the handle: of an object as 0x80000000 in at most 512 bytes,
 // of a session under its own handle in at most 256.
 fn saves_have_their_contexts()
-    ensures object { saves 0x80000001 (sealed_context 1 (0xdb ∷ [])) ≡ true }
-    ensures object_of_a_session { saves 0x80000000 (first_context 0xca) ≡ false }
-    ensures slot_handle { saves 0x80000001 (context_with 0x80000001 0) ≡ false }
-    ensures session { saves 0x02000000 (first_context 0xca) ≡ true }
-    ensures other_number { saves 0x02000001 (first_context 0xca) ≡ false }
-    ensures other_octet { saves 0x03000000 (first_context 0xca) ≡ false }
-    ensures session_of_an_object { saves 0x02000000 (sealed_context 1 (0xdb ∷ [])) ≡ false }
+    ensures object { saves PROFILE_CONTEXTS 0x80000001 (sealed_context 1 (0xdb ∷ [])) ≡ true }
+    ensures object_of_a_session { saves PROFILE_CONTEXTS 0x80000000 (first_context 0xca) ≡ false }
+    ensures slot_handle { saves PROFILE_CONTEXTS 0x80000001 (context_with 0x80000001 0) ≡ false }
+    ensures session { saves PROFILE_CONTEXTS 0x02000000 (first_context 0xca) ≡ true }
+    ensures other_number { saves PROFILE_CONTEXTS 0x02000001 (first_context 0xca) ≡ false }
+    ensures other_octet { saves PROFILE_CONTEXTS 0x03000000 (first_context 0xca) ≡ false }
+    ensures session_of_an_object { saves PROFILE_CONTEXTS 0x02000000 (sealed_context 1 (0xdb ∷ []))
+        ≡ false }
     ensures lengths { length (context_with 0x80000000 494) ≡ 512 }
-    ensures longest_object { saves 0x80000000 (context_with 0x80000000 494) ≡ true }
-    ensures longer_object { saves 0x80000000 (context_with 0x80000000 495) ≡ false }
-    ensures longest_session { saves 0x03000007 (context_with 0x03000007 238) ≡ true }
-    ensures longer_session { saves 0x03000007 (context_with 0x03000007 239) ≡ false }
-    ensures shortest { saves 0x03000007 (context_with 0x03000007 0) ≡ true }
-    ensures a_byte_over { saves 0x02000000 (first_context 0xca ++ 0 ∷ []) ≡ false }
-    ensures a_byte_cut { saves 0x02000000 (take 127 (first_context 0xca)) ≡ false }
-    ensures no_context { saves 0x02000000 [] ≡ false }
+    ensures longest_object { saves PROFILE_CONTEXTS 0x80000000 (context_with 0x80000000 494)
+        ≡ true }
+    ensures longer_object { saves PROFILE_CONTEXTS 0x80000000 (context_with 0x80000000 495)
+        ≡ false }
+    ensures longest_session { saves PROFILE_CONTEXTS 0x03000007 (context_with 0x03000007 238)
+        ≡ true }
+    ensures longer_session { saves PROFILE_CONTEXTS 0x03000007 (context_with 0x03000007 239)
+        ≡ false }
+    ensures shortest { saves PROFILE_CONTEXTS 0x03000007 (context_with 0x03000007 0) ≡ true }
+    ensures a_byte_over { saves PROFILE_CONTEXTS 0x02000000 (first_context 0xca ++ 0 ∷ []) ≡ false }
+    ensures a_byte_cut { saves PROFILE_CONTEXTS 0x02000000 (take 127 (first_context 0xca)) ≡ false }
+    ensures no_context { saves PROFILE_CONTEXTS 0x02000000 [] ≡ false }
     ensures refused { codes_taken false (save 0x02000000) (0 ∷ 0x101 ∷ 0x100 ∷ 0x901 ∷ 0x910 ∷ [])
         ≡ [] }
 {}
 
+// Of a TPM that isn't the profile's an object is saved as 0x80000002 too, in at most 2,048 bytes,
+// and a session in at most 1,024.
+fn other_tpms_have_larger_contexts()
+    ensures object { saves TPM_CONTEXTS 0x80000001 (sealed_context 1 (0xdb ∷ [])) ≡ true }
+    ensures st_clear { saves TPM_CONTEXTS 0x80000001 (context_with 0x80000002 0) ≡ true }
+    ensures sequence_object { saves TPM_CONTEXTS 0x80000001 (context_with 0x80000001 0) ≡ false }
+    ensures not_of_the_profile { saves PROFILE_CONTEXTS 0x80000001 (context_with 0x80000002 0)
+        ≡ false }
+    ensures session { saves TPM_CONTEXTS 0x02000000 (first_context 0xca) ≡ true }
+    ensures object_of_a_session { saves TPM_CONTEXTS 0x80000000 (first_context 0xca) ≡ false }
+    ensures session_of_an_object { saves TPM_CONTEXTS 0x02000000 (context_with 0x80000002 0)
+        ≡ false }
+    ensures lengths { length (context_with 0x80000002 2030) ≡ 2048 }
+    ensures longest_object { saves TPM_CONTEXTS 0x80000000 (context_with 0x80000002 2030) ≡ true }
+    ensures longer_object { saves TPM_CONTEXTS 0x80000000 (context_with 0x80000002 2031) ≡ false }
+    ensures longest_session { saves TPM_CONTEXTS 0x03000007 (context_with 0x03000007 1006) ≡ true }
+    ensures longer_session { saves TPM_CONTEXTS 0x03000007 (context_with 0x03000007 1007) ≡ false }
+    ensures kept_object { takes TPM_CONTEXTS true true (load_context (context_with 0x80000002 0))
+        (refusal 0x01 0xdf)
+        ≡ false }
+    ensures other_object { takes TPM_CONTEXTS false true (load_context (context_with 0x80000002 0))
+        (refusal 0x01 0xdf)
+        ≡ true }
+    ensures loaded { takes TPM_CONTEXTS true true (load_context (context_with 0x80000002 0))
+        (frame 0x8001 0 (u32 0x80000001))
+        ≡ true }
+    ensures maybe_kept { wrong TPM_CONTEXTS (load_context (context_with 0x80000002 0))
+        (Some (refusal 0x01 0xdf))
+        ≡ true }
+    ensures random { takes TPM_CONTEXTS true true (get_random 0 4)
+        (frame 0x8001 0 (0 ∷ 4 ∷ 0x76 ∷ 0xb8 ∷ 0xe0 ∷ 0xad ∷ []))
+        ≡ true }
+{}
+
 // An error is ten bytes with the tag 0x8001, and has no code that a broker hides.
 fn errors_are_taken()
-    ensures taken { takes true true (get_random 0 4) (refusal 0x01 0xda) ≡ true }
-    ensures other_tag { takes false false (get_random 0 4) (frame 0x8002 0x1da []) ≡ false }
-    ensures bad_tag { takes false false (get_random 0 4) (frame 0x00c4 0x1e []) ≡ false }
-    ensures eleven_bytes { takes false false (get_random 0 4) (frame 0x8001 0x1da (0 ∷ []))
+    ensures taken { takes PROFILE_CONTEXTS true true (get_random 0 4) (refusal 0x01 0xda) ≡ true }
+    ensures other_tag { takes PROFILE_CONTEXTS false false (get_random 0 4) (frame 0x8002 0x1da [])
         ≡ false }
-    ensures of_authorized { takes true true primary_asked (refusal 0x09 0xa2) ≡ true }
-    ensures with_its_tag { takes false false primary_asked (frame 0x8002 0x9a2 []) ≡ false }
+    ensures bad_tag { takes PROFILE_CONTEXTS false false (get_random 0 4) (frame 0x00c4 0x1e [])
+        ≡ false }
+    ensures eleven_bytes { takes PROFILE_CONTEXTS false false (get_random 0 4) (frame 0x8001 0x1da
+        (0 ∷ [])) ≡ false }
+    ensures of_authorized { takes PROFILE_CONTEXTS true true primary_asked (refusal 0x09 0xa2)
+        ≡ true }
+    ensures with_its_tag { takes PROFILE_CONTEXTS false false primary_asked (frame 0x8002 0x9a2 [])
+        ≡ false }
     ensures usual { codes_taken false
         (get_random 0 4) (0x1e ∷ 0x101 ∷ 0x143 ∷ 0x2da ∷ 0x905 ∷ 0x921 ∷ 0x922 ∷ 0x98e ∷ [])
         ≡ 0x1e ∷ 0x101 ∷ 0x143 ∷ 0x2da ∷ 0x905 ∷ 0x921 ∷ 0x922 ∷ 0x98e ∷ [] }
@@ -181,8 +229,9 @@ fn errors_are_taken()
         ≡ 0x90f ∷ 0x917 ∷ 0x91f ∷ [] }
     ensures brokers_own { codes_taken false (get_random 0 4) (range_with_len 0x000b0000 6)
         ≡ 0x000b0000 ∷ 0x000b0005 ∷ [] }
-    ensures maybe_wrong { wrong (get_random 0 4) (Some (refusal 0x09 0x10)) ≡ true }
-    ensures none_came { wrong (get_random 0 4) None ≡ false }
+    ensures maybe_wrong { wrong PROFILE_CONTEXTS (get_random 0 4) (Some (refusal 0x09 0x10))
+        ≡ true }
+    ensures none_came { wrong PROFILE_CONTEXTS (get_random 0 4) None ≡ false }
 {}
 
 // The broker's own commands have no errors, but that a device had started before. A ContextLoad of
@@ -201,7 +250,7 @@ fn own_commands_succeed()
     ensures other_object { codes_taken false
         (load_context (sealed_context 1 (0xdb ∷ []))) (0x1df ∷ 0x1d5 ∷ 0x100 ∷ 0x902 ∷ [])
         ≡ 0x1df ∷ 0x1d5 ∷ [] }
-    ensures maybe_kept { wrong (load_context (sealed_context 1 (0xda ∷ [])))
+    ensures maybe_kept { wrong PROFILE_CONTEXTS (load_context (sealed_context 1 (0xda ∷ [])))
         (Some (refusal 0x01 0xdf))
         ≡ true }
     ensures no_context { codes_taken true
@@ -224,7 +273,8 @@ fn capabilities_have_errors()
     ensures pcrs { codes_taken false (ask 5 0 1) (0x1c4 ∷ 0x101 ∷ 0x100 ∷ []) ≡ 0x1c4 ∷ 0x101 ∷ [] }
     ensures cut { codes_taken false (take 17 (ask 1 0x80000000 1)) (0x2da ∷ 0x100 ∷ [])
         ≡ 0x2da ∷ [] }
-    ensures told { takes true true (ask 1 0x80000000 1) (answer 0 1 (u32 0)) ≡ true }
+    ensures told { takes PROFILE_CONTEXTS true true (ask 1 0x80000000 1) (answer 0 1 (u32 0))
+        ≡ true }
 {}
 
 // A list of handles says that none is left over, counts them, and has no others behind them.
@@ -240,21 +290,25 @@ fn handles_are_listed_whole()
     ensures persistent_as_session { lists_taken 0x02000000 (0x81000000 ∷ []) ≡ false }
     ensures object_as_saved { lists_taken 0x03000000 (0x80000000 ∷ []) ≡ false }
     ensures permanent_as_saved { lists_taken 0x03000000 (0x40000007 ∷ []) ≡ false }
-    ensures neither_yes_nor_no { takes true true (ask 1 0x80000000 254) (answer 2 1 (u32 0))
+    ensures neither_yes_nor_no { takes PROFILE_CONTEXTS true true (ask 1 0x80000000 254) (answer 2 1
+        (u32 0)) ≡ false }
+    ensures more { takes PROFILE_CONTEXTS true true (ask 1 0x80000000 254) (answer 1 1 (u32 0))
         ≡ false }
-    ensures more { takes true true (ask 1 0x80000000 254) (answer 1 1 (u32 0)) ≡ false }
-    ensures other_capability { takes true true (ask 1 0x80000000 254) (answer 0 6 (u32 0))
-        ≡ false }
-    ensures one_too_few { takes true true (ask 1 0x80000000 254) (answer 0 1 (u32 1)) ≡ false }
-    ensures one_too_many { takes true true
+    ensures other_capability { takes PROFILE_CONTEXTS true true (ask 1 0x80000000 254) (answer 0 6
+        (u32 0)) ≡ false }
+    ensures one_too_few { takes PROFILE_CONTEXTS true true (ask 1 0x80000000 254) (answer 0 1
+        (u32 1)) ≡ false }
+    ensures one_too_many { takes PROFILE_CONTEXTS true true
         (ask 1 0x80000000 254) (answer 0 1 (u32 0 ++ u32 0x80000000))
         ≡ false }
-    ensures a_byte_more { takes true true (ask 1 0x80000000 254) (answer 0 1 (u32 0 ++ 0 ∷ []))
+    ensures a_byte_more { takes PROFILE_CONTEXTS true true (ask 1 0x80000000 254) (answer 0 1 (u32 0
+        ++ 0 ∷ [])) ≡ false }
+    ensures no_count { takes PROFILE_CONTEXTS true true (ask 1 0x80000000 254) (answer 0 1 (0 ∷ 0 ∷
+        0 ∷ [])) ≡ false }
+    ensures nothing { takes PROFILE_CONTEXTS true true (ask 1 0x80000000 254) (refusal 0 0)
         ≡ false }
-    ensures no_count { takes true true (ask 1 0x80000000 254) (answer 0 1 (0 ∷ 0 ∷ 0 ∷ []))
-        ≡ false }
-    ensures nothing { takes true true (ask 1 0x80000000 254) (refusal 0 0) ≡ false }
-    ensures any_count { takes true true (ask 1 0x03000000 1) (answer 1 1 (u32 1 ++ u32 0x03000000))
-        ≡ false }
-    ensures of_others { takes true true (ask 1 0x01000000 1) (answer 1 1 (u32 9)) ≡ true }
+    ensures any_count { takes PROFILE_CONTEXTS true true (ask 1 0x03000000 1) (answer 1 1 (u32 1 ++
+        u32 0x03000000)) ≡ false }
+    ensures of_others { takes PROFILE_CONTEXTS true true (ask 1 0x01000000 1) (answer 1 1 (u32 9))
+        ≡ true }
 {}

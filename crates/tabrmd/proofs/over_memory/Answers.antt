@@ -3,6 +3,7 @@ use Rattle.std.specs.Prelude.{◌≡◌, ◌≢◌, ◌≤◌, ◌<◌, IfSome}
 use Rattle.std.specs.Option.{option_map}
 use Rattle.std.specs.String.{string_bytes}
 use Rattle.tab_spec.specs.Numbers.{profile_numbers}
+use Rattle.tab_spec.specs.declared.contexts.TheConstants.{PROFILE_CONTEXTS}
 use Rattle.audit_journal.specs.Journal.{JournalView}
 use Rattle.device_memory.specs.Memory.{DeviceInMemory, told_by}
 use Rattle.link_pool.specs.Services.{IsServed, client_of, given_of}
@@ -21,6 +22,7 @@ returns-clause-leaves g c =
     let ran = c.tabrmd.result in
     subst
     (λ (device : DeviceInMemory). IfSome (accepted (map string_bytes c.args.words.now)) (λ plan. (IsServe plan.job → ⊥) → LeavesPlan plan (record {
+      contexts = PROFILE_CONTEXTS;
       base = Some (record { persist = device.base; numbers = device.state.numbers });
       left = g.I.Source.left c.args.input.now;
       written = g.O.Sink.written c.args.output.now;
@@ -40,9 +42,9 @@ returns-clause-serves g c =
     subst
     (λ (device : DeviceInMemory). IfSome (accepted (map string_bytes c.args.words.now))
     (λ plan. IsServe plan.job → plan.connections ≤ LINKS_MOST
-    → LeavesServe (IsLinkDone g.A.In.Source.left g.A.Out.Sink.written g.A.In.Source.faults g.A.Out.Sink.faults (record { base = Some (record { persist = device.base; numbers = device.state.numbers }); limit = plan.limit; began = device.faults }))
+    → LeavesServe (IsLinkDone g.A.In.Source.left g.A.Out.Sink.written g.A.In.Source.faults g.A.Out.Sink.faults (record { base = Some (record { persist = device.base; numbers = device.state.numbers }); limit = plan.limit; began = device.faults; contexts = PROFILE_CONTEXTS }))
     (λ link. link.client) (λ link. link.ending) plan.audit plan.connections
-    (before_of (Some (record { persist = device.base; numbers = device.state.numbers })) device.faults (g.I.Source.left c.args.input.now) (g.I.Source.faults c.args.input.now) (g.O.Sink.written c.args.output.now) (g.O.Sink.faults c.args.output.now))
+    (before_of PROFILE_CONTEXTS (Some (record { persist = device.base; numbers = device.state.numbers })) device.faults (g.I.Source.left c.args.input.now) (g.I.Source.faults c.args.input.now) (g.O.Sink.written c.args.output.now) (g.O.Sink.faults c.args.output.now))
     (after_of (told_by ran.device) (g.I.Source.left c.tabrmd.new.input) (g.I.Source.faults c.tabrmd.new.input) (g.O.Sink.written c.tabrmd.new.output) (g.O.Sink.faults c.tabrmd.new.output))
     (g.A.Acceptor.coming c.args.acceptor.now) (g.A.Acceptor.coming c.tabrmd.new.acceptor)
     (g.A.Acceptor.faults c.args.acceptor.now) (g.A.Acceptor.faults c.tabrmd.new.acceptor)
@@ -55,9 +57,9 @@ returns-clause-pool g c =
     subst
     (λ (device : DeviceInMemory). IfSome (accepted (map string_bytes c.args.words.now))
     (λ plan. IsServe plan.job → LINKS_MOST < plan.connections → (ran.links.items ≡ [])
-    × LeavesPool (IsServed g.A.In.Source.left g.A.Out.Sink.written g.A.In.Source.faults g.A.Out.Sink.faults (record { base = Some (record { persist = device.base; numbers = device.state.numbers }); limit = plan.limit; began = device.faults }))
+    × LeavesPool (IsServed g.A.In.Source.left g.A.Out.Sink.written g.A.In.Source.faults g.A.Out.Sink.faults (record { base = Some (record { persist = device.base; numbers = device.state.numbers }); limit = plan.limit; began = device.faults; contexts = PROFILE_CONTEXTS }))
     given_of client_of (λ s. s.ending) plan.audit plan.connections
-    (before_of (Some (record { persist = device.base; numbers = device.state.numbers })) device.faults (g.I.Source.left c.args.input.now) (g.I.Source.faults c.args.input.now) (g.O.Sink.written c.args.output.now) (g.O.Sink.faults c.args.output.now))
+    (before_of PROFILE_CONTEXTS (Some (record { persist = device.base; numbers = device.state.numbers })) device.faults (g.I.Source.left c.args.input.now) (g.I.Source.faults c.args.input.now) (g.O.Sink.written c.args.output.now) (g.O.Sink.faults c.args.output.now))
     (after_of (told_by ran.device) (g.I.Source.left c.tabrmd.new.input) (g.I.Source.faults c.tabrmd.new.input) (g.O.Sink.written c.tabrmd.new.output) (g.O.Sink.faults c.tabrmd.new.output))
     (g.A.Acceptor.coming c.args.acceptor.now) (g.A.Acceptor.coming c.tabrmd.new.acceptor)
     (g.A.Acceptor.faults c.args.acceptor.now) (g.A.Acceptor.faults c.tabrmd.new.acceptor)

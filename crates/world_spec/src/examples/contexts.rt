@@ -62,7 +62,8 @@ fn sessions_are_taken_back()
         ≡ Some (world_handed 1 None, refusal 0x01 0xdf) }
 {}
 
-// What a client is told of: its own objects and sessions, and how many sessions all clients have.
+// What a client is told of: its own objects and sessions, and how many sessions clients have or
+// left.
 #[tactic(auto, unfolding(tab_spec::specs::Auths::auths_of, tab_spec::specs::Admission::admitted, effect_spec::specs::Capabilities::from_number, effect_spec::specs::Capabilities::property_items, crate::specs::World::client_step, crate::specs::World::plain_step))]
 fn clients_are_told_of_their_own()
     ensures objects { client_step 0 (state_with three_places) (ask 1 0x80000000 8) Nothing

@@ -2,7 +2,7 @@
 
 ghost use Rattle.std.specs.Prelude.{◌≡◌, ◌+◌, ◌∷◌, ◌++◌, [], map, replicate, set, ℕ, Some, None};
 ghost use Rattle.std.specs.List.{range_with_len};
-ghost use Rattle.tab_spec.specs.Numbers.{left_most};
+ghost use Rattle.tab_spec.specs.Numbers.{leave_limit};
 ghost use Rattle.tab_spec.specs.Examples.{flush, frame, refusal, u32};
 ghost use Rattle.history_spec.specs.declared.Pick.TheVariants.{Nothing, Session, Sequence};
 ghost use Rattle.world_spec.specs.World.{closed_world, new_client, plain_step};
@@ -65,7 +65,7 @@ fn left_sessions_are_nobodys()
 // Over 64 active sessions eight are left at most, and over fewer a quarter of them. What was left
 // longest goes, of one client's the least number.
 fn the_longest_left_goes()
-    ensures most { map left_most (64 ∷ 32 ∷ 31 ∷ 16 ∷ 4 ∷ 3 ∷ [])
+    ensures most { map leave_limit (64 ∷ 32 ∷ 31 ∷ 16 ∷ 4 ∷ 3 ∷ [])
         ≡ 8 ∷ 8 ∷ 7 ∷ 4 ∷ 1 ∷ 0 ∷ [] }
     ensures eight { let world = world_of_sessions 0 (saved_alone (Some 0) 0 8) in
         closed_world world 0 ≡ first_closed world 0 8 }

@@ -13,4 +13,4 @@ returns-else-reported_code-ne-RC_SUCCESS c =
     let kept = loads_kept c.args.objects.now.items command in
     let zero : (c.reported_code.result == 0) ≡ true = ap (λ (code : ℕ). code == 0) c.if-reported_code-ne-RC_SUCCESS.false in
     let read : (reported_code reply == 0) ≡ true = ap (λ (code : ℕ). code == 0) (sym c.reported_code.ensures ∙ c.if-reported_code-ne-RC_SUCCESS.false) in
-    λ is_taken. ap (λ (succeeds : Bool). takes (not succeeds) is_taken command reply) zero ∙ kept_or_refused kept is_taken command reply true read
+    λ contexts is_taken. ap (λ (succeeds : Bool). takes contexts (not succeeds) is_taken command reply) zero ∙ kept_or_refused contexts kept is_taken command reply true read

@@ -18,7 +18,7 @@ use Rattle.client_machine.proofs.preparing.flush_orphans.Goals as goal
 pub loop-handle-init : goal.loop-handle-init
 loop-handle-init g c = record {
   clears = clears_none _ _ _ c.requires.settled;
-  asks = asks_none g.D.Device.seen c.args.device.now;
+  asks = asks_none g.D.Device.CONTEXTS g.D.Device.seen c.args.device.now;
   costs = omega arith;
   flushed = (0, omega arith, flushes_none g.D.Device.seen c.args.device.now);
 }
@@ -36,7 +36,8 @@ loop-handle-preserved g c =
     record {
       clears = clears_then _ _ _ _ _ _ _ so_far
           (clears_session _ _ _ c.loop-handle.held c.drop_session.new.self c.in-Some.handle c.in-Some.ensures.1
-          (ap (λ (v : SessionsView). v.numbers) gone.ok.view_is) (ap (λ (v : SessionsView). v.items) gone.ok.view_is)
+          (ap (λ (v : SessionsView). v.numbers) gone.ok.view_is) (ap (λ (v : SessionsView). v.contexts) gone.ok.view_is)
+          (ap (λ (v : SessionsView). v.items) gone.ok.view_is)
           (ap (λ (v : SessionsView). v.next) gone.ok.view_is)
           (ap (λ (v : SessionsView). v.left) gone.ok.view_is
           ∙ unleft c.loop-handle.held.sessions.items c.loop-handle.held.sessions.left (number_of_session c.in-Some.handle) gone.listed
@@ -46,7 +47,7 @@ loop-handle-preserved g c =
           gone.counts.counter
           (gone.counts.room (gap_settled (seen c.loop-handle.device).state c.loop-handle.held so_far.prepared.settled))
           gone.stands.rest so_far.prepared.settled);
-      asks = asks_then seen _ c.loop-handle.device _ tt (Ok tt) c.loop-handle.invariant.asks (asks_some seen _ _ _ (Ok tt) gone.asks);
+      asks = asks_then g.D.Device.CONTEXTS seen _ c.loop-handle.device _ tt (Ok tt) c.loop-handle.invariant.asks (asks_some g.D.Device.CONTEXTS seen _ _ _ (Ok tt) gone.asks);
       costs = omega (
         arith,
         c.loop-handle.invariant.costs,
@@ -86,9 +87,9 @@ pub returns-in_err-drop_session-clause-asks : goal.returns-in_err-drop_session-c
 returns-in_err-drop_session-clause-asks g c =
     let seen = g.D.Device.seen in
     let returned = c.from_residual in
-    asks_then seen _ c.loop-handle.device _ tt returned.result c.loop-handle.invariant.asks
-    (some_failed seen c.loop-handle.device _ _ returned.result (err_from_is_err_and returned.result returned.ensures.1)
-    (asks_some seen _ _ _ (Err _) c.in_err-drop_session.ensures.asks))
+    asks_then g.D.Device.CONTEXTS seen _ c.loop-handle.device _ tt returned.result c.loop-handle.invariant.asks
+    (some_failed g.D.Device.CONTEXTS seen c.loop-handle.device _ _ returned.result (err_from_is_err_and returned.result returned.ensures.1)
+    (asks_some g.D.Device.CONTEXTS seen _ _ _ (Err _) c.in_err-drop_session.ensures.asks))
 
 pub loop-init : goal.loop-init
 loop-init g c = record {
@@ -115,7 +116,7 @@ loop-preserved g c =
     record {
       clears = clears_then _ _ _ _ _ _ _ so_far
           (clears_orphan _ _ _ c.loop.held c.flush_orphan.new.self lost gone.rest so_far.prepared.settled);
-      asks = asks_then seen _ c.loop.device _ tt (Ok tt) c.loop.invariant.asks
+      asks = asks_then g.D.Device.CONTEXTS seen _ c.loop.device _ tt (Ok tt) c.loop.invariant.asks
           (asks_as seen _ _ _ tt gone.asks);
       costs = omega (
         arith,
@@ -148,8 +149,8 @@ pub returns-in_err-flush_orphan-clause-asks : goal.returns-in_err-flush_orphan-c
 returns-in_err-flush_orphan-clause-asks g c =
     let seen = g.D.Device.seen in
     let returned = c.from_residual-in_err-flush_orphan in
-    asks_then seen _ c.loop.device _ tt returned.result c.loop.invariant.asks
-    (some_failed seen c.loop.device _ _ returned.result (err_from_is_err_and returned.result returned.ensures.1) c.in_err-flush_orphan.ensures.asks)
+    asks_then g.D.Device.CONTEXTS seen _ c.loop.device _ tt returned.result c.loop.invariant.asks
+    (some_failed g.D.Device.CONTEXTS seen c.loop.device _ _ returned.result (err_from_is_err_and returned.result returned.ensures.1) c.in_err-flush_orphan.ensures.asks)
 
 pub returns-in_err-flush_orphan-clause-costs : goal.returns-in_err-flush_orphan-clause-costs
 returns-in_err-flush_orphan-clause-costs g c =
@@ -186,4 +187,4 @@ returns-clause-flushed g c =
 pub returns-clause-asks : goal.returns-clause-asks
 returns-clause-asks g c =
     let last = c.in_ok-flush_orphan.ensures.asks in
-    asks_then g.D.Device.seen _ c.loop.device _ tt (Ok tt) c.loop.invariant.asks (asks_as g.D.Device.seen _ _ _ tt last)
+    asks_then g.D.Device.CONTEXTS g.D.Device.seen _ c.loop.device _ tt (Ok tt) c.loop.invariant.asks (asks_as g.D.Device.seen _ _ _ tt last)

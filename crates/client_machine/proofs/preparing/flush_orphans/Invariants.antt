@@ -13,9 +13,9 @@ invariant-loop-handle g l =
     let D = g.D.Device in
     record {
       clears : Clears D.seen l.fn.device l.device l.fn.held l.held;
-      asks : AsksSome {A = Unit {0}} D.seen l.fn.device l.device (Ok tt);
+      asks : AsksSome {A = Unit {0}} D.CONTEXTS D.seen l.fn.device l.device (Ok tt);
       costs : sent_of (D.seen l.device) + orphan_count l.held ≤ sent_of (D.seen l.fn.device) + orphan_count l.fn.held;
-      flushed : (count : ℕ) × (count + orphan_count l.held ≡ orphan_count l.fn.held) × FlushesSome D.seen count l.fn.device l.device;
+      flushed : (count : ℕ) × (count + orphan_count l.held ≡ orphan_count l.fn.held) × FlushesSome D.CONTEXTS D.seen count l.fn.device l.device;
     }
 
 abbrev pub decreases-loop-handle : goal.decreases-loop-handle
@@ -26,9 +26,9 @@ invariant-loop g l =
     let D = g.D.Device in
     record {
       clears : Clears D.seen l.fn.device l.device l.fn.held l.held;
-      asks : AsksSome {A = Unit {0}} D.seen l.fn.device l.device (Ok tt);
+      asks : AsksSome {A = Unit {0}} D.CONTEXTS D.seen l.fn.device l.device (Ok tt);
       costs : sent_of (D.seen l.device) + orphan_count l.held ≤ sent_of (D.seen l.fn.device) + orphan_count l.fn.held;
-      flushed : (count : ℕ) × (count + orphan_count l.held ≡ orphan_count l.fn.held) × FlushesSome D.seen count l.fn.device l.device;
+      flushed : (count : ℕ) × (count + orphan_count l.held ≡ orphan_count l.fn.held) × FlushesSome D.CONTEXTS D.seen count l.fn.device l.device;
       none : count_by sessions.is_orphan l.held.sessions.items ≡ 0;
     }
 

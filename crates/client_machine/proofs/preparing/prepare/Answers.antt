@@ -1,6 +1,8 @@
 use Rattle.std.proofs.Common.{◌≡◌, inl, true, false, ap, sym, ◌∙◌, subst, arith, rules, ℕ, List, Ok}
 use Rattle.std.specs.Prelude.{IfSome}
 use Rattle.std.proofs.lemmas.Result.{err_from_is_err_and}
+use Rattle.tab_spec.specs.declared.contexts.ContextLimits.{ContextLimits}
+use Rattle.tab_spec.specs.Shape.{needs_slot}
 use Rattle.client_laws.specs.Ready.{named_sessions, sent_for}
 use Rattle.object_swap.specs.Items as objects
 use Rattle.object_swap.specs.Items.{ObjectsView, is_resident, item_at}
@@ -28,7 +30,7 @@ pub returns-in_err-renew-clause-sends : goal.returns-in_err-renew-clause-sends
 returns-in_err-renew-clause-sends g c =
     let seen = g.D.Device.seen in
     let failed = err_from_is_err_and c.from_residual.result c.from_residual.ensures.1 in
-    ready_failed seen _ _ _ _ c.from_residual.result failed (some_failed seen _ _ _ c.from_residual.result failed c.in_err-renew.ensures.sends.asks)
+    ready_failed seen _ _ _ _ c.from_residual.result failed (some_failed g.D.Device.CONTEXTS seen _ _ _ c.from_residual.result failed c.in_err-renew.ensures.sends.asks)
 
 pub load_sessions-requires-clause-may : goal.load_sessions-requires-clause-may
 load_sessions-requires-clause-may g c =
@@ -39,11 +41,11 @@ load_sessions-requires-clause-named g c =
     let client = c.requires.admitted.0 in
     let items = c.args.held.now.sessions.items in
     sessions_named client (named_sessions c.args.admitted.now) items _ c.renew.ensures.prepared.session_owners
-    (named_own (tables_seen client c.args.table.now.items items) c.args.bytes.now c.args.admitted.now c.requires.admitted.2)
+    (named_own (tables_seen g.D.Device.CONTEXTS client c.args.table.now.items items) c.args.bytes.now c.args.admitted.now c.requires.admitted.2)
 
 pub load_sessions-requires-clause-starts : goal.load_sessions-requires-clause-starts
 load_sessions-requires-clause-starts g c =
-    let tables = tables_seen c.requires.admitted.0 c.args.table.now.items c.args.held.now.sessions.items in
+    let tables = tables_seen g.D.Device.CONTEXTS c.requires.admitted.0 c.args.table.now.items c.args.held.now.sessions.items in
     named_none tables c.args.bytes.now c.args.admitted.now c.requires.admitted.2
 
 pub returns-in_err-load_sessions-clause-prepared : goal.returns-in_err-load_sessions-clause-prepared
@@ -56,8 +58,8 @@ returns-in_err-load_sessions-clause-sends g c =
     let returned = c.from_residual-in_err-load_sessions in
     let failed = err_from_is_err_and returned.result returned.ensures.1 in
     ready_failed seen _ _ _ _ returned.result failed
-    (asks_then seen _ c.renew.new.device _ tt returned.result c.in_ok-renew.ensures.sends.asks
-    (some_failed seen c.renew.new.device _ _ returned.result failed c.in_err-load_sessions.ensures.asks))
+    (asks_then g.D.Device.CONTEXTS seen _ c.renew.new.device _ tt returned.result c.in_ok-renew.ensures.sends.asks
+    (some_failed g.D.Device.CONTEXTS seen c.renew.new.device _ _ returned.result failed c.in_err-load_sessions.ensures.asks))
 
 pub bring-requires-clause-named : goal.bring-requires-clause-named
 bring-requires-clause-named g c =
@@ -88,13 +90,13 @@ returns-in_err-bring-clause-sends g c =
     let returned = c.from_residual-in_err-bring in
     let failed = err_from_is_err_and returned.result returned.ensures.1 in
     ready_failed seen _ _ _ _ returned.result failed
-    (asks_then seen _ c.load_sessions.new.device _ tt returned.result
-    (asks_then seen _ c.renew.new.device _ tt (Ok tt) c.in_ok-renew.ensures.sends.asks c.in_ok-load_sessions.ensures.asks)
-    (some_failed seen c.load_sessions.new.device _ _ returned.result failed c.in_err-bring.ensures.asks))
+    (asks_then g.D.Device.CONTEXTS seen _ c.load_sessions.new.device _ tt returned.result
+    (asks_then g.D.Device.CONTEXTS seen _ c.renew.new.device _ tt (Ok tt) c.in_ok-renew.ensures.sends.asks c.in_ok-load_sessions.ensures.asks)
+    (some_failed g.D.Device.CONTEXTS seen c.load_sessions.new.device _ _ returned.result failed c.in_err-bring.ensures.asks))
 
 pub with_handles-requires : goal.with_handles-requires
 with_handles-requires g c =
-    let tables = tables_seen c.requires.admitted.0 c.args.table.now.items c.args.held.now.sessions.items in
+    let tables = tables_seen g.D.Device.CONTEXTS c.requires.admitted.0 c.args.table.now.items c.args.held.now.sessions.items in
     command_shape tables c.args.bytes.now c.args.admitted.now c.requires.admitted.2
 
 pub returns-clause-prepared : goal.returns-clause-prepared
@@ -111,7 +113,7 @@ returns-clause-sends g c =
     let loaded = c.in_ok-load_sessions.ensures.asks in
     let brought = c.in_ok-bring.ensures.asks in
     record {
-      asks = asks_then seen _ c.load_sessions.new.device _ tt (Ok tt) (asks_then seen _ c.renew.new.device _ tt (Ok tt) renewed.asks loaded) brought;
+      asks = asks_then g.D.Device.CONTEXTS seen _ c.load_sessions.new.device _ tt (Ok tt) (asks_then g.D.Device.CONTEXTS seen _ c.renew.new.device _ tt (Ok tt) renewed.asks loaded) brought;
       before = before_then seen _ _ c.load_sessions.new.device _ tt (before_then seen _ _ c.renew.new.device _ tt renewed.before loaded) brought;
     }
 
@@ -133,7 +135,7 @@ returns-clause-ready g c =
           let still = c.load_sessions.ensures.still (inl (starts_none, all)) in
           narrow_over_objects loaded state rest
           (subst (λ d. IsNarrow (seen d).state) (sym still) c.in_ok-renew.ensures.clear.narrow);
-      placed = command_placed c.requires.admitted.0 c.args.held.now.sessions.items c.args.table.now.items c.bring.new.held.objects.items c.args.bytes.now
+      placed = command_placed _ c.requires.admitted.0 c.args.held.now.sessions.items c.args.table.now.items c.bring.new.held.objects.items c.args.bytes.now
           a c.item_of-named.result c.requires.admitted.2 c.item_of-named.ensures c.in_ok-bring.ensures.ok.0;
       sessions = record {
         loaded = subst (λ (v : SessionsView). AreLoaded (named_sessions a) v.items) (sym sessions_are) ready.loaded;
@@ -141,7 +143,7 @@ returns-clause-ready g c =
             room_kept loaded state c.load_sessions.new.held.sessions c.bring.new.held.sessions rest sessions_are (ready.room starts);
       };
       free = λ makes.
-          let is : c.makes_object.result ≡ true = c.makes_object.ensures ∙ makes in
+          let is : c.needs_slot.result ≡ true = c.needs_slot.ensures ∙ ap (λ (read : ContextLimits). needs_slot read a.shape c.args.bytes.now) c.CONTEXTS.ensures ∙ makes in
           let one : c.from-new_slots.result ≡ 1 = rw is at c.from-new_slots.ensures in
           (free_for state c.from-new_slots.result (omega arith) c.in_ok-bring.ensures.ok.1, omega (arith, one, c.in_ok-bring.ensures.ok.2));
       written = c.with_handles.ensures
@@ -157,7 +159,8 @@ returns-clause-still g c = λ hand.
     let loaded = c.load_sessions.ensures.still
     (subst (λ (h : Held). NeedsNoSession h.sessions c.args.admitted.now) (sym renewed.1) (inl (hand.starts_none, hand.loaded))) in
     let objects_are : c.load_sessions.new.held.objects ≡ held.objects = c.load_sessions.ensures.rest ∙ ap (λ (h : Held). h.objects) renewed.1 in
-    let none : c.makes_object.result ≡ false = c.makes_object.ensures ∙ hand.makes_none in
+    let none : c.needs_slot.result ≡ false = c.needs_slot.ensures
+    ∙ ap (λ (read : ContextLimits). needs_slot read c.args.admitted.now.shape c.args.bytes.now) c.CONTEXTS.ensures ∙ hand.makes_none in
     let zero : c.from-new_slots.result ≡ 0 = rw none at c.from-new_slots.ensures in
     let here : IfSome c.item_of-named.result (λ item. is_resident (item_at held.objects.items item) ≡ true) =
     placed_resident c.args.table.now.items held.objects.items (first_handle c.args.admitted.now) c.item_of-named.result c.item_of-named.ensures hand.placed in
@@ -199,7 +202,7 @@ returns-in_err-load_sessions-clause-few g c = λ calm.
     let a = c.args.admitted.now in
     let held = c.args.held.now in
     sent_more g.D.Device.seen (session_moves a held.sessions)
-    (objects.moves_of (named_objects c.args.table.now.items a) (slots_of a c.args.bytes.now) held.objects) _ _
+    (objects.moves_of (named_objects c.args.table.now.items a) (slots_of g.D.Device.CONTEXTS a c.args.bytes.now) held.objects) _ _
     (sessions_moved_from g.D.Device.seen c.args.device.now c.renew.new.device c.load_sessions.new.device held c.renew.new.held a
     (c.renew.ensures.still calm.nobodys calm.narrow) c.load_sessions.ensures.costs.sent)
 
@@ -211,12 +214,13 @@ returns-in_err-bring-clause-few g c = λ calm.
     let table = c.args.table.now.items in
     let held = c.args.held.now in
     let still = c.renew.ensures.still calm.nobodys calm.narrow in
-    moved_from seen c.args.device.now c.load_sessions.new.device c.bring.new.device held table a bytes
+    moved_from g.D.Device.CONTEXTS seen c.args.device.now c.load_sessions.new.device c.bring.new.device held table a bytes
     (sessions_moved_from seen c.args.device.now c.renew.new.device c.load_sessions.new.device held c.renew.new.held a still
     c.load_sessions.ensures.costs.sent)
-    (objects_moved_from seen c.load_sessions.new.device c.bring.new.device held c.renew.new.held c.load_sessions.new.held table a bytes
+    (objects_moved_from g.D.Device.CONTEXTS seen c.load_sessions.new.device c.bring.new.device held c.renew.new.held c.load_sessions.new.held table a bytes
     c.item_of-named.result c.from-new_slots.result still.1 c.load_sessions.ensures.rest c.item_of-named.ensures
-    (slots_are a bytes c.makes_object.result c.from-new_slots.result c.from-new_slots.ensures c.makes_object.ensures) c.bring.ensures.costs.sent)
+    (slots_are g.D.Device.CONTEXTS a bytes c.needs_slot.result c.from-new_slots.result c.from-new_slots.ensures
+    (c.needs_slot.ensures ∙ ap (λ (read : ContextLimits). needs_slot read a.shape bytes) c.CONTEXTS.ensures)) c.bring.ensures.costs.sent)
 
 pub returns-clause-few : goal.returns-clause-few
 returns-clause-few g c = λ calm.
@@ -226,12 +230,13 @@ returns-clause-few g c = λ calm.
     let table = c.args.table.now.items in
     let held = c.args.held.now in
     let still = c.renew.ensures.still calm.nobodys calm.narrow in
-    moved_from seen c.args.device.now c.load_sessions.new.device c.bring.new.device held table a bytes
+    moved_from g.D.Device.CONTEXTS seen c.args.device.now c.load_sessions.new.device c.bring.new.device held table a bytes
     (sessions_moved_from seen c.args.device.now c.renew.new.device c.load_sessions.new.device held c.renew.new.held a still
     c.load_sessions.ensures.costs.sent)
-    (objects_moved_from seen c.load_sessions.new.device c.bring.new.device held c.renew.new.held c.load_sessions.new.held table a bytes
+    (objects_moved_from g.D.Device.CONTEXTS seen c.load_sessions.new.device c.bring.new.device held c.renew.new.held c.load_sessions.new.held table a bytes
     c.item_of-named.result c.from-new_slots.result still.1 c.load_sessions.ensures.rest c.item_of-named.ensures
-    (slots_are a bytes c.makes_object.result c.from-new_slots.result c.from-new_slots.ensures c.makes_object.ensures) c.bring.ensures.costs.sent)
+    (slots_are g.D.Device.CONTEXTS a bytes c.needs_slot.result c.from-new_slots.result c.from-new_slots.ensures
+    (c.needs_slot.ensures ∙ ap (λ (read : ContextLimits). needs_slot read a.shape bytes) c.CONTEXTS.ensures)) c.bring.ensures.costs.sent)
 
 pub returns-clause-used : goal.returns-clause-used
 returns-clause-used g c = λ calm.
@@ -240,5 +245,6 @@ returns-clause-used g c = λ calm.
     let still = c.renew.ensures.still calm.nobodys calm.narrow in
     used_from c.args.held.now c.renew.new.held c.load_sessions.new.held c.bring.new.held c.args.table.now.items a bytes c.item_of-named.result
     c.from-new_slots.result still.1 c.load_sessions.ensures.rest c.bring.ensures.rest.1 c.item_of-named.ensures
-    (slots_are a bytes c.makes_object.result c.from-new_slots.result c.from-new_slots.ensures c.makes_object.ensures)
+    (slots_are g.D.Device.CONTEXTS a bytes c.needs_slot.result c.from-new_slots.result c.from-new_slots.ensures
+    (c.needs_slot.ensures ∙ ap (λ (read : ContextLimits). needs_slot read a.shape bytes) c.CONTEXTS.ensures))
     c.in_ok-load_sessions.ensures.costs.order c.in_ok-bring.ensures.costs.order

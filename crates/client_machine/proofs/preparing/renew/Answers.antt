@@ -17,7 +17,7 @@ pub returns-in_err-flush_orphans-clause-sends : goal.returns-in_err-flush_orphan
 returns-in_err-flush_orphans-clause-sends g c =
     let seen = g.D.Device.seen in
     let failed = err_from_is_err_and c.from_residual.result c.from_residual.ensures.1 in
-    ready_failed seen _ _ _ _ c.from_residual.result failed (some_failed seen _ _ _ c.from_residual.result failed c.in_err-flush_orphans.ensures.asks)
+    ready_failed seen _ _ _ _ c.from_residual.result failed (some_failed g.D.Device.CONTEXTS seen _ _ _ c.from_residual.result failed c.in_err-flush_orphans.ensures.asks)
 
 pub returns-in_err-refresh-clause-prepared : goal.returns-in_err-refresh-clause-prepared
 returns-in_err-refresh-clause-prepared g c =
@@ -34,8 +34,8 @@ returns-in_err-refresh-clause-sends g c =
     let returned = c.from_residual-in_err-refresh in
     let failed = err_from_is_err_and returned.result returned.ensures.1 in
     ready_failed seen _ _ _ _ returned.result failed
-    (asks_then seen _ c.flush_orphans.new.device _ tt returned.result c.in_ok-flush_orphans.ensures.asks
-    (some_failed seen c.flush_orphans.new.device _ _ returned.result failed c.in_err-refresh.ensures.asks))
+    (asks_then g.D.Device.CONTEXTS seen _ c.flush_orphans.new.device _ tt returned.result c.in_ok-flush_orphans.ensures.asks
+    (some_failed g.D.Device.CONTEXTS seen c.flush_orphans.new.device _ _ returned.result failed c.in_err-refresh.ensures.asks))
 
 pub returns-clause-prepared : goal.returns-clause-prepared
 returns-clause-prepared g c =
@@ -68,7 +68,7 @@ returns-clause-sends g c =
     let first = c.in_ok-flush_orphans.ensures in
     let last = asks_as seen c.flush_orphans.new.device c.refresh.new.device _ tt c.in_ok-refresh.ensures.asks in
     record {
-      asks = asks_then seen _ c.flush_orphans.new.device _ tt (Ok tt) first.asks last;
+      asks = asks_then g.D.Device.CONTEXTS seen _ c.flush_orphans.new.device _ tt (Ok tt) first.asks last;
       before = before_then seen _ _ c.flush_orphans.new.device _ tt (before_flushed seen _ _ _ tt first.flushed first.asks) last;
     }
 

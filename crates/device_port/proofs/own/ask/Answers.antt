@@ -1,5 +1,6 @@
 use Rattle.std.proofs.Common.{◌≡◌, true, false, ap, sym, ◌∙◌}
 use Rattle.tab_spec.specs.Frame.{reported_code}
+use Rattle.tab_spec.specs.declared.contexts.ContextLimits.{ContextLimits}
 use Rattle.tab_laws.proofs.Outcomes.{from_err, from_ok}
 use Rattle.device_spec.specs.Answers.{takes}
 use Rattle.device_port.specs.Device.{count_of, newest_command, newest_response}
@@ -28,9 +29,12 @@ returns-then-not-takes-clause-asks g c =
     let sent = c.transmit.ensures in
     let command = c.args.command.now in
     let reply = c.transmit.new.reply in
-    let not_taken : takes true true command reply ≡ false =
-    sym (takes_either command reply c.requires.own.starts_none) ∙ ap (takes true false command) (sym c.as_slice.ensures.value) ∙ sym c.takes.ensures ∙ c.if-not-takes.true in
-    let told = untold _ _ command reply c.requires.told (from_ok c.transmit.result _ sent.answered succeeded) not_taken in
+    let contexts = g.D.Device.CONTEXTS in
+    let not_taken : takes contexts true true command reply ≡ false =
+    sym (takes_either contexts command reply c.requires.own.starts_none) ∙ ap (takes contexts true false command) (sym c.as_slice.ensures.value)
+    ∙ ap (λ (read : ContextLimits). takes read true false command c.as_slice.result.now) (sym c.CONTEXTS.ensures) ∙ sym c.takes.ensures
+    ∙ c.if-not-takes.true in
+    let told = untold contexts _ _ command reply c.requires.told (g.met.D.Device.profile c.args.device.now) (from_ok c.transmit.result _ sent.answered succeeded) not_taken in
     record {
       asked = ap newest_command sent.trace;
       once = ap count_of sent.trace;
@@ -39,7 +43,7 @@ returns-then-not-takes-clause-asks g c =
       answered = tt;
       err = told.same;
       cause = (
-        wrong_answer command _ _ reply _ (ap newest_command sent.trace) (last_of c.transmit.result _ _ (ap newest_response sent.trace) succeeded) not_taken
+        wrong_answer contexts command _ _ reply _ (ap newest_command sent.trace) (last_of c.transmit.result _ _ (ap newest_response sent.trace) succeeded) not_taken
             (c.reported_code.ensures ∙ ap reported_code c.as_slice-then-not-takes.ensures.value),
         told.none,
       );
@@ -51,8 +55,10 @@ pub returns-clause-success : goal.returns-clause-success
 returns-clause-success g c =
     let command = c.args.command.now in
     let reply = c.transmit.new.reply in
-    succeeds command reply c.requires.own
-    (sym (takes_either command reply c.requires.own.starts_none) ∙ ap (takes true false command) (sym c.as_slice.ensures.value) ∙ sym c.takes.ensures ∙ c.if-not-takes.false)
+    let contexts = g.D.Device.CONTEXTS in
+    succeeds contexts command reply c.requires.own
+    (sym (takes_either contexts command reply c.requires.own.starts_none) ∙ ap (takes contexts true false command) (sym c.as_slice.ensures.value)
+    ∙ ap (λ (read : ContextLimits). takes read true false command c.as_slice.result.now) (sym c.CONTEXTS.ensures) ∙ sym c.takes.ensures ∙ c.if-not-takes.false)
 
 pub returns-clause-asks : goal.returns-clause-asks
 returns-clause-asks g c =
@@ -60,13 +66,15 @@ returns-clause-asks g c =
     let sent = c.transmit.ensures in
     let command = c.args.command.now in
     let reply = c.transmit.new.reply in
+    let contexts = g.D.Device.CONTEXTS in
     record {
       asked = ap newest_command sent.trace;
       once = ap count_of sent.trace;
       one = sent_as _ _ _ _ sent.trace;
       own = c.requires.own;
-      answered = answered command _ _ reply c.requires.own (ap newest_command sent.trace) (last_of c.transmit.result _ _ (ap newest_response sent.trace) succeeded)
-          (sym (takes_either command reply c.requires.own.starts_none) ∙ ap (takes true false command) (sym c.as_slice.ensures.value) ∙ sym c.takes.ensures ∙ c.if-not-takes.false);
+      answered = answered contexts command _ _ reply c.requires.own (ap newest_command sent.trace) (last_of c.transmit.result _ _ (ap newest_response sent.trace) succeeded)
+          (sym (takes_either contexts command reply c.requires.own.starts_none) ∙ ap (takes contexts true false command) (sym c.as_slice.ensures.value)
+          ∙ ap (λ (read : ContextLimits). takes read true false command c.as_slice.result.now) (sym c.CONTEXTS.ensures) ∙ sym c.takes.ensures ∙ c.if-not-takes.false);
       err = tt;
       cause = tt;
       base = sent.base;

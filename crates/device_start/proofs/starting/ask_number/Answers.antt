@@ -7,15 +7,15 @@ use Rattle.device_start.proofs.Values.{has_number, outside}
 use Rattle.device_start.proofs.starting.ask_number.Goals as goal
 
 pub ask-requires-clause-own : goal.ask-requires-clause-own
-ask-requires-clause-own g c = subst (λ (bytes : List ℕ). IsOwn bytes) (sym c.requires.command) (own_number c.args.property (omega arith))
+ask-requires-clause-own g c = subst (λ (bytes : List ℕ). IsOwn g.D.Device.CONTEXTS bytes) (sym c.requires.command) (own_number g.D.Device.CONTEXTS c.args.property (omega arith))
 
 pub ask-requires-clause-told : goal.ask-requires-clause-told
 ask-requires-clause-told g c = subst (λ (bytes : List ℕ). TakenIf bytes (g.D.Device.seen c.args.device.now).state) (sym c.requires.command) c.requires.told
 
 pub value_told-value-requires : goal.value_told-value-requires
 value_told-value-requires g c =
-    let success = subst (λ (bytes : List ℕ). Succeeds bytes c.ask.new.scratch) c.requires.command c.in_default.ensures.success in
-    let whole = tells c.args.property c.ask.new.scratch (omega arith) success in
+    let success = subst (λ (bytes : List ℕ). Succeeds g.D.Device.CONTEXTS bytes c.ask.new.scratch) c.requires.command c.in_default.ensures.success in
+    let whole = tells g.D.Device.CONTEXTS c.args.property c.ask.new.scratch (omega arith) success in
     omega (arith, ap length c.as_slice.ensures.value, whole)
 
 pub returns-then-value-least-clause-err : goal.returns-then-value-least-clause-err

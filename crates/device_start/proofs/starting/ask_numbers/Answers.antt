@@ -23,7 +23,7 @@ returns-in_err-slots-clause-err g c =
     let v0 = no_values seen c.args.device.now c.start_up.new.device c.start_up.new.scratch c.in_default.ensures.sends c.in_default.ensures.ok in
     let e = c.in_err-slots.field-0.0 in
     let result = c.from_residual.result in
-    err_carried (NotStarted seen c.args.device.now c.ask_number.new.device) e result (err_from_is_err_and result c.from_residual.ensures.1)
+    err_carried (NotStarted g.D.Device.CONTEXTS seen c.args.device.now c.ask_number.new.device) e result (err_from_is_err_and result c.from_residual.ensures.1)
     (number_misses seen _ c.start_up.new.device _ [] OBJECT_SLOTS 254 e slots_at c.requires.fit v0 (λ value word out. out) c.in_err-slots.ensures.err)
 
 pub ask_number-requires-2-clause-told : goal.ask_number-requires-2-clause-told
@@ -43,7 +43,7 @@ returns-in_err-loaded-clause-err g c =
     let v1 = values_more seen c.args.device.now c.start_up.new.device c.ask_number.new.device [] _ slots_at c.requires.fit v0 told1.number (between OBJECT_SLOTS 254 _ told1.range.0 told1.range.1) in
     let e = c.in_err-loaded.field-0.0 in
     let result = c.from_residual-in_err-loaded.result in
-    err_carried (NotStarted seen c.args.device.now c.ask_number-2.new.device) e result (err_from_is_err_and result c.from_residual-in_err-loaded.ensures.1)
+    err_carried (NotStarted g.D.Device.CONTEXTS seen c.args.device.now c.ask_number-2.new.device) e result (err_from_is_err_and result c.from_residual-in_err-loaded.ensures.1)
     (number_misses seen _ c.ask_number.new.device _ (c.in_ok-slots.slots ∷ []) LOADED_SESSIONS SESSION_NUMBERS e loaded_at c.requires.fit v1 (λ value word out. out) c.in_err-loaded.ensures.err)
 
 pub ask_number-requires-3-clause-told : goal.ask_number-requires-3-clause-told
@@ -67,7 +67,7 @@ returns-in_err-active-clause-err g c =
     let v2 = values_more seen c.args.device.now c.ask_number.new.device c.ask_number-2.new.device (c.in_ok-slots.slots ∷ []) _ loaded_at c.requires.fit v1 told2.number (between LOADED_SESSIONS SESSION_NUMBERS _ told2.range.0 told2.range.1) in
     let e = c.in_err-active.field-0.0 in
     let result = c.from_residual-in_err-active.result in
-    err_carried (NotStarted seen c.args.device.now c.ask_number-3.new.device) e result (err_from_is_err_and result c.from_residual-in_err-active.ensures.1)
+    err_carried (NotStarted g.D.Device.CONTEXTS seen c.args.device.now c.ask_number-3.new.device) e result (err_from_is_err_and result c.from_residual-in_err-active.ensures.1)
     (number_misses seen _ c.ask_number-2.new.device _ (c.in_ok-slots.slots ∷ c.in_ok-loaded.loaded ∷ []) c.in_ok-loaded.loaded SESSION_NUMBERS e active_at c.requires.fit v2 (λ value word out. out) c.in_err-active.ensures.err)
 
 pub ask_number-requires-4-clause-told : goal.ask_number-requires-4-clause-told
@@ -95,7 +95,7 @@ returns-in_err-gap-clause-err g c =
     let v3 = values_more seen c.args.device.now c.ask_number-2.new.device c.ask_number-3.new.device (c.in_ok-slots.slots ∷ c.in_ok-loaded.loaded ∷ []) _ active_at c.requires.fit v2 told3.number (between c.in_ok-loaded.loaded SESSION_NUMBERS _ told3.range.0 told3.range.1) in
     let e = c.in_err-gap.field-0.0 in
     let result = c.from_residual-in_err-gap.result in
-    err_carried (NotStarted seen c.args.device.now c.ask_number-4.new.device) e result (err_from_is_err_and result c.from_residual-in_err-gap.ensures.1)
+    err_carried (NotStarted g.D.Device.CONTEXTS seen c.args.device.now c.ask_number-4.new.device) e result (err_from_is_err_and result c.from_residual-in_err-gap.ensures.1)
     (number_misses seen _ c.ask_number-3.new.device _ (c.in_ok-slots.slots ∷ c.in_ok-loaded.loaded ∷ c.in_ok-active.active ∷ []) CONTEXT_GAP 4294967295 e gap_at c.requires.fit v3 (λ value word out. below CONTEXT_GAP value word out) c.in_err-gap.ensures.err)
 
 pub returns-clause-values : goal.returns-clause-values

@@ -25,8 +25,8 @@ pub returns-in_err-ask-clause-asks : goal.returns-in_err-ask-clause-asks
 returns-in_err-ask-clause-asks g c =
     let seen = g.D.Device.seen in
     let e = c.in_err-ask.field-0.0 in
-    some_failed {A = Unit {0}} seen _ _ e c.from_residual.result (err_from_is_err_and c.from_residual.result c.from_residual.ensures.1)
-    (asks_some seen _ _ _ (Err e) c.in_err-ask.ensures.asks)
+    some_failed {A = Unit {0}} g.D.Device.CONTEXTS seen _ _ e c.from_residual.result (err_from_is_err_and c.from_residual.result c.from_residual.ensures.1)
+    (asks_some g.D.Device.CONTEXTS seen _ _ _ (Err e) c.in_err-ask.ensures.asks)
 
 pub ask-requires-2-clause-told : goal.ask-requires-2-clause-told
 ask-requires-2-clause-told g c =
@@ -35,7 +35,7 @@ ask-requires-2-clause-told g c =
     let runs0 = runs_here _ c.requires.running in
     let list1 = c.in_ok-ask.ensures in
     let runs1 = list_runs 0x80000000 object_handles _ _ _ _ objects_are_listed sound runs0 list1.ok in
-    let asks1 = asks_some seen c.args.device.now c.ask.new.device _ (Ok tt) list1.asks in
+    let asks1 = asks_some g.D.Device.CONTEXTS seen c.args.device.now c.ask.new.device _ (Ok tt) list1.asks in
     let told1 = g.met.D.Device.told_together c.ask.new.device ∙ ap is_some asks1.base ∙ sym (g.met.D.Device.told_together c.args.device.now) in
     list_told 0x02000000 (session_handles true) _ _ loaded_are_listed told1 sound runs1
 
@@ -52,10 +52,10 @@ pub returns-in_err-ask-2-clause-asks : goal.returns-in_err-ask-2-clause-asks
 returns-in_err-ask-2-clause-asks g c =
     let seen = g.D.Device.seen in
     let list1 = c.in_ok-ask.ensures in
-    let asks1 = asks_some seen c.args.device.now c.ask.new.device _ (Ok tt) list1.asks in
+    let asks1 = asks_some g.D.Device.CONTEXTS seen c.args.device.now c.ask.new.device _ (Ok tt) list1.asks in
     let e = c.in_err-ask-2.field-0.0 in
-    some_failed {A = Unit {0}} seen _ _ e c.from_residual-in_err-ask-2.result (err_from_is_err_and c.from_residual-in_err-ask-2.result c.from_residual-in_err-ask-2.ensures.1)
-    (asks_then seen _ c.ask.new.device _ tt (Err e) asks1 (asks_some seen _ _ _ (Err e) c.in_err-ask-2.ensures.asks))
+    some_failed {A = Unit {0}} g.D.Device.CONTEXTS seen _ _ e c.from_residual-in_err-ask-2.result (err_from_is_err_and c.from_residual-in_err-ask-2.result c.from_residual-in_err-ask-2.ensures.1)
+    (asks_then g.D.Device.CONTEXTS seen _ c.ask.new.device _ tt (Err e) asks1 (asks_some g.D.Device.CONTEXTS seen _ _ _ (Err e) c.in_err-ask-2.ensures.asks))
 
 pub ask-requires-3-clause-told : goal.ask-requires-3-clause-told
 ask-requires-3-clause-told g c =
@@ -64,10 +64,10 @@ ask-requires-3-clause-told g c =
     let runs0 = runs_here _ c.requires.running in
     let list1 = c.in_ok-ask.ensures in
     let runs1 = list_runs 0x80000000 object_handles _ _ _ _ objects_are_listed sound runs0 list1.ok in
-    let asks1 = asks_some seen c.args.device.now c.ask.new.device _ (Ok tt) list1.asks in
+    let asks1 = asks_some g.D.Device.CONTEXTS seen c.args.device.now c.ask.new.device _ (Ok tt) list1.asks in
     let list2 = c.in_ok-ask-2.ensures in
     let runs2 = list_runs 0x02000000 (session_handles true) _ _ _ _ loaded_are_listed sound runs1 list2.ok in
-    let asks2 = asks_then seen c.args.device.now c.ask.new.device c.ask-2.new.device tt (Ok tt) asks1 (asks_some seen _ _ _ (Ok tt) list2.asks) in
+    let asks2 = asks_then g.D.Device.CONTEXTS seen c.args.device.now c.ask.new.device c.ask-2.new.device tt (Ok tt) asks1 (asks_some g.D.Device.CONTEXTS seen _ _ _ (Ok tt) list2.asks) in
     let told2 = g.met.D.Device.told_together c.ask-2.new.device ∙ ap is_some asks2.base ∙ sym (g.met.D.Device.told_together c.args.device.now) in
     list_told 0x03000000 (session_handles false) _ _ saved_are_listed told2 sound runs2
 
@@ -86,21 +86,21 @@ pub returns-in_err-ask-3-clause-asks : goal.returns-in_err-ask-3-clause-asks
 returns-in_err-ask-3-clause-asks g c =
     let seen = g.D.Device.seen in
     let list1 = c.in_ok-ask.ensures in
-    let asks1 = asks_some seen c.args.device.now c.ask.new.device _ (Ok tt) list1.asks in
+    let asks1 = asks_some g.D.Device.CONTEXTS seen c.args.device.now c.ask.new.device _ (Ok tt) list1.asks in
     let list2 = c.in_ok-ask-2.ensures in
-    let asks2 = asks_then seen c.args.device.now c.ask.new.device c.ask-2.new.device tt (Ok tt) asks1 (asks_some seen _ _ _ (Ok tt) list2.asks) in
+    let asks2 = asks_then g.D.Device.CONTEXTS seen c.args.device.now c.ask.new.device c.ask-2.new.device tt (Ok tt) asks1 (asks_some g.D.Device.CONTEXTS seen _ _ _ (Ok tt) list2.asks) in
     let e = c.in_err-ask-3.field-0.0 in
-    some_failed {A = Unit {0}} seen _ _ e c.from_residual-in_err-ask-3.result (err_from_is_err_and c.from_residual-in_err-ask-3.result c.from_residual-in_err-ask-3.ensures.1)
-    (asks_then seen _ c.ask-2.new.device _ tt (Err e) asks2 (asks_some seen _ _ _ (Err e) c.in_err-ask-3.ensures.asks))
+    some_failed {A = Unit {0}} g.D.Device.CONTEXTS seen _ _ e c.from_residual-in_err-ask-3.result (err_from_is_err_and c.from_residual-in_err-ask-3.result c.from_residual-in_err-ask-3.ensures.1)
+    (asks_then g.D.Device.CONTEXTS seen _ c.ask-2.new.device _ tt (Err e) asks2 (asks_some g.D.Device.CONTEXTS seen _ _ _ (Err e) c.in_err-ask-3.ensures.asks))
 
 pub returns-clause-finds : goal.returns-clause-finds
 returns-clause-finds g c =
     let list1 = c.in_ok-ask.ensures in
     let list2 = c.in_ok-ask-2.ensures in
     let list3 = c.in_ok-ask-3.ensures in
-    let taken1 = taken_as _ _ (handles_command 0x80000000) c.ask.new.scratch list1.asks.asked list1.last list1.asks.answered in
-    let taken2 = taken_as _ _ (handles_command 0x02000000) c.ask-2.new.scratch list2.asks.asked list2.last list2.asks.answered in
-    let taken3 = taken_as _ _ (handles_command 0x03000000) c.ask-3.new.scratch list3.asks.asked list3.last list3.asks.answered in
+    let taken1 = taken_as g.D.Device.CONTEXTS _ _ (handles_command 0x80000000) c.ask.new.scratch list1.asks.asked list1.last list1.asks.answered refl refl in
+    let taken2 = taken_as g.D.Device.CONTEXTS _ _ (handles_command 0x02000000) c.ask-2.new.scratch list2.asks.asked list2.last list2.asks.answered refl refl in
+    let taken3 = taken_as g.D.Device.CONTEXTS _ _ (handles_command 0x03000000) c.ask-3.new.scratch list3.asks.asked list3.last list3.asks.answered refl refl in
     let one1 = answered_one _ c.ask.new.scratch _ _ _ list1.asks.one list1.last in
     let one2 = answered_one _ c.ask-2.new.scratch _ _ _ list2.asks.one list2.last in
     let one3 = answered_one _ c.ask-3.new.scratch _ _ _ list3.asks.one list3.last in
@@ -132,12 +132,12 @@ returns-clause-lists g c =
     let list1 = c.in_ok-ask.ensures in
     let list2 = c.in_ok-ask-2.ensures in
     let list3 = c.in_ok-ask-3.ensures in
-    let taken1 = taken_as _ _ (handles_command 0x80000000) c.ask.new.scratch list1.asks.asked list1.last list1.asks.answered in
-    let taken2 = taken_as _ _ (handles_command 0x02000000) c.ask-2.new.scratch list2.asks.asked list2.last list2.asks.answered in
-    let taken3 = taken_as _ _ (handles_command 0x03000000) c.ask-3.new.scratch list3.asks.asked list3.last list3.asks.answered in (
-      taken_fills (handles_command 0x80000000) _ 0x80000000 taken1 list1.success.form refl,
-      taken_fills (handles_command 0x02000000) _ 0x02000000 taken2 list2.success.form refl,
-      taken_fills (handles_command 0x03000000) _ 0x03000000 taken3 list3.success.form refl,
+    let taken1 = taken_as g.D.Device.CONTEXTS _ _ (handles_command 0x80000000) c.ask.new.scratch list1.asks.asked list1.last list1.asks.answered refl refl in
+    let taken2 = taken_as g.D.Device.CONTEXTS _ _ (handles_command 0x02000000) c.ask-2.new.scratch list2.asks.asked list2.last list2.asks.answered refl refl in
+    let taken3 = taken_as g.D.Device.CONTEXTS _ _ (handles_command 0x03000000) c.ask-3.new.scratch list3.asks.asked list3.last list3.asks.answered refl refl in (
+      taken_fills g.D.Device.CONTEXTS (handles_command 0x80000000) _ 0x80000000 taken1 list1.success.form refl,
+      taken_fills g.D.Device.CONTEXTS (handles_command 0x02000000) _ 0x02000000 taken2 list2.success.form refl,
+      taken_fills g.D.Device.CONTEXTS (handles_command 0x03000000) _ 0x03000000 taken3 list3.success.form refl,
     )
 
 pub returns-clause-few : goal.returns-clause-few
@@ -156,9 +156,9 @@ pub returns-clause-asks : goal.returns-clause-asks
 returns-clause-asks g c =
     let seen = g.D.Device.seen in
     let list1 = c.in_ok-ask.ensures in
-    let asks1 = asks_some seen c.args.device.now c.ask.new.device _ (Ok tt) list1.asks in
+    let asks1 = asks_some g.D.Device.CONTEXTS seen c.args.device.now c.ask.new.device _ (Ok tt) list1.asks in
     let list2 = c.in_ok-ask-2.ensures in
-    let asks2 = asks_then seen c.args.device.now c.ask.new.device c.ask-2.new.device tt (Ok tt) asks1 (asks_some seen _ _ _ (Ok tt) list2.asks) in
+    let asks2 = asks_then g.D.Device.CONTEXTS seen c.args.device.now c.ask.new.device c.ask-2.new.device tt (Ok tt) asks1 (asks_some g.D.Device.CONTEXTS seen _ _ _ (Ok tt) list2.asks) in
     let list3 = c.in_ok-ask-3.ensures in
-    let asks3 = asks_then seen c.args.device.now c.ask-2.new.device c.ask-3.new.device tt (Ok tt) asks2 (asks_some seen _ _ _ (Ok tt) list3.asks) in
+    let asks3 = asks_then g.D.Device.CONTEXTS seen c.args.device.now c.ask-2.new.device c.ask-3.new.device tt (Ok tt) asks2 (asks_some g.D.Device.CONTEXTS seen _ _ _ (Ok tt) list3.asks) in
     asks3

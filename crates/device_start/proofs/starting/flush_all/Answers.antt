@@ -43,8 +43,8 @@ returns-in_err-flush_listed-2-clause-asks g c =
     let seen = g.D.Device.seen in
     let e = c.in_err-flush_listed-2.field-0.0 in
     let result = c.from_residual-in_err-flush_listed-2 in
-    some_failed {A = Unit {0}} seen _ _ e result.result (err_from_is_err_and result.result result.ensures.1)
-    (asks_then seen _ c.flush_listed.new.device _ tt (Err e) c.in_ok-flush_listed.ensures.asks c.in_err-flush_listed-2.ensures.asks)
+    some_failed {A = Unit {0}} g.D.Device.CONTEXTS seen _ _ e result.result (err_from_is_err_and result.result result.ensures.1)
+    (asks_then g.D.Device.CONTEXTS seen _ c.flush_listed.new.device _ tt (Err e) c.in_ok-flush_listed.ensures.asks c.in_err-flush_listed-2.ensures.asks)
 
 pub flush_listed-requires-3-clause-there : goal.flush_listed-requires-3-clause-there
 flush_listed-requires-3-clause-there g c =
@@ -62,7 +62,7 @@ flush_listed-requires-3-clause-there g c =
     let second = c.in_ok-flush_listed-2.ensures in
     let left2 = loses_then objects loaded _ _ _ left1
     (subst (λ (handles : List ℕ). LosesFirst handles (seen c.flush_listed.new.device).state (seen c.flush_listed-2.new.device).state) is2 second.left) in
-    let asks2 = asks_then seen c.args.device.now c.flush_listed.new.device c.flush_listed-2.new.device tt (Ok tt) first.asks second.asks in
+    let asks2 = asks_then g.D.Device.CONTEXTS seen c.args.device.now c.flush_listed.new.device c.flush_listed-2.new.device tt (Ok tt) first.asks second.asks in
     let told2 = g.met.D.Device.told_together c.flush_listed-2.new.device ∙ ap is_some asks2.base ∙ sym (g.met.D.Device.told_together c.args.device.now) in
     subst (λ (handles : List ℕ). HoldsListed handles (seen c.flush_listed-2.new.device).state) (sym (ap listed_handles c.as_slice-3.ensures.value))
     (listed_then (objects ++ loaded) saved _ _ told2 there left2)
@@ -78,9 +78,9 @@ returns-in_err-flush_listed-3-clause-asks g c =
     let seen = g.D.Device.seen in
     let e = c.in_err-flush_listed-3.field-0.0 in
     let result = c.from_residual-in_err-flush_listed-3 in
-    let asks2 = asks_then seen c.args.device.now c.flush_listed.new.device c.flush_listed-2.new.device tt (Ok tt) c.in_ok-flush_listed.ensures.asks c.in_ok-flush_listed-2.ensures.asks in
-    some_failed {A = Unit {0}} seen _ _ e result.result (err_from_is_err_and result.result result.ensures.1)
-    (asks_then seen _ c.flush_listed-2.new.device _ tt (Err e) asks2 c.in_err-flush_listed-3.ensures.asks)
+    let asks2 = asks_then g.D.Device.CONTEXTS seen c.args.device.now c.flush_listed.new.device c.flush_listed-2.new.device tt (Ok tt) c.in_ok-flush_listed.ensures.asks c.in_ok-flush_listed-2.ensures.asks in
+    some_failed {A = Unit {0}} g.D.Device.CONTEXTS seen _ _ e result.result (err_from_is_err_and result.result result.ensures.1)
+    (asks_then g.D.Device.CONTEXTS seen _ c.flush_listed-2.new.device _ tt (Err e) asks2 c.in_err-flush_listed-3.ensures.asks)
 
 pub returns-clause-flushed : goal.returns-clause-flushed
 returns-clause-flushed g c =
@@ -113,7 +113,7 @@ returns-clause-left g c =
     let second = c.in_ok-flush_listed-2.ensures in
     let left2 = loses_then objects loaded _ _ _ left1
     (subst (λ (handles : List ℕ). LosesFirst handles (seen c.flush_listed.new.device).state (seen c.flush_listed-2.new.device).state) is2 second.left) in
-    let asks2 = asks_then seen c.args.device.now c.flush_listed.new.device c.flush_listed-2.new.device tt (Ok tt) first.asks second.asks in
+    let asks2 = asks_then g.D.Device.CONTEXTS seen c.args.device.now c.flush_listed.new.device c.flush_listed-2.new.device tt (Ok tt) first.asks second.asks in
     let told2 = g.met.D.Device.told_together c.flush_listed-2.new.device ∙ ap is_some asks2.base ∙ sym (g.met.D.Device.told_together c.args.device.now) in
     let is3 = ap listed_handles c.as_slice-3.ensures.value in
     let third = c.in_ok-flush_listed-3.ensures in
@@ -129,5 +129,5 @@ returns-clause-few g c =
 pub returns-clause-asks : goal.returns-clause-asks
 returns-clause-asks g c =
     let seen = g.D.Device.seen in
-    let asks2 = asks_then seen c.args.device.now c.flush_listed.new.device c.flush_listed-2.new.device tt (Ok tt) c.in_ok-flush_listed.ensures.asks c.in_ok-flush_listed-2.ensures.asks in
-    asks_then seen c.args.device.now c.flush_listed-2.new.device c.flush_listed-3.new.device tt (Ok tt) asks2 c.in_ok-flush_listed-3.ensures.asks
+    let asks2 = asks_then g.D.Device.CONTEXTS seen c.args.device.now c.flush_listed.new.device c.flush_listed-2.new.device tt (Ok tt) c.in_ok-flush_listed.ensures.asks c.in_ok-flush_listed-2.ensures.asks in
+    asks_then g.D.Device.CONTEXTS seen c.args.device.now c.flush_listed-2.new.device c.flush_listed-3.new.device tt (Ok tt) asks2 c.in_ok-flush_listed-3.ensures.asks

@@ -2,7 +2,7 @@ use Rattle.std.proofs.Common.{◌≡◌, ◌+◌, ℕ, true, List, Ok, Err, refl
 use Rattle.std.specs.Prelude.{IfSome, is_some}
 use Rattle.std.proofs.lemmas.Result.{err_from_is_err_and}
 use Rattle.tab_spec.specs.declared.TheConstants.{CC_FLUSH_CONTEXT}
-use Rattle.device_spec.specs.Answers.{listed_handles, takes}
+use Rattle.device_spec.specs.Answers.{listed_handles, profile_takes as takes}
 use Rattle.device_spec.specs.ContextCommands.{command_bytes}
 use Rattle.device_spec.specs.Slots.{slot_step}
 use Rattle.device_port.specs.Device.{Answered}
@@ -20,7 +20,7 @@ pub loop-place-init : goal.loop-place-init
 loop-place-init g c =
     let all = all_rest c.args.list.now c.word_at.result c.unwrap_or-count.result c.requires.list c.word_at.ensures c.unwrap_or-count.ensures in
     record {
-      asks = asks_none g.D.Device.seen c.args.device.now;
+      asks = asks_none g.D.Device.CONTEXTS g.D.Device.seen c.args.device.now;
       flushed = λ new more. subst (λ (handles : List ℕ). Flushes handles (g.D.Device.seen c.args.device.now).trace new) all more;
       left = subst (λ (rest : List ℕ). LeftIf (listed_handles c.args.list.now) rest (g.D.Device.seen c.args.device.now).state (g.D.Device.seen c.args.device.now).state)
           (sym all) (left_all (listed_handles c.args.list.now) (g.D.Device.seen c.args.device.now).state);
@@ -29,7 +29,7 @@ loop-place-init g c =
 pub ask-requires-clause-own : goal.ask-requires-clause-own
 ask-requires-clause-own g c =
     let is = c.as_slice.ensures.same ∙ c.command_of-command.ensures ∙ ap (command_bytes CC_FLUSH_CONTEXT) c.to_be_bytes.ensures in
-    subst (λ (bytes : List ℕ). IsOwn bytes) (sym is) (flush_is_own c.unwrap_or-handle.result)
+    subst (λ (bytes : List ℕ). IsOwn g.D.Device.CONTEXTS bytes) (sym is) (flush_is_own g.D.Device.CONTEXTS c.unwrap_or-handle.result)
 
 pub ask-requires-clause-told : goal.ask-requires-clause-told
 ask-requires-clause-told g c =
@@ -51,8 +51,8 @@ pub returns-in_err-ask-clause-asks : goal.returns-in_err-ask-clause-asks
 returns-in_err-ask-clause-asks g c =
     let seen = g.D.Device.seen in
     let e = c.in_err-ask.field-0.0 in
-    some_failed seen _ _ e c.from_residual.result (err_from_is_err_and c.from_residual.result c.from_residual.ensures.1)
-    (asks_then seen _ c.loop-place.device _ tt (Err e) c.loop-place.invariant.asks (asks_some seen _ _ _ (Err e) c.in_err-ask.ensures.asks))
+    some_failed g.D.Device.CONTEXTS seen _ _ e c.from_residual.result (err_from_is_err_and c.from_residual.result c.from_residual.ensures.1)
+    (asks_then g.D.Device.CONTEXTS seen _ c.loop-place.device _ tt (Err e) c.loop-place.invariant.asks (asks_some g.D.Device.CONTEXTS seen _ _ _ (Err e) c.in_err-ask.ensures.asks))
 
 pub loop-place-preserved : goal.loop-place-preserved
 loop-place-preserved g c =
@@ -64,7 +64,7 @@ loop-place-preserved g c =
     let next = next_read list _ _ _ _ _ c.requires.list c.word_at.ensures c.unwrap_or-count.ensures c.loop-place-test.true c.word_at-in-loop-place.ensures c.unwrap_or-handle.ensures in
     let asked = c.in_ok-ask.ensures.asks in
     record {
-      asks = asks_then seen _ c.loop-place.device _ tt (Ok tt) c.loop-place.invariant.asks (asks_some seen _ _ _ (Ok tt) asked);
+      asks = asks_then g.D.Device.CONTEXTS seen _ c.loop-place.device _ tt (Ok tt) c.loop-place.invariant.asks (asks_some g.D.Device.CONTEXTS seen _ _ _ (Ok tt) asked);
       flushed = λ new more. c.loop-place.invariant.flushed new
           (subst (λ (handles : List ℕ). Flushes handles (seen c.loop-place.device).trace new) (sym next)
           (flush_more seen _ _ c.ask.new.scratch handle rest new is asked c.in_ok-ask.ensures.last more));

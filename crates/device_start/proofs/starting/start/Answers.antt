@@ -17,7 +17,7 @@ pub returns-in_err-numbers-clause-cause : goal.returns-in_err-numbers-clause-cau
 returns-in_err-numbers-clause-cause g c =
     let seen = g.D.Device.seen in
     let result = c.from_residual.result in
-    err_carried (λ e. HasStartCause seen e c.args.device.now c.ask_numbers.new.device) c.in_err-numbers.field-0.0 result
+    err_carried (λ e. HasStartCause g.D.Device.CONTEXTS seen e c.args.device.now c.ask_numbers.new.device) c.in_err-numbers.field-0.0 result
     (err_from_is_err_and result c.from_residual.ensures.1) c.in_err-numbers.ensures.err.cause
 
 pub find-requires : goal.find-requires
@@ -57,7 +57,7 @@ pub returns-in-Err-flush_all-clause-cause : goal.returns-in-Err-flush_all-clause
 returns-in-Err-flush_all-clause-cause g c =
     let seen = g.D.Device.seen in
     let e = c.in-Err-flush_all.e in
-    let asks = asks_then seen c.ask_numbers.new.device c.find.new.device c.flush_all.new.device tt (Err e) c.in_default.ensures.asks c.in-Err-flush_all.ensures.asks in
+    let asks = asks_then g.D.Device.CONTEXTS seen c.ask_numbers.new.device c.find.new.device c.flush_all.new.device tt (Err e) c.in_default.ensures.asks c.in-Err-flush_all.ensures.asks in
     later_fails seen _ c.ask_numbers.new.device _ c.in_ok-numbers.numbers e c.in_ok-numbers.ensures.values asks
 
 pub returns-clause-started : goal.returns-clause-started
@@ -93,7 +93,7 @@ returns-clause-cleared g c =
 
 pub returns-clause-answered : goal.returns-clause-answered
 returns-clause-answered g c =
-    right_end g.D.Device.seen _ c.find.new.device c.flush_all.new.device c.find.new.lists.objects c.find.new.lists.loaded c.find.new.lists.saved c.in_default.ensures.finds c.in_default-flush_all.ensures.asks.answered
+    right_end g.D.Device.CONTEXTS g.D.Device.seen _ c.find.new.device c.flush_all.new.device c.find.new.lists.objects c.find.new.lists.loaded c.find.new.lists.saved c.in_default.ensures.finds c.in_default-flush_all.ensures.asks.answered
 
 pub returns-clause-attempts : goal.returns-clause-attempts
 returns-clause-attempts g c =

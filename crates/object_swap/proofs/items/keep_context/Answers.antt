@@ -147,13 +147,13 @@ returns-clause-spends g c =
     )
 
 pub returns-then-record-clause-asks : goal.returns-then-record-clause-asks
-returns-then-record-clause-asks g c = asks_none g.D.Device.seen c.args.device.now
+returns-then-record-clause-asks g c = asks_none g.D.Device.CONTEXTS g.D.Device.seen c.args.device.now
 
 pub returns-in_err-save-clause-asks : goal.returns-in_err-save-clause-asks
 returns-in_err-save-clause-asks g c =
     let seen = g.D.Device.seen in
-    some_failed seen _ _ _ c.from_residual.result (err_from_is_err_and c.from_residual.result c.from_residual.ensures.1)
-    (asks_some seen _ _ _ (Err _) c.in_err-save.ensures.asks)
+    some_failed g.D.Device.CONTEXTS seen _ _ _ c.from_residual.result (err_from_is_err_and c.from_residual.result c.from_residual.ensures.1)
+    (asks_some g.D.Device.CONTEXTS seen _ _ _ (Err _) c.in_err-save.ensures.asks)
 
 pub returns-clause-asks : goal.returns-clause-asks
-returns-clause-asks g c = asks_some g.D.Device.seen _ _ _ (Ok tt) c.in_ok-save.ensures.asks
+returns-clause-asks g c = asks_some g.D.Device.CONTEXTS g.D.Device.seen _ _ _ (Ok tt) c.in_ok-save.ensures.asks

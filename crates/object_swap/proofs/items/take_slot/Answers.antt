@@ -17,7 +17,7 @@ load-requires-clause-kept g c =
     let old = record_at records index d c.requires.ready.sound c.requires.item.inside in
     let was = was records index d c.requires.item.inside in
     let none = handle_none records index r was c.requires.item.slot in
-    subst (λ (bytes : List ℕ). IsContext bytes) (sym c.deref.ensures.value) (old.context (out_kept records index r was none c.requires.item.there))
+    subst (λ (bytes : List ℕ). IsContext g.D.Device.CONTEXTS bytes) (sym c.deref.ensures.value) (old.context (out_kept records index r was none c.requires.item.there))
 
 pub load-requires-clause-told : goal.load-requires-clause-told
 load-requires-clause-told g c =
@@ -70,4 +70,4 @@ returns-clause-asks g c =
     let r = get_or records index d in
     let was = was records index d c.requires.item.inside in
     let kept = out_kept records index r was (handle_none records index r was c.requires.item.slot) c.requires.item.there in
-    (c.deref.result.now, blob_is records index r c.deref.result.now was kept c.deref.ensures.value, asks_ok _ _ _ _ c.in_ok-handle.handle tt c.in_ok-handle.ensures.asks)
+    (c.deref.result.now, blob_is records index r c.deref.result.now was kept c.deref.ensures.value, asks_ok _ _ _ _ _ c.in_ok-handle.handle tt c.in_ok-handle.ensures.asks)

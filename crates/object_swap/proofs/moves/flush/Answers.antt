@@ -2,7 +2,7 @@ use Rattle.std.proofs.Common.{◌≡◌, ap, sym, ◌∙◌, subst, List, ℕ, t
 use Rattle.std.specs.Prelude.{IfSome}
 use Rattle.std.proofs.lemmas.Result.{on_ok_weaker}
 use Rattle.tab_spec.specs.declared.TheConstants.{CC_FLUSH_CONTEXT}
-use Rattle.device_spec.specs.Answers.{takes}
+use Rattle.device_spec.specs.Answers.{profile_takes as takes}
 use Rattle.device_spec.specs.ContextCommands.{command_bytes}
 use Rattle.device_spec.specs.Slots.{slot_step}
 use Rattle.device_port.specs.Device.{Answered}
@@ -14,7 +14,7 @@ use Rattle.object_swap.proofs.moves.flush.Goals as goal
 pub ask-requires-clause-own : goal.ask-requires-clause-own
 ask-requires-clause-own g c =
     let is = c.as_slice.ensures.same ∙ c.command_of-command.ensures ∙ ap (command_bytes CC_FLUSH_CONTEXT) c.to_be_bytes.ensures in
-    subst (λ (bytes : List ℕ). IsOwn bytes) (sym is) (flush_is_own c.args.handle)
+    subst (λ (bytes : List ℕ). IsOwn g.D.Device.CONTEXTS bytes) (sym is) (flush_is_own g.D.Device.CONTEXTS c.args.handle)
 
 pub ask-requires-clause-told : goal.ask-requires-clause-told
 ask-requires-clause-told g c =

@@ -29,7 +29,7 @@ loop-loaded-init g c =
       saved = omega arith;
       spends = omega arith;
       idle = λ few. (refl, refl);
-      asks = asks_none g.D.Device.seen c.args.device.now;
+      asks = asks_none g.D.Device.CONTEXTS g.D.Device.seen c.args.device.now;
     }
 
 pub unwrap-at-requires : goal.unwrap-at-requires
@@ -106,7 +106,7 @@ loop-loaded-preserved g c =
       saved = omega (arith, less, held.saved, costs.saved);
       spends = omega (arith, count, held.spends, next.leaves.spends);
       idle = λ few. absurd (omega (arith, few, full, was, held.less));
-      asks = asks_then g.D.Device.seen c.args.device.now c.loop-loaded.device c.put_away.new.device tt _ held.asks next.asks;
+      asks = asks_then g.D.Device.CONTEXTS g.D.Device.seen c.args.device.now c.loop-loaded.device c.put_away.new.device tt _ held.asks next.asks;
     }
 
 pub returns-clause-evicts : goal.returns-clause-evicts
@@ -181,8 +181,8 @@ returns-in_err-put_away-clause-evicts g c =
 pub returns-in_err-put_away-clause-asks : goal.returns-in_err-put_away-clause-asks
 returns-in_err-put_away-clause-asks g c =
     let returned = c.from_residual in
-    asks_then g.D.Device.seen _ c.loop-loaded.device _ tt returned.result c.loop-loaded.invariant.asks
-    (some_failed g.D.Device.seen c.loop-loaded.device _ _ returned.result (err_from_is_err_and returned.result returned.ensures.1) c.in_err-put_away.ensures.asks)
+    asks_then g.D.Device.CONTEXTS g.D.Device.seen _ c.loop-loaded.device _ tt returned.result c.loop-loaded.invariant.asks
+    (some_failed g.D.Device.CONTEXTS g.D.Device.seen c.loop-loaded.device _ _ returned.result (err_from_is_err_and returned.result returned.ensures.1) c.in_err-put_away.ensures.asks)
 
 pub returns-in_err-put_away-clause-swaps : goal.returns-in_err-put_away-clause-swaps
 returns-in_err-put_away-clause-swaps g c =

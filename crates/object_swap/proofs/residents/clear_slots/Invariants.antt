@@ -14,7 +14,7 @@ invariant-loop-loaded g l =
     let items = items_of l.fn.records in
     let new_items = items_of l.records in
     record {
-      swaps : Swaps D.seen l.fn.device l.device l.fn.records l.records;
+      swaps : Swaps D.CONTEXTS D.seen l.fn.device l.device l.fn.records l.records;
       listed : ListsResidents l.records l.loaded.items (vec_capacity l.loaded);
       fewer : NoMore (residency l.fn.records) (residency l.records);
       stay : (index : ℕ) → is_among l.needed index ≡ true → item_at new_items index ≡ item_at items index;
@@ -27,7 +27,7 @@ invariant-loop-loaded g l =
       saved : unsaved items + residents new_items ≤ unsaved new_items + residents items;
       spends : Spends D.seen l.fn.device l.device l.fn.records l.records (residents items - residents new_items);
       idle : residents items ≤ l.most → (l.device ≡ l.fn.device) × (l.records ≡ l.fn.records);
-      asks : AsksSome {A = Unit {0}} D.seen l.fn.device l.device (Ok tt);
+      asks : AsksSome {A = Unit {0}} D.CONTEXTS D.seen l.fn.device l.device (Ok tt);
     }
 
 abbrev pub decreases-loop-loaded : goal.decreases-loop-loaded

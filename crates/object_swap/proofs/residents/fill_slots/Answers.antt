@@ -26,7 +26,7 @@ loop-item-init g c = record {
   sent = omega arith;
   paid = omega arith;
   idle = λ all. (refl, refl);
-  asks = asks_none g.D.Device.seen c.args.device.now;
+  asks = asks_none g.D.Device.CONTEXTS g.D.Device.seen c.args.device.now;
 }
 
 pub make_resident-requires-clause-named : goal.make_resident-requires-clause-named
@@ -82,7 +82,7 @@ loop-item-preserved g c =
           ∙ resident_needed needed (items_of c.args.records.now) index all inside in
           let same = brings.idle here in
           (same.0 ∙ so_far.0, same.1 ∙ so_far.1);
-      asks = asks_then g.D.Device.seen c.args.device.now c.loop-item.device c.make_resident.new.device tt _ held.asks next.asks;
+      asks = asks_then g.D.Device.CONTEXTS g.D.Device.seen c.args.device.now c.loop-item.device c.make_resident.new.device tt _ held.asks next.asks;
     }
 
 pub returns-clause-fills : goal.returns-clause-fills
@@ -140,5 +140,5 @@ returns-in_err-make_resident-clause-swaps g c =
 pub returns-in_err-make_resident-clause-asks : goal.returns-in_err-make_resident-clause-asks
 returns-in_err-make_resident-clause-asks g c =
     let returned = c.from_residual in
-    asks_then g.D.Device.seen _ c.loop-item.device _ tt returned.result c.loop-item.invariant.asks
-    (some_failed g.D.Device.seen c.loop-item.device _ _ returned.result (err_from_is_err_and returned.result returned.ensures.1) c.in_err-make_resident.ensures.asks)
+    asks_then g.D.Device.CONTEXTS g.D.Device.seen _ c.loop-item.device _ tt returned.result c.loop-item.invariant.asks
+    (some_failed g.D.Device.CONTEXTS g.D.Device.seen c.loop-item.device _ _ returned.result (err_from_is_err_and returned.result returned.ensures.1) c.in_err-make_resident.ensures.asks)

@@ -14,7 +14,7 @@ invariant-loop-item g l =
     let items = items_of l.fn.records in
     let new_items = items_of l.records in
     record {
-      swaps : Swaps D.seen l.fn.device l.device l.fn.records l.records;
+      swaps : Swaps D.CONTEXTS D.seen l.fn.device l.device l.fn.records l.records;
       listed : ListsResidents l.records l.loaded.items (vec_capacity l.loaded);
       filled : (k : ℕ) → k < l.item-index → get_or (residency l.records) (get_or l.needed k 0) false ≡ true;
       stay : (index : ℕ) → is_resident (item_at items index) ≡ true → item_at new_items index ≡ item_at items index;
@@ -24,5 +24,5 @@ invariant-loop-item g l =
       sent : sent_of (D.seen l.device) ≤ sent_of (D.seen l.fn.device) + l.item-index;
       paid : sent_of (D.seen l.device) + residents items ≤ sent_of (D.seen l.fn.device) + residents new_items;
       idle : AreResident l.needed items → (l.device ≡ l.fn.device) × (l.records ≡ l.fn.records);
-      asks : AsksSome {A = Unit {0}} D.seen l.fn.device l.device (Ok tt);
+      asks : AsksSome {A = Unit {0}} D.CONTEXTS D.seen l.fn.device l.device (Ok tt);
     }

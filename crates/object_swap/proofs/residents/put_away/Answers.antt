@@ -112,11 +112,11 @@ pub returns-in_err-leave_slot-clause-asks : goal.returns-in_err-leave_slot-claus
 returns-in_err-leave_slot-clause-asks g c =
     let seen = g.D.Device.seen in
     let returned = c.from_residual-in_err-leave_slot in
-    asks_then seen _ c.keep_context.new.device _ tt returned.result c.in_ok-keep_context.ensures.asks
-    (some_failed seen c.keep_context.new.device _ _ returned.result (err_from_is_err_and returned.result returned.ensures.1)
-    (asks_some seen _ _ _ (Err _) c.in_err-leave_slot.ensures.asks.2))
+    asks_then g.D.Device.CONTEXTS seen _ c.keep_context.new.device _ tt returned.result c.in_ok-keep_context.ensures.asks
+    (some_failed g.D.Device.CONTEXTS seen c.keep_context.new.device _ _ returned.result (err_from_is_err_and returned.result returned.ensures.1)
+    (asks_some g.D.Device.CONTEXTS seen _ _ _ (Err _) c.in_err-leave_slot.ensures.asks.2))
 
 pub returns-clause-asks : goal.returns-clause-asks
 returns-clause-asks g c =
     let seen = g.D.Device.seen in
-    asks_then seen _ c.keep_context.new.device _ tt (Ok tt) c.in_ok-keep_context.ensures.asks (asks_some seen _ _ _ (Ok tt) c.in_ok-leave_slot.ensures.asks.2)
+    asks_then g.D.Device.CONTEXTS seen _ c.keep_context.new.device _ tt (Ok tt) c.in_ok-keep_context.ensures.asks (asks_some g.D.Device.CONTEXTS seen _ _ _ (Ok tt) c.in_ok-leave_slot.ensures.asks.2)

@@ -114,4 +114,4 @@ returns-in_err-clear_slots-clause-room g c =
 
 pub returns-clause-asks : goal.returns-clause-asks
 returns-clause-asks g c =
-    asks_then g.D.Device.seen _ c.clear_slots.new.device _ tt c.fill_slots.result c.in_ok-clear_slots.ensures.asks c.fill_slots.ensures.asks
+    asks_then g.D.Device.CONTEXTS g.D.Device.seen _ c.clear_slots.new.device _ tt c.fill_slots.result c.in_ok-clear_slots.ensures.asks c.fill_slots.ensures.asks

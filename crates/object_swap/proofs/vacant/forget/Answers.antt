@@ -14,9 +14,9 @@ pub returns-clause-items : goal.returns-clause-items
 returns-clause-items c = map-set item_of c.args.records.now.items c.args.item _
 
 pub returns-clause-sound : goal.returns-clause-sound
-returns-clause-sound c =
+returns-clause-sound c contexts sound =
     let records = c.args.records.now.items in
     let d = c.index_mut-record.result.now in
-    let old = record_at records c.args.item d c.requires.sound (named_inside records c.args.item c.requires.named) in
-    let kept : IsRecord d = subst (λ (r : Record). IsRecord r) (sym c.index_mut-record.ensures.value) old in
-    records_set records c.args.item _ c.requires.sound (record { handle = tt; room = kept.room; context = λ none. absurd (false≢true none) })
+    let old = record_at records c.args.item d sound (named_inside records c.args.item c.requires.named) in
+    let kept : IsRecord contexts d = subst (λ (r : Record). IsRecord contexts r) (sym c.index_mut-record.ensures.value) old in
+    records_set records c.args.item _ sound (record { handle = tt; room = kept.room; context = λ none. absurd (false≢true none) })

@@ -3,7 +3,7 @@ use Rattle.std.specs.Fmt.{digits, decimal}
 use Rattle.hex.specs.Hex.{encode_lower}
 use Rattle.hex.proofs.OnLiterals.{hex_on_literals}
 use Rattle.script_spec.specs.Plays.{Holder, Stage, IsAnswered, reply_line}
-use Rattle.history_spec.specs.Examples.{two_clients, eight_reply, six_reply, four_reply, get_random, plain_entry}
+use Rattle.history_spec.specs.Examples.{two_clients, eight_reply, six_reply, four_reply, get_random, plain_entry, limit_of}
 use Rattle.script_spec.proofs.examples.a_history_and_lines_play_calls.Goals as goal
 
 abbrev holders_0 : List Holder
@@ -23,7 +23,7 @@ returns-clause-whole c =
     let line_2 : List ℕ = line_1 ++ reply_line 7 six_reply in
     let line_3 : List ℕ = line_2 ++ reply_line 0 four_reply in
     let both : List Holder = holders_0 ++ holders_7 in
-    let first : IsAnswered 4618 (stage 1 holders_0 []) 0 1 (get_random 8) None (stage 2 holders_0 line_1) = record {
+    let first : IsAnswered (limit_of 4618) (stage 1 holders_0 []) 0 1 (get_random 8) None (stage 2 holders_0 line_1) = record {
       client = 0;
       reply = eight_reply;
       known = refl;
@@ -32,7 +32,7 @@ returns-clause-whole c =
       output = refl;
       holders = refl;
     } in
-    let second : IsAnswered 4618 (stage 3 both line_1) 7 1 (get_random 6) None (stage 4 both line_2) = record {
+    let second : IsAnswered (limit_of 4618) (stage 3 both line_1) 7 1 (get_random 6) None (stage 4 both line_2) = record {
       client = 1;
       reply = six_reply;
       known = refl;
@@ -41,7 +41,7 @@ returns-clause-whole c =
       output = refl;
       holders = refl;
     } in
-    let third : IsAnswered 4618 (stage 4 both line_2) 0 2 (get_random 4) None (stage 5 both line_3) = record {
+    let third : IsAnswered (limit_of 4618) (stage 4 both line_2) 0 2 (get_random 4) None (stage 5 both line_3) = record {
       client = 0;
       reply = four_reply;
       known = refl;

@@ -5,7 +5,7 @@ use Rattle.script_spec.specs.Plays.{Holder, Stage, IsAnswered, IsCommandKind, Is
 use Rattle.history_spec.specs.declared.EntryKind.{EntryKind}
 use Rattle.history_spec.specs.declared.EntryKind.TheVariants.{Open, Command, Canceled, Fault, Close}
 use Rattle.history_spec.specs.Entry.{Entry, close_entry}
-use Rattle.history_spec.specs.Examples.{canceled_before, canceled_first, canceled_reply, four_reply, get_random, plain_entry}
+use Rattle.history_spec.specs.Examples.{canceled_before, canceled_first, canceled_reply, four_reply, get_random, plain_entry, limit_of}
 use Rattle.script_spec.proofs.examples.a_history_has_canceled_commands.Goals as goal
 
 abbrev history : List Entry
@@ -23,7 +23,7 @@ unfolding hex_on_literals digits
 returns-clause-whole c =
     let line_1 : List ℕ = reply_line 0 canceled_reply in
     let line_2 : List ℕ = line_1 ++ reply_line 0 four_reply in
-    let first : IsAnswered 8192 (stage 1 holders_0 []) 0 1 (get_random 8) (Some 1) (stage 2 holders_0 line_1) = record {
+    let first : IsAnswered (limit_of 8192) (stage 1 holders_0 []) 0 1 (get_random 8) (Some 1) (stage 2 holders_0 line_1) = record {
       client = 0;
       reply = canceled_reply;
       known = refl;
@@ -32,7 +32,7 @@ returns-clause-whole c =
       output = refl;
       holders = refl;
     } in
-    let second : IsAnswered 8192 (stage 2 holders_0 line_1) 0 2 (get_random 4) None (stage 3 holders_0 line_2) = record {
+    let second : IsAnswered (limit_of 8192) (stage 2 holders_0 line_1) 0 2 (get_random 4) None (stage 3 holders_0 line_2) = record {
       client = 0;
       reply = four_reply;
       known = refl;

@@ -4,6 +4,7 @@ use Rattle.std.proofs.lemmas.List.{length-map}
 use Rattle.std.specs.Prelude.{Ok, Err}
 use Rattle.std.proofs.lemmas.Result.{err_from_is_err_and}
 use Rattle.tab_spec.specs.declared.TheConstants.{HEADER_BYTES}
+use Rattle.tab_spec.specs.declared.contexts.TheConstants.{PROFILE_CONTEXTS}
 use Rattle.device_spec.specs.ContextCommands.{context_save_command}
 use Rattle.session_swap.specs.Records.{item_of_record, items_of}
 use Rattle.session_swap.specs.Items.{item_at, saved_by_client}
@@ -46,7 +47,7 @@ returns-in_err-put_out-clause-asks g c =
     let items = items_of c.args.records.now in
     let n = c.number_of-number.result in
     let under : IsLoadedUnder items c.args.handle n = record { number_is = c.number_of-number.ensures; loaded = c.requires.may.loaded } in
-    asks_failed seen c.args.device.now c.put_out.new.device (context_save_command c.args.handle) _ c.from_residual.result
+    asks_failed g.D.Device.CONTEXTS seen c.args.device.now c.put_out.new.device (context_save_command c.args.handle) _ c.from_residual.result
     (err_from_is_err_and c.from_residual.result c.from_residual.ensures.1)
     (asks_told seen c.args.device.now c.put_out.new.device (Err _) items c.args.handle n under c.in_err-put_out.ensures.asks)
 
@@ -74,7 +75,15 @@ returns-clause-ok g c =
         last_is = out.reply_is.last_is;
         frame = out.reply_is.frame;
         success = told.0;
-        view_is = λ i. record { numbers = numbers; items = items_are i; next = out.reply_is.next_is i; order = []; saved = number_of_session c.args.handle ∷ []; left = [] };
+        view_is = λ i. record {
+          numbers = numbers;
+          items = items_are i;
+          next = out.reply_is.next_is i;
+          order = [];
+          saved = number_of_session c.args.handle ∷ [];
+          left = [];
+          contexts = PROFILE_CONTEXTS;
+        };
       },
       record {
         context = told.1;

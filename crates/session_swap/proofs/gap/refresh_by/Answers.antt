@@ -17,6 +17,7 @@ loop-renewed-init g c =
       moved = record {
         numbers = refl;
         left = refl;
+        contexts = refl;
         sessions = record { sessions = refl; holders = refl };
         stand = c.requires.stand;
         rest = record { base_is = refl; rest = refl; rises = omega arith; count = omega arith };
@@ -35,7 +36,7 @@ loop-renewed-init g c =
       counted = omega arith;
       order = order_start c.args.sessions.now;
       few = λ one. absurd (omega arith);
-      asks = asks_none g.D.Device.seen c.args.device.now;
+      asks = asks_none g.D.Device.CONTEXTS g.D.Device.seen c.args.device.now;
     }
 
 pub returns-in_default-clause-ok : goal.returns-in_default-clause-ok
@@ -84,6 +85,7 @@ loop-renewed-preserved g c =
       moved = record {
         numbers = again.numbers ∙ moved.numbers;
         left = again.left ∙ moved.left;
+        contexts = again.contexts ∙ moved.contexts;
         sessions = record {
           sessions = again.sessions.sessions ∙ moved.sessions.sessions;
           holders = again.sessions.holders ∙ moved.sessions.holders;
@@ -126,7 +128,7 @@ loop-renewed-preserved g c =
       order = order_next c.args.sessions.now sessions new_sessions c.loop-renewed.renewed held.order (λ none. (held.first none).1)
           (λ one. kept_none sessions sound (held.places one)) next.ok.1.order;
       few = λ one. few_saved c.args.sessions.now sessions sound moved.sessions.holders moved.numbers;
-      asks = asks_then seen c.args.device.now c.loop-renewed.device c.renew_by.new.device tt (Ok tt) held.asks next.asks;
+      asks = asks_then g.D.Device.CONTEXTS seen c.args.device.now c.loop-renewed.device c.renew_by.new.device tt (Ok tt) held.asks next.asks;
     }
 
 pub returns-clause-ok : goal.returns-clause-ok
@@ -193,6 +195,7 @@ returns-in_err-renew_by-clause-moved g c =
     record {
       numbers = again.numbers ∙ moved.numbers;
       left = again.left ∙ moved.left;
+      contexts = again.contexts ∙ moved.contexts;
       sessions = record {
         sessions = again.sessions.sessions ∙ moved.sessions.sessions;
         holders = again.sessions.holders ∙ moved.sessions.holders;
@@ -218,17 +221,17 @@ returns-in_err-renew_by-clause-recent g c =
 pub returns-in_err-renew_by-clause-asks : goal.returns-in_err-renew_by-clause-asks
 returns-in_err-renew_by-clause-asks g c =
     let seen = g.D.Device.seen in
-    asks_then seen c.args.device.now c.loop-renewed.device c.renew_by.new.device tt c.from_residual.result c.loop-renewed.invariant.asks
-    (some_failed seen c.loop-renewed.device c.renew_by.new.device _ c.from_residual.result
+    asks_then g.D.Device.CONTEXTS seen c.args.device.now c.loop-renewed.device c.renew_by.new.device tt c.from_residual.result c.loop-renewed.invariant.asks
+    (some_failed g.D.Device.CONTEXTS seen c.loop-renewed.device c.renew_by.new.device _ c.from_residual.result
     (err_from_is_err_and c.from_residual.result c.from_residual.ensures.1) c.in_err-renew_by.ensures.asks)
 
 pub returns-in_default-clause-asks : goal.returns-in_default-clause-asks
 returns-in_default-clause-asks g c =
-    some_ok g.D.Device.seen c.args.device.now c.loop-renewed.device tt c.loop-renewed.renewed c.loop-renewed.invariant.asks
+    some_ok g.D.Device.CONTEXTS g.D.Device.seen c.args.device.now c.loop-renewed.device tt c.loop-renewed.renewed c.loop-renewed.invariant.asks
 
 pub returns-clause-asks : goal.returns-clause-asks
 returns-clause-asks g c =
-    some_ok g.D.Device.seen c.args.device.now c.loop-renewed.device tt c.from-most.result c.loop-renewed.invariant.asks
+    some_ok g.D.Device.CONTEXTS g.D.Device.seen c.args.device.now c.loop-renewed.device tt c.from-most.result c.loop-renewed.invariant.asks
 
 pub returns-in_default-clause-counted : goal.returns-in_default-clause-counted
 returns-in_default-clause-counted g c = omega (arith, c.loop-renewed.invariant.counted, c.due.ensures.rises)

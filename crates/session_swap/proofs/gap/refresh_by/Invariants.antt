@@ -27,5 +27,5 @@ invariant-loop-renewed g l =
       counted : C.count l.fn.steps + l.renewed * (5 * C.weight) ≤ C.count l.steps;
       order : l.sessions.order ≡ drop (min l.renewed (full_kept l.fn.sessions)) l.fn.sessions.order;
       few : 1 ≤ l.renewed → AreFew (saved_items l.fn.sessions.items) l.fn.sessions.numbers;
-      asks : AsksSome {A = Unit {0}} D.seen l.fn.device l.device (Ok tt);
+      asks : AsksSome {A = Unit {0}} D.CONTEXTS D.seen l.fn.device l.device (Ok tt);
     }

@@ -75,9 +75,9 @@ returns-in_err-load-clause-asks g c =
     let records = c.args.records.now in
     let r = get_or records c.args.number c.index-records-number.result in
     let at = saved_at records c.args.number c.index-records-number.result c.requires.ready.1.sound c.requires.saved in
-    asks_in g.D.Device.seen c.args.device.now c.load.new.device _ (item_at (items_of records) c.args.number)
+    asks_in g.D.Device.CONTEXTS g.D.Device.seen c.args.device.now c.load.new.device _ (item_at (items_of records) c.args.number)
     r.client (handed_of r) r.handle at.number r.context.items _ at.was (c.bytes_of.ensures.same ∙ c.deref.ensures.value)
-    (asks_failed g.D.Device.seen c.args.device.now c.load.new.device _ _ c.from_residual.result
+    (asks_failed g.D.Device.CONTEXTS g.D.Device.seen c.args.device.now c.load.new.device _ _ c.from_residual.result
     (err_from_is_err_and c.from_residual.result c.from_residual.ensures.1) c.in_err-load.ensures.asks)
 
 pub returns-clause-asks : goal.returns-clause-asks
@@ -85,6 +85,6 @@ returns-clause-asks g c =
     let records = c.args.records.now in
     let r = get_or records c.args.number c.index-records-number.result in
     let at = saved_at records c.args.number c.index-records-number.result c.requires.ready.1.sound c.requires.saved in
-    asks_in g.D.Device.seen c.args.device.now c.load.new.device _ (item_at (items_of records) c.args.number)
+    asks_in g.D.Device.CONTEXTS g.D.Device.seen c.args.device.now c.load.new.device _ (item_at (items_of records) c.args.number)
     r.client (handed_of r) r.handle at.number r.context.items _ at.was (c.bytes_of.ensures.same ∙ c.deref.ensures.value)
-    (asks_ok g.D.Device.seen c.args.device.now c.load.new.device _ _ _ c.in_ok-load.ensures.asks)
+    (asks_ok g.D.Device.CONTEXTS g.D.Device.seen c.args.device.now c.load.new.device _ _ _ c.in_ok-load.ensures.asks)

@@ -102,9 +102,9 @@ returns-in_err-context-clause-asks g c =
     let records = c.args.records.now in
     let r = get_or records c.args.number c.index-records-number.result in
     let at = loaded_at records c.args.number c.index-records-number.result c.requires.ready.2.sound c.requires.loaded in
-    asks_at g.D.Device.seen c.args.device.now c.save.new.device _ (item_at (items_of records) c.args.number)
+    asks_at g.D.Device.CONTEXTS g.D.Device.seen c.args.device.now c.save.new.device _ (item_at (items_of records) c.args.number)
     (unsaved_item r.client (handed_of r) r.handle) (λ item. context_save_command item.handle) at.was
-    (asks_failed g.D.Device.seen c.args.device.now c.save.new.device (context_save_command r.handle) _ c.from_residual.result
+    (asks_failed g.D.Device.CONTEXTS g.D.Device.seen c.args.device.now c.save.new.device (context_save_command r.handle) _ c.from_residual.result
     (err_from_is_err_and c.from_residual.result c.from_residual.ensures.1) c.in_err-context.ensures.asks)
 
 pub returns-clause-ok : goal.returns-clause-ok
@@ -136,6 +136,6 @@ returns-clause-asks g c =
     let records = c.args.records.now in
     let r = get_or records c.args.number c.index-records-number.result in
     let at = loaded_at records c.args.number c.index-records-number.result c.requires.ready.2.sound c.requires.loaded in
-    asks_at g.D.Device.seen c.args.device.now c.save.new.device _ (item_at (items_of records) c.args.number)
+    asks_at g.D.Device.CONTEXTS g.D.Device.seen c.args.device.now c.save.new.device _ (item_at (items_of records) c.args.number)
     (unsaved_item r.client (handed_of r) r.handle) (λ item. context_save_command item.handle) at.was
-    (asks_ok g.D.Device.seen c.args.device.now c.save.new.device (context_save_command r.handle) _ _ c.in_ok-context.ensures.asks)
+    (asks_ok g.D.Device.CONTEXTS g.D.Device.seen c.args.device.now c.save.new.device (context_save_command r.handle) _ _ c.in_ok-context.ensures.asks)

@@ -8,7 +8,7 @@ use Rattle.session_swap.proofs.kept.find_orphan.Goals as goal
 
 pub returns-then-is_orphan : goal.returns-then-is_orphan
 returns-then-is_orphan c =
-    orphan_found c.args.records.now c.loop-record.record-index c.record-item.result c.requires (omega arith) c.record-item.is
+    orphan_found c.args.records.now c.loop-record.record-index c.record-item.result c.requires.1 (omega arith) c.record-item.is
     (sym c.is_orphan.ensures ∙ c.if-is_orphan.true)
 
 pub loop-record-preserved : goal.loop-record-preserved

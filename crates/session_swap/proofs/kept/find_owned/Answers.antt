@@ -11,11 +11,11 @@ returns-then-is_of c =
     let records = c.args.records.now in
     let number = c.loop-record.record-index in
     let owned = sym c.is_of.ensures ∙ c.if-is_of.true in
-    let found = owned_found records number c.args.client c.record-item.result c.requires (omega arith) c.record-item.is owned in (
+    let found = owned_found records number c.args.client c.record-item.result c.requires.1 (omega arith) c.record-item.is owned in (
       found.0,
       found.1,
       λ lower less. c.loop-record.invariant lower
-          (omega (arith, less, owned_number records number c.args.client c.record-item.result c.requires (omega arith) c.record-item.is owned)),
+          (omega (arith, less, owned_number records number c.args.client c.record-item.result c.requires.1 (omega arith) c.record-item.is owned)),
     )
 
 pub loop-record-preserved : goal.loop-record-preserved

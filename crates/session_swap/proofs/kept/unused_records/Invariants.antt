@@ -8,6 +8,6 @@ use Rattle.session_swap.proofs.kept.unused_records.Given as goal
 abbrev pub invariant-loop : goal.invariant-loop
 invariant-loop l = record {
   none : items_of l.records.items ≡ replicate l.counter None;
-  each : All (λ r. IsRecord r) l.records.items;
+  each : All (λ r. IsRecord l.contexts r) l.records.items;
   room : SESSION_NUMBERS ≤ vec_capacity l.records;
 }

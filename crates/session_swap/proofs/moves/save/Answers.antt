@@ -20,7 +20,7 @@ pub slice_bounds-saved-count : goal.slice_bounds-saved-count
 slice_bounds-saved-count g c =
     let bytes = ap (command_bytes CC_CONTEXT_SAVE) c.to_be_bytes.ensures in
     let is = c.as_slice.ensures.same ∙ c.command_of-command.ensures ∙ bytes in
-    let reply = save_reply c.args.handle _ c.ask.new.scratch c.as_slice-2.result.now c.ranges.handle.fits c.requires.session is
+    let reply = save_reply g.D.Device.CONTEXTS c.args.handle _ c.ask.new.scratch c.as_slice-2.result.now c.ranges.handle.fits c.requires.session is
     c.in_ok-ask.ensures.success c.as_slice-2.ensures.value in
     reply.long
 
@@ -28,7 +28,7 @@ pub slice_bounds-saved-start : goal.slice_bounds-saved-start
 slice_bounds-saved-start g c =
     let bytes = ap (command_bytes CC_CONTEXT_SAVE) c.to_be_bytes.ensures in
     let is = c.as_slice.ensures.same ∙ c.command_of-command.ensures ∙ bytes in
-    let reply = save_reply c.args.handle _ c.ask.new.scratch c.as_slice-2.result.now c.ranges.handle.fits c.requires.session is
+    let reply = save_reply g.D.Device.CONTEXTS c.args.handle _ c.ask.new.scratch c.as_slice-2.result.now c.ranges.handle.fits c.requires.session is
     c.in_ok-ask.ensures.success c.as_slice-2.ensures.value in
     reply.long
 
@@ -36,7 +36,7 @@ pub unwrap-requires : goal.unwrap-requires
 unwrap-requires g c =
     let bytes = ap (command_bytes CC_CONTEXT_SAVE) c.to_be_bytes.ensures in
     let is = c.as_slice.ensures.same ∙ c.command_of-command.ensures ∙ bytes in
-    let reply = save_reply c.args.handle _ c.ask.new.scratch c.as_slice-2.result.now c.ranges.handle.fits c.requires.session is
+    let reply = save_reply g.D.Device.CONTEXTS c.args.handle _ c.ask.new.scratch c.as_slice-2.result.now c.ranges.handle.fits c.requires.session is
     c.in_ok-ask.ensures.success c.as_slice-2.ensures.value in
     c.extend_from_slice.ensures.succeeds
     (omega (arith, c.clear.ensures.len, c.clear.ensures.capacity, c.requires.room, ap length reply.rest, reply.known.most))
@@ -45,7 +45,7 @@ pub number_of-requires : goal.number_of-requires
 number_of-requires g c =
     let bytes = ap (command_bytes CC_CONTEXT_SAVE) c.to_be_bytes.ensures in
     let is = c.as_slice.ensures.same ∙ c.command_of-command.ensures ∙ bytes in
-    let reply = save_reply c.args.handle _ c.ask.new.scratch c.as_slice-2.result.now c.ranges.handle.fits c.requires.session is
+    let reply = save_reply g.D.Device.CONTEXTS c.args.handle _ c.ask.new.scratch c.as_slice-2.result.now c.ranges.handle.fits c.requires.session is
     c.in_ok-ask.ensures.success c.as_slice-2.ensures.value in
     omega (arith, ap length reply.rest, reply.known.long)
 
@@ -57,7 +57,7 @@ returns-clause-saved g c =
     let answer = c.as_slice-2.result.now in
     let bytes = ap (command_bytes CC_CONTEXT_SAVE) c.to_be_bytes.ensures in
     let is = c.as_slice.ensures.same ∙ c.command_of-command.ensures ∙ bytes in
-    let reply = save_reply handle _ last answer c.ranges.handle.fits c.requires.session is c.in_ok-ask.ensures.success
+    let reply = save_reply g.D.Device.CONTEXTS handle _ last answer c.ranges.handle.fits c.requires.session is c.in_ok-ask.ensures.success
     c.as_slice-2.ensures.value in
     let told = save_answered _ _ handle _ last c.ranges.handle.fits c.requires.session c.requires.told is c.in_ok-ask.ensures.ok in
     let number = c.number_of.ensures ∙ ap (λ (bytes : List ℕ). from_be_bytes w64 (take 8 bytes)) reply.rest in
@@ -70,10 +70,10 @@ returns-clause-saved g c =
       same = subst (λ (n : ℕ). IfSome state (IsSavedIn handle n c.extend_from_slice.new.self.items)) (sym number)
           (subst (λ (context : List ℕ). IfSome state (IsSavedIn handle (number_in last) context)) (sym kept) told.same);
       told = told.context;
-      kept = subst (λ (n : ℕ). IsContext handle n c.extend_from_slice.new.self.items) (sym number)
-          (subst (λ (context : List ℕ). IsContext handle (number_in last) context) (sym kept) reply.context);
+      kept = subst (λ (n : ℕ). IsContext g.D.Device.CONTEXTS handle n c.extend_from_slice.new.self.items) (sym number)
+          (subst (λ (context : List ℕ). IsContext g.D.Device.CONTEXTS handle (number_in last) context) (sym kept) reply.context);
       last = c.in_ok-ask.ensures.last;
-      success = subst (λ (asked : List ℕ). Succeeds asked last) is c.in_ok-ask.ensures.success;
+      success = subst (λ (asked : List ℕ). Succeeds g.D.Device.CONTEXTS asked last) is c.in_ok-ask.ensures.success;
       bytes = kept;
       begins = c.number_of.ensures ∙ ap context_number reply.rest;
     }

@@ -29,7 +29,7 @@ loop-records-init g c = record {
       ∙ ap (λ (n : ℕ). order_evicted n (numbers_of c.args.needed.now) c.args.order.now) none;
   sent = omega arith;
   idle = λ room. (refl, refl, refl);
-  asks = asks_none g.D.Device.seen c.args.device.now;
+  asks = asks_none g.D.Device.CONTEXTS g.D.Device.seen c.args.device.now;
 }
 
 pub unwrap-number-requires : goal.unwrap-number-requires
@@ -120,7 +120,7 @@ loop-records-preserved g c =
     let less = one_fewer mid new_items number is saves.saved_is saves.items_are in
     let was = ready.listed.lists.count in
     let count = c.loaded.ensures in
-    let sent = sent_any g.D.Device.seen c.loop-records.device c.put_out.new.device (Ok tt) (item_at mid number) (λ item. context_save_command item.handle)
+    let sent = sent_any g.D.Device.CONTEXTS g.D.Device.seen c.loop-records.device c.put_out.new.device (Ok tt) (item_at mid number) (λ item. context_save_command item.handle)
     next.asks in
     record {
       swaps = swaps_then _ c.args.device.now c.loop-records.device c.put_out.new.device _ _ _ held.swaps next.swaps;
@@ -151,8 +151,8 @@ loop-records-preserved g c =
           (omega (arith, less, held.less)) held.order gone one c.move_out.ensures.order;
       sent = omega (arith, less, sent, held.sent);
       idle = λ few. absurd (omega (arith, few, full, count, was, held.less));
-      asks = asks_then g.D.Device.seen c.args.device.now c.loop-records.device c.put_out.new.device tt (Ok tt) held.asks
-          (asks_any g.D.Device.seen c.loop-records.device c.put_out.new.device (Ok tt) (item_at mid number) (λ item. context_save_command item.handle)
+      asks = asks_then g.D.Device.CONTEXTS g.D.Device.seen c.args.device.now c.loop-records.device c.put_out.new.device tt (Ok tt) held.asks
+          (asks_any g.D.Device.CONTEXTS g.D.Device.seen c.loop-records.device c.put_out.new.device (Ok tt) (item_at mid number) (λ item. context_save_command item.handle)
           next.asks);
     }
 
@@ -196,7 +196,7 @@ returns-in_err-put_out-clause-evicts g c =
     let mid = items_of c.loop-records.records in
     let stays = c.in_err-put_out.ensures.err.0 in
     let failed = err_from_is_err_and c.from_residual.result c.from_residual.ensures.1 in
-    let sent = sent_any g.D.Device.seen c.loop-records.device c.put_out.new.device (Err _) (item_at mid c.unwrap-number.result)
+    let sent = sent_any g.D.Device.CONTEXTS g.D.Device.seen c.loop-records.device c.put_out.new.device (Err _) (item_at mid c.unwrap-number.result)
     (λ item. context_save_command item.handle)
     c.in_err-put_out.ensures.asks in
     record {
@@ -230,8 +230,8 @@ returns-in_err-put_out-clause-idle g c few =
 pub returns-in_err-put_out-clause-asks : goal.returns-in_err-put_out-clause-asks
 returns-in_err-put_out-clause-asks g c =
     let seen = g.D.Device.seen in
-    let failed = asks_any seen c.loop-records.device c.put_out.new.device (Err _) (item_at (items_of c.loop-records.records) c.unwrap-number.result)
+    let failed = asks_any g.D.Device.CONTEXTS seen c.loop-records.device c.put_out.new.device (Err _) (item_at (items_of c.loop-records.records) c.unwrap-number.result)
     (λ item. context_save_command item.handle) c.in_err-put_out.ensures.asks in
-    asks_then seen c.args.device.now c.loop-records.device c.put_out.new.device tt c.from_residual.result c.loop-records.invariant.asks
-    (some_failed seen c.loop-records.device c.put_out.new.device _ c.from_residual.result
+    asks_then g.D.Device.CONTEXTS seen c.args.device.now c.loop-records.device c.put_out.new.device tt c.from_residual.result c.loop-records.invariant.asks
+    (some_failed g.D.Device.CONTEXTS seen c.loop-records.device c.put_out.new.device _ c.from_residual.result
     (err_from_is_err_and c.from_residual.result c.from_residual.ensures.1) failed)

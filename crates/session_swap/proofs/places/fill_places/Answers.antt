@@ -31,7 +31,7 @@ loop-handle-init g c =
       paid = omega arith;
       idle = λ all. (refl, refl);
       order = refl;
-      asks = asks_none g.D.Device.seen c.args.device.now;
+      asks = asks_none g.D.Device.CONTEXTS g.D.Device.seen c.args.device.now;
     }
 
 -- where a session that is needed isn't loaded, a place is free
@@ -106,7 +106,7 @@ loop-handle-preserved g c =
           let used : c.make_loaded.new.order ≡ order_in (get_or numbers index 0) c.loop-handle.order =
           brings.order ∙ ap (λ (n : ℕ). order_in n c.loop-handle.order) (sym (number_at needed index inside)) in
           used ∙ ap (order_in (get_or numbers index 0)) held.order ∙ filled_next numbers c.args.order.now index within;
-      asks = asks_then g.D.Device.seen c.args.device.now c.loop-handle.device c.make_loaded.new.device tt (Ok tt) held.asks next.asks;
+      asks = asks_then g.D.Device.CONTEXTS g.D.Device.seen c.args.device.now c.loop-handle.device c.make_loaded.new.device tt (Ok tt) held.asks next.asks;
     }
 
 pub returns-clause-fills : goal.returns-clause-fills
@@ -158,8 +158,8 @@ returns-in_err-make_loaded-clause-fills g c =
 pub returns-in_err-make_loaded-clause-asks : goal.returns-in_err-make_loaded-clause-asks
 returns-in_err-make_loaded-clause-asks g c =
     let seen = g.D.Device.seen in
-    asks_then seen c.args.device.now c.loop-handle.device c.make_loaded.new.device tt c.from_residual.result c.loop-handle.invariant.asks
-    (some_failed seen c.loop-handle.device c.make_loaded.new.device _ c.from_residual.result
+    asks_then g.D.Device.CONTEXTS seen c.args.device.now c.loop-handle.device c.make_loaded.new.device tt c.from_residual.result c.loop-handle.invariant.asks
+    (some_failed g.D.Device.CONTEXTS seen c.loop-handle.device c.make_loaded.new.device _ c.from_residual.result
     (err_from_is_err_and c.from_residual.result c.from_residual.ensures.1) c.in_err-make_loaded.ensures.asks)
 
 pub returns-in_err-make_loaded-clause-ready : goal.returns-in_err-make_loaded-clause-ready

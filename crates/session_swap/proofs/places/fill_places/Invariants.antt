@@ -16,8 +16,8 @@ invariant-loop-handle g l =
     let new_items = items_of l.records in
     record {
       swaps : Swaps D.seen l.fn.device l.device l.fn.records l.records;
-      ready : (numbers : Numbers) → ReadyIn (D.seen l.fn.device).state numbers l.fn.records l.fn.next l.fn.order
-          → CanFill numbers l.fn.records l.needed → ReadyIn (D.seen l.device).state numbers l.records l.next l.order;
+      ready : (numbers : Numbers) → ReadyIn D.CONTEXTS (D.seen l.fn.device).state numbers l.fn.records l.fn.next l.fn.order
+          → CanFill numbers l.fn.records l.needed → ReadyIn D.CONTEXTS (D.seen l.device).state numbers l.records l.next l.order;
       counter : counter_of (D.seen l.device).state ≡ counter_of (D.seen l.fn.device).state;
       filled : (k : ℕ) → k < l.handle-index → is_loaded_item (item_of new_items (get_or l.needed k 0)) ≡ true;
       stay : (number : ℕ) → is_loaded_item (item_at items number) ≡ true → item_at new_items number ≡ item_at items number;
@@ -26,5 +26,5 @@ invariant-loop-handle g l =
       paid : sent_of (D.seen l.device) + loaded_items items ≤ sent_of (D.seen l.fn.device) + loaded_items new_items;
       idle : AreLoaded l.needed items → (l.device ≡ l.fn.device) × (l.records ≡ l.fn.records);
       order : l.order ≡ order_filled (take l.handle-index (numbers_of l.needed)) l.fn.order;
-      asks : AsksSome {A = Unit {0}} D.seen l.fn.device l.device (Ok tt);
+      asks : AsksSome {A = Unit {0}} D.CONTEXTS D.seen l.fn.device l.device (Ok tt);
     }

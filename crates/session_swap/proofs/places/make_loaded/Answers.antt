@@ -98,14 +98,14 @@ returns-clause-brings g c =
     let loads = c.in_ok-bring_in.ensures.ok in
     brings_one seen c.args.device.now c.bring_in.new.device records c.bring_in.new.records c.args.order.now c.move_in.new.self
     number c.args.handle c.number_of-number.ensures fits c.requires.named out loads.loaded_is loads.items_are c.move_in.ensures.order
-    (sent_loaded seen c.args.device.now c.bring_in.new.device (Ok tt) (item_at (items_of records) number) c.in_ok-bring_in.ensures.asks)
+    (sent_loaded g.D.Device.CONTEXTS seen c.args.device.now c.bring_in.new.device (Ok tt) (item_at (items_of records) number) c.in_ok-bring_in.ensures.asks)
 
 pub returns-then-is_loaded-clause-asks : goal.returns-then-is_loaded-clause-asks
-returns-then-is_loaded-clause-asks g c = asks_none g.D.Device.seen c.args.device.now
+returns-then-is_loaded-clause-asks g c = asks_none g.D.Device.CONTEXTS g.D.Device.seen c.args.device.now
 
 pub returns-clause-asks : goal.returns-clause-asks
 returns-clause-asks g c =
-    asks_loaded g.D.Device.seen c.args.device.now c.bring_in.new.device (Ok tt) (item_at (items_of c.args.records.now) c.number_of-number.result)
+    asks_loaded g.D.Device.CONTEXTS g.D.Device.seen c.args.device.now c.bring_in.new.device (Ok tt) (item_at (items_of c.args.records.now) c.number_of-number.result)
     c.in_ok-bring_in.ensures.asks
 
 pub returns-clause-counter : goal.returns-clause-counter
@@ -131,11 +131,11 @@ returns-in_err-bring_in-clause-brings g c =
     brings_none seen c.args.device.now c.bring_in.new.device records c.bring_in.new.records c.args.order.now number
     c.args.handle c.from_residual.result _ failed.1
     c.number_of-number.ensures c.requires.named out c.in_err-bring_in.ensures.err.items_are
-    (sent_loaded seen c.args.device.now c.bring_in.new.device (Err _) (item_at (items_of records) number) c.in_err-bring_in.ensures.asks)
+    (sent_loaded g.D.Device.CONTEXTS seen c.args.device.now c.bring_in.new.device (Err _) (item_at (items_of records) number) c.in_err-bring_in.ensures.asks)
 
 pub returns-in_err-bring_in-clause-asks : goal.returns-in_err-bring_in-clause-asks
 returns-in_err-bring_in-clause-asks g c =
     let seen = g.D.Device.seen in
-    some_failed seen c.args.device.now c.bring_in.new.device _ c.from_residual.result (err_from_is_err_and c.from_residual.result c.from_residual.ensures.1)
-    (asks_loaded seen c.args.device.now c.bring_in.new.device (Err _) (item_at (items_of c.args.records.now) c.number_of-number.result)
+    some_failed g.D.Device.CONTEXTS seen c.args.device.now c.bring_in.new.device _ c.from_residual.result (err_from_is_err_and c.from_residual.result c.from_residual.ensures.1)
+    (asks_loaded g.D.Device.CONTEXTS seen c.args.device.now c.bring_in.new.device (Err _) (item_at (items_of c.args.records.now) c.number_of-number.result)
     c.in_err-bring_in.ensures.asks)

@@ -141,7 +141,7 @@ returns-in_err-clear_places-clause-room g c =
 
 pub returns-clause-asks : goal.returns-clause-asks
 returns-clause-asks g c =
-    asks_then g.D.Device.seen _ c.clear_places.new.device _ tt c.fill_places.result c.in_ok-clear_places.ensures.asks c.fill_places.ensures.asks
+    asks_then g.D.Device.CONTEXTS g.D.Device.seen _ c.clear_places.new.device _ tt c.fill_places.result c.in_ok-clear_places.ensures.asks c.fill_places.ensures.asks
 
 pub returns-clause-ready : goal.returns-clause-ready
 returns-clause-ready g c =

@@ -20,7 +20,7 @@ bounds-records-number c =
 pub offset_bounds-records-number : goal.offset_bounds-records-number
 offset_bounds-records-number c =
     let inside = bounds-records-number c in
-    omega (arith, inside, c.requires.sound.count)
+    omega (arith, inside, c.requires.sound.1.count)
 
 pub returns-then-not-is_needed : goal.returns-then-not-is_needed
 returns-then-not-is_needed c =

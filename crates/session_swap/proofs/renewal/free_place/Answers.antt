@@ -135,7 +135,7 @@ returns-clause-counts g c =
             omega (
               arith,
               kept_full (view_of c.args.numbers records c.args.next.now) (omega (arith, full, listed.lists.count, listed.most)),
-              sent_any g.D.Device.seen c.args.device.now out.new.device out.result (item_at (items_of records) number)
+              sent_any g.D.Device.CONTEXTS g.D.Device.seen c.args.device.now out.new.device out.result (item_at (items_of records) number)
                   (λ item. context_save_command item.handle) out.ensures.asks,
             );
       },
@@ -148,10 +148,10 @@ returns-clause-counts g c =
     )
 
 pub returns-then-loaded-from-clause-asks : goal.returns-then-loaded-from-clause-asks
-returns-then-loaded-from-clause-asks g c = asks_none g.D.Device.seen c.args.device.now
+returns-then-loaded-from-clause-asks g c = asks_none g.D.Device.CONTEXTS g.D.Device.seen c.args.device.now
 
 pub returns-clause-asks : goal.returns-clause-asks
 returns-clause-asks g c =
-    asks_any g.D.Device.seen c.args.device.now c.put_out-saved.new.device c.put_out-saved.result
+    asks_any g.D.Device.CONTEXTS g.D.Device.seen c.args.device.now c.put_out-saved.new.device c.put_out-saved.result
     (item_at (items_of c.args.records.now) c.unwrap-number.result)
     (λ item. context_save_command item.handle) c.put_out-saved.ensures.asks

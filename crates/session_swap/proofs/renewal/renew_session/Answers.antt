@@ -111,7 +111,7 @@ returns-clause-ok g c =
     let none = unlisted (items_of mid) c.free_place.new.order.loaded number frees.ready.listed.lists
     (ap is_loaded_item (kept.others number c.requires.oldest.saved) ∙ not_loaded (item_at items number) c.requires.oldest.saved) in
     let was = subst (λ (item : Option Item). is_saved_item item ≡ true) (sym (kept.others number c.requires.oldest.saved)) c.requires.oldest.saved in
-    let answered = answered_any seen c.bring_in.new.device c.put_out-saved.new.device c.put_out-saved.result (item_at brought number)
+    let answered = answered_any g.D.Device.CONTEXTS seen c.bring_in.new.device c.put_out-saved.new.device c.put_out-saved.result (item_at brought number)
     (λ item. context_save_command item.handle) c.put_out-saved.ensures.asks in
     on_ok_three c.put_out-saved.result _ _ _ c.put_out-saved.ensures.ok answered c.list_saved.ensures.ok
     (λ out asks gone. (
@@ -167,8 +167,8 @@ returns-clause-kept g c =
         sent = omega (
           arith,
           counts.0.sent,
-          sent_loaded seen c.free_place.new.device c.bring_in.new.device (Ok tt) (item_at (items_of mid) number) c.in_ok-bring_in.ensures.asks,
-          sent_any seen c.bring_in.new.device out.new.device out.result (item_at brought number) (λ item. context_save_command item.handle)
+          sent_loaded g.D.Device.CONTEXTS seen c.free_place.new.device c.bring_in.new.device (Ok tt) (item_at (items_of mid) number) c.in_ok-bring_in.ensures.asks,
+          sent_any g.D.Device.CONTEXTS seen c.bring_in.new.device out.new.device out.result (item_at brought number) (λ item. context_save_command item.handle)
               out.ensures.asks,
         );
       },
@@ -192,7 +192,7 @@ returns-in_err-bring_in-clause-kept g c =
         sent = omega (
           arith,
           counts.0.sent,
-          sent_loaded seen c.free_place.new.device c.bring_in.new.device (Err _) (item_at (items_of mid) number) c.in_err-bring_in.ensures.asks,
+          sent_loaded g.D.Device.CONTEXTS seen c.free_place.new.device c.bring_in.new.device (Err _) (item_at (items_of mid) number) c.in_err-bring_in.ensures.asks,
         );
       },
       omega (arith, counts.1),
@@ -202,11 +202,11 @@ pub returns-clause-asks : goal.returns-clause-asks
 returns-clause-asks g c =
     let seen = g.D.Device.seen in
     let brought = c.bring_in.new.device in
-    let loaded = asks_loaded seen c.free_place.new.device brought (Ok tt) (item_at (items_of c.free_place.new.records) c.args.number)
+    let loaded = asks_loaded g.D.Device.CONTEXTS seen c.free_place.new.device brought (Ok tt) (item_at (items_of c.free_place.new.records) c.args.number)
     c.in_ok-bring_in.ensures.asks in
-    asks_then seen c.args.device.now brought c.put_out-saved.new.device tt c.put_out-saved.result
-    (asks_then seen c.args.device.now c.free_place.new.device brought tt (Ok tt) c.in_ok-free_place.ensures.asks loaded)
-    (asks_any seen brought c.put_out-saved.new.device c.put_out-saved.result (item_at (items_of c.bring_in.new.records) c.args.number)
+    asks_then g.D.Device.CONTEXTS seen c.args.device.now brought c.put_out-saved.new.device tt c.put_out-saved.result
+    (asks_then g.D.Device.CONTEXTS seen c.args.device.now c.free_place.new.device brought tt (Ok tt) c.in_ok-free_place.ensures.asks loaded)
+    (asks_any g.D.Device.CONTEXTS seen brought c.put_out-saved.new.device c.put_out-saved.result (item_at (items_of c.bring_in.new.records) c.args.number)
     (λ item. context_save_command item.handle) c.put_out-saved.ensures.asks)
 
 pub returns-in_err-bring_in-clause-asks : goal.returns-in_err-bring_in-clause-asks
@@ -214,7 +214,7 @@ returns-in_err-bring_in-clause-asks g c =
     let seen = g.D.Device.seen in
     let brought = c.bring_in.new.device in
     let returned = c.from_residual-in_err-bring_in in
-    asks_then seen c.args.device.now c.free_place.new.device brought tt returned.result c.in_ok-free_place.ensures.asks
-    (some_failed seen c.free_place.new.device brought _ returned.result (err_from_is_err_and returned.result returned.ensures.1)
-    (asks_loaded seen c.free_place.new.device brought (Err _) (item_at (items_of c.free_place.new.records) c.args.number)
+    asks_then g.D.Device.CONTEXTS seen c.args.device.now c.free_place.new.device brought tt returned.result c.in_ok-free_place.ensures.asks
+    (some_failed g.D.Device.CONTEXTS seen c.free_place.new.device brought _ returned.result (err_from_is_err_and returned.result returned.ensures.1)
+    (asks_loaded g.D.Device.CONTEXTS seen c.free_place.new.device brought (Err _) (item_at (items_of c.free_place.new.records) c.args.number)
     c.in_err-bring_in.ensures.asks))

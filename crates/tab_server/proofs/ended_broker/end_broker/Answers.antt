@@ -33,9 +33,9 @@ returns-clause-ended g c =
           subst (λ (h : List Entry). HoldsLeft broker.began (D.seen device).faults h slots (world_of o.persist o.numbers.active h).left) is_journal
           (subst (λ (n : ℕ). HoldsLeft broker.began n broker.journal slots (world_of o.persist o.numbers.active broker.journal).left) (ap (λ d. (D.seen d).faults) is_device)
           (held o slots is_base (ap (λ d. (D.seen d).state) is_device ∙ is_state)));
-      right = λ none. subst (λ (d : _). IsRight (asked_of (D.seen d)) (last_of (D.seen d))) is_device (end.last_answer.right (sym wrong ∙ none));
+      right = λ none. subst (λ (d : _). IsRight D.CONTEXTS (asked_of (D.seen d)) (last_of (D.seen d))) is_device (end.last_answer.right (sym wrong ∙ none));
       answer =
-          subst (λ (w : Option ℕ). IfSome w (IsWrongAnswer (asked_of (D.seen device)) (last_of (D.seen device)))) (sym wrong)
-          (subst (λ (d : _). IfSome broker.wrong_code (IsWrongAnswer (asked_of (D.seen d)) (last_of (D.seen d)))) is_device end.last_answer.answer);
+          subst (λ (w : Option ℕ). IfSome w (IsWrongAnswer D.CONTEXTS (asked_of (D.seen device)) (last_of (D.seen device)))) (sym wrong)
+          (subst (λ (d : _). IfSome broker.wrong_code (IsWrongAnswer D.CONTEXTS (asked_of (D.seen d)) (last_of (D.seen d)))) is_device end.last_answer.answer);
       taken = λ some. wrong ∙ subst (λ (d : _). IsSome (D.seen d).state → broker.wrong_code ≡ None) is_device end.last_answer.taken some;
     }

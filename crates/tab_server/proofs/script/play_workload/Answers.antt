@@ -15,7 +15,7 @@ returns-in-Ok-clause-leaves g c left input =
     let leaves = rw (began.began_is, began.limit_is, began.base_is, c.new-script.ensures, c.new-tally.ensures) at over.ensures.leaves in
     let to_end = rw (began.limit_is, c.new-script.ensures, c.new-tally.ensures) at over.ensures.to_end in
     rw c.finished.ensures
-    (leaves_all plan.limit plan.audit plan.start plan.lines (told_origin (g.D.Device.seen c.args.device).base (g.D.Device.seen c.args.device).state) (g.D.Device.seen c.args.device).faults (g.D.Device.seen device) (Some over.new.input) over.new.output left
+    (leaves_all g.D.Device.CONTEXTS plan.limit plan.audit plan.start plan.lines (told_origin (g.D.Device.seen c.args.device).base (g.D.Device.seen c.args.device).state) (g.D.Device.seen c.args.device).faults (g.D.Device.seen device) (Some over.new.input) over.new.output left
     (g.O.Sink.written c.args.output.now) (g.O.Sink.written summary.new.output) (g.O.Sink.written audit.new.output)
     input (g.O.Sink.faults c.args.output.now) (g.O.Sink.faults summary.new.output) (g.O.Sink.faults audit.new.output)
     over.result.whole over.result.cause summary.result audit.result over.result.journal.entries c.requires.lines c.replies_are_bytes.ensures leaves to_end
@@ -29,5 +29,5 @@ pub returns-in-Err-clause-leaves : goal.returns-in-Err-clause-leaves
 returns-in-Err-clause-leaves g c left input =
     let plan = c.args.plan.now in
     rw c.in-Err.ensures.none.0
-    (unbegun_workload plan.limit plan.audit plan.start plan.lines (before_of (told_origin (g.D.Device.seen c.args.device).base (g.D.Device.seen c.args.device).state) ((g.D.Device.seen c.args.device).faults) (left) (input) (g.O.Sink.written c.args.output.now) (g.O.Sink.faults c.args.output.now)) (after_of (g.D.Device.seen c.in-Err.unplayed.device) (left) (input) (g.O.Sink.written c.args.output.now) (g.O.Sink.faults c.args.output.now)) c.in-Err.unplayed.status c.in-Err.unplayed.detail
+    (unbegun_workload plan.limit plan.audit plan.start plan.lines (before_of g.D.Device.CONTEXTS (told_origin (g.D.Device.seen c.args.device).base (g.D.Device.seen c.args.device).state) ((g.D.Device.seen c.args.device).faults) (left) (input) (g.O.Sink.written c.args.output.now) (g.O.Sink.faults c.args.output.now)) (after_of (g.D.Device.seen c.in-Err.unplayed.device) (left) (input) (g.O.Sink.written c.args.output.now) (g.O.Sink.faults c.args.output.now)) c.in-Err.unplayed.status c.in-Err.unplayed.detail
     (c.in-Err.ensures.leaves plan.audit left (g.O.Sink.written c.args.output.now) input (g.O.Sink.faults c.args.output.now)) refl refl)

@@ -23,7 +23,7 @@ returns-in-Ok-clause-leaves g c left input =
     (λ j. j.entries) _ _ _ _ _ _ left input _ _ _ _ _ _ _ _ _ _ c.end_broker-device.result.2 None _ _ _ _ _ _ _
     served.fixed c.end_broker-device.ensures.journal told.device told.journal (ap (λ v. v.items) told.links)
     c.end_broker-device.ensures.ended told.told (ok_of _ _ c.in-Ok.is served.quiet)
-    (served_told (IsLinkDone g.A.In.Source.left g.A.Out.Sink.written g.A.In.Source.faults g.A.Out.Sink.faults (record { base = origin_of (g.D.Device.seen c.args.broker.device).base c.args.broker.held.sessions.numbers; limit = c.args.broker.limit; began = c.args.broker.began })) (λ (link : LinkDone _ _). link.client) _ _ _ _ _ _ _
+    (served_told (IsLinkDone g.A.In.Source.left g.A.Out.Sink.written g.A.In.Source.faults g.A.Out.Sink.faults (record { base = origin_of (g.D.Device.seen c.args.broker.device).base c.args.broker.held.sessions.numbers; limit = c.args.broker.limit; began = c.args.broker.began; contexts = g.D.Device.CONTEXTS })) (λ (link : LinkDone _ _). link.client) _ _ _ _ _ _ _
     (wrong_told _ c.end_broker-device.result.2 None _ _ _ _ _ _ _ _ c.end_broker-device.ensures.wrong told.told) served.served) (λ none. ok_of _ _ c.in-Ok.is served.enough)
 
 pub returns-in-Err-Failed-clause-leaves : goal.returns-in-Err-Failed-clause-leaves
@@ -35,7 +35,7 @@ returns-in-Err-Failed-clause-leaves g c left input =
     (λ j. j.entries) _ _ _ _ _ _ left input _ _ _ _ _ _ _ _ _ _ c.end_broker-device.result.2 (Some c.fault_count-count.result) _ _ _ _ _ _ _
     served.fixed c.end_broker-device.ensures.journal told.device told.journal (ap (λ v. v.items) told.links)
     c.end_broker-device.ensures.ended told.told (served.failed (err_of _ _ errors.Failed c.in-Err-Failed.is is), c.fault_count-count.ensures)
-    (served_told (IsLinkDone g.A.In.Source.left g.A.Out.Sink.written g.A.In.Source.faults g.A.Out.Sink.faults (record { base = origin_of (g.D.Device.seen c.args.broker.device).base c.args.broker.held.sessions.numbers; limit = c.args.broker.limit; began = c.args.broker.began })) (λ (link : LinkDone _ _). link.client) _ _ _ _ _ _ _
+    (served_told (IsLinkDone g.A.In.Source.left g.A.Out.Sink.written g.A.In.Source.faults g.A.Out.Sink.faults (record { base = origin_of (g.D.Device.seen c.args.broker.device).base c.args.broker.held.sessions.numbers; limit = c.args.broker.limit; began = c.args.broker.began; contexts = g.D.Device.CONTEXTS })) (λ (link : LinkDone _ _). link.client) _ _ _ _ _ _ _
     (wrong_told _ c.end_broker-device.result.2 (Some c.fault_count-count.result) _ _ _ _ _ _ _ _ c.end_broker-device.ensures.wrong told.told) served.served) (λ none. absurd cc)
 
 pub returns-in-Err-Memory-clause-leaves : goal.returns-in-Err-Memory-clause-leaves
@@ -49,7 +49,7 @@ returns-in-Err-Memory-clause-leaves g c left input =
     (ap (λ a. g.A.Acceptor.coming a) idle.0) (ap (λ a. g.A.Acceptor.faults a) idle.0)
     (c.end_broker-device.ensures.wrong ∙ ap (λ b. b.wrong_code) idle.2 ∙ c.requires.sound)
     c.end_broker-device.ensures.ended
-    (served_told (IsLinkDone g.A.In.Source.left g.A.Out.Sink.written g.A.In.Source.faults g.A.Out.Sink.faults (record { base = origin_of (g.D.Device.seen c.args.broker.device).base c.args.broker.held.sessions.numbers; limit = c.args.broker.limit; began = c.args.broker.began })) (λ (link : LinkDone _ _). link.client) _ _ _ _ _ _ _
+    (served_told (IsLinkDone g.A.In.Source.left g.A.Out.Sink.written g.A.In.Source.faults g.A.Out.Sink.faults (record { base = origin_of (g.D.Device.seen c.args.broker.device).base c.args.broker.held.sessions.numbers; limit = c.args.broker.limit; began = c.args.broker.began; contexts = g.D.Device.CONTEXTS })) (λ (link : LinkDone _ _). link.client) _ _ _ _ _ _ _
     (ap (λ b. is_some b.wrong_code) idle.2 ∙ ap is_some c.requires.sound) served.served)
 
 -- the broker may go to another thread

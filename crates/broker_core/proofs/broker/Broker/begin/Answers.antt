@@ -1,5 +1,7 @@
-use Rattle.std.proofs.Common.{◌∙◌, ap, arith, inr, refl, sym}
+use Rattle.std.proofs.Common.{◌∙◌, [], ap, arith, inr, refl, sym}
 use Rattle.std.specs.Prelude.{is_some}
+use Rattle.session_swap.specs.Items.{no_items}
+use Rattle.tab_spec.specs.declared.contexts.ContextLimits.{ContextLimits}
 use Rattle.broker_core.proofs.Beginning.{attempted, holds_begun, limit_most}
 use Rattle.broker_core.proofs.broker.Broker.begin.Goals as goal
 
@@ -11,7 +13,11 @@ invariant_of-result g c =
       holds_begun _ _ _ _ _ _ c.in-Ok-start.numbers same c.requires.at_base started.cleared started.attempts.base
           (omega (arith, c.fault_count-began.ensures, started.attempts.count))
           started.answered
-          (omega (arith, c.in-Ok.ensures.limit, limit_most _ c.requires.limit)) started.range started.own c.in-Ok-new-4.ensures c.in-Ok-new-5.ensures,
+          (omega (arith, c.in-Ok.ensures.limit, limit_most _ c.requires.limit)) started.range started.own
+          (c.in-Ok-new-4.ensures
+          ∙ ap (λ (read : ContextLimits). record { items = []; slots = c.in-Ok-start.numbers.slots; order = []; owners = []; left = []; contexts = read }) c.CONTEXTS.ensures)
+          (c.in-Ok-new-5.ensures
+          ∙ ap (λ (read : ContextLimits). record { numbers = c.in-Ok-start.numbers; items = no_items; next = 0; order = []; saved = []; left = []; contexts = read }) c.CONTEXTS-2.ensures),
       refl,
     )
 

@@ -60,7 +60,7 @@ invariant_of-self-in-Err g c =
     let opened = subst (λ (v : _). IsOpen v.journal c.args.client) (sym c.self.view_is) c.requires in
     let done = c.in-Err.ensures in
     rw (c.enter_close.ensures.entered, c.enter_close.ensures.limit, c.close-list.ensures.items, c.close-list.ensures.lists, c.from.ensures) (
-      holds_closed_wrong c.args.client c.in-Err.code c.self.invariant.0 opened done.disowns.keeps.count done.disowns.slots done.disowns.numbers done.disowns.length_is done.disowns.err,
+      holds_closed_wrong c.args.client c.in-Err.code c.self.invariant.0 opened done.disowns.keeps.count done.disowns.made_for done.disowns.slots done.disowns.numbers done.disowns.length_is done.disowns.err,
       kept_closed c.self.inside.journal.entries c.args.client c.self.invariant.1 c.close-list.ensures.present,
     )
 

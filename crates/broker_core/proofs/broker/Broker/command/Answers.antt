@@ -18,14 +18,14 @@ use Rattle.broker_core.specs.Broker.{BrokerView, Holds, IsAdmitted, TellsNoRoom}
 use Rattle.client_machine.specs.Moves.{FailsAtLast, MayMove, pick_of}
 use Rattle.client_machine.specs.Settled.{orphan_count}
 use Rattle.client_machine.specs.Tables.{owned_handles, tables_seen}
-use Rattle.broker_core.proofs.Entering.{costs_admitted, entered_carried, entered_faulted, entered_refused, entered_seen, context_now, left_more, long_now, made_by, owners_more, told_unentered, view_entered}
+use Rattle.broker_core.proofs.Entering.{costs_admitted, entered_carried, entered_faulted, entered_refused, entered_seen, context_now, left_more, long_now, made_by, owners_more, told_unentered, view_entered, admitted_read}
 use Rattle.broker_core.proofs.Holding.{are_more, few_more, held_same, holds_refused, holds_wrong, inside_tables, moves_now, none_is, own_list, table_carried, table_faulted, table_now, with_items_is}
 use Rattle.broker_core.proofs.Placing.{kept_same, open_there, tables_same}
 use Rattle.broker_core.proofs.broker.Broker.command.Goals as goal
 
 pub returns-in-Err-clause-told : goal.returns-in-Err-clause-told
 returns-in-Err-clause-told g c =
-    told_unentered g.D.Device.seen c.in-Err.told c.args.self.now c.args.self.now c.args.client c.args.number c.args.bytes.now c.find_room.new.reply
+    told_unentered g.D.Device.CONTEXTS g.D.Device.seen c.in-Err.told c.args.self.now c.args.self.now c.args.client c.args.number c.args.bytes.now c.find_room.new.reply
     (subst (λ (v : BrokerView g.row.D.Denot). TellsNoRoom c.in-Err.told v.limit v.journal c.args.bytes.now c.find_room.new.reply) c.self.view_is c.in-Err.ensures.err)
     refl
 
@@ -39,18 +39,16 @@ invariant_of-self g c =
     let opened = subst (λ (v : _). IsOpen v.journal c.args.client) (sym c.self.view_is) c.requires.present in
     let next = subst (λ (v : _). IsNextNumber v.journal c.args.client c.args.number) (sym c.self.view_is) c.requires.number in
     let ready = c.in_default.ensures.ok in
-    let first = sym c.table.ensures in
-    let refused = ap (λ (t : List _). client_admitted (tables_seen c.args.client t c.self.inside.machine.held.sessions.items) c.args.bytes.now) first ∙ sym c.admit_client.ensures.value ∙ c.in-Err-admit_client.is in
+    let refused = admitted_read g.D.Device.CONTEXTS c.CONTEXTS.result c.args.client _ _ c.self.inside.machine.held.sessions.items c.args.bytes.now c.admit_client.result c.CONTEXTS.ensures c.table.ensures c.admit_client.ensures.value ∙ c.in-Err-admit_client.is in
     rw (c.enter_refusal.ensures.entered, c.enter_refusal.ensures.limit, c.enter_refusal.ensures.reply) (
-      holds_refused c.args.client c.args.number c.args.bytes.now c.in-Err-admit_client.code c.self.invariant.0 (sym c.is_some.ensures ∙ c.if-is_some.false) opened next refused ready.0,
+      holds_refused c.args.client c.args.number c.args.bytes.now c.in-Err-admit_client.code c.self.invariant.0 (sym c.is_some.ensures ∙ c.if-is_some.false) opened next refused ready.0 (g.met.D.Device.profile c.self.inside.machine.device),
       kept_same c.self.inside.journal.entries (command_entry c.args.client c.args.number Nothing c.args.bytes.now (error_reply c.in-Err-admit_client.code)) refl c.self.invariant.1,
     )
 
 pub returns-in-Err-admit_client-clause-told : goal.returns-in-Err-admit_client-clause-told
 returns-in-Err-admit_client-clause-told g c =
     let ready = c.in_default.ensures.ok in
-    let first = sym c.table.ensures in
-    let refused = ap (λ (t : List _). client_admitted (tables_seen c.args.client t c.self.inside.machine.held.sessions.items) c.args.bytes.now) first ∙ sym c.admit_client.ensures.value ∙ c.in-Err-admit_client.is in
+    let refused = admitted_read g.D.Device.CONTEXTS c.CONTEXTS.result c.args.client _ _ c.self.inside.machine.held.sessions.items c.args.bytes.now c.admit_client.result c.CONTEXTS.ensures c.table.ensures c.admit_client.ensures.value ∙ c.in-Err-admit_client.is in
     let e : Entry = command_entry c.args.client c.args.number Nothing c.args.bytes.now c.enter_refusal.new.reply in
     let old : BrokerView g.row.D.Denot = record {
       device = c.self.inside.machine.device;
@@ -87,8 +85,7 @@ invariant_of-self-then-is_err g c =
 pub returns-then-is_err-clause-told : goal.returns-then-is_err-clause-told
 returns-then-is_err-clause-told g c =
     let ready = c.in_default.ensures.ok in
-    let first = sym c.table.ensures in
-    let admitted = ap (λ (t : List _). client_admitted (tables_seen c.args.client t c.self.inside.machine.held.sessions.items) c.args.bytes.now) first ∙ sym c.admit_client.ensures.value ∙ c.in-Ok.is in
+    let admitted = admitted_read g.D.Device.CONTEXTS c.CONTEXTS.result c.args.client _ _ c.self.inside.machine.held.sessions.items c.args.bytes.now c.admit_client.result c.CONTEXTS.ensures c.table.ensures c.admit_client.ensures.value ∙ c.in-Ok.is in
     let failed = sym c.is_err.ensures.value ∙ c.if-is_err.true in
     let grows = from_err c.reserve.result _ c.reserve.ensures.grows failed in
     let kept = tables_same c.self.inside.tables.items c.args.client c.reserve.new.table.items (c.reserve.ensures.same.3 ∙ c.table_mut-table.ensures.value) in
@@ -96,17 +93,16 @@ returns-then-is_err-clause-told g c =
     let items = from_err c.reserve.result _ c.reserve.ensures.err failed in
     let held = held_same c.self.inside.machine.held c.reserve.new.self.held items c.reserve.ensures.same.1 c.reserve.ensures.same.2 in (
       rw (device, held, kept) c.self.view_is,
-      record { reply_is = c.error_reply-then-is_err.ensures; makes = made_by _ c.args.bytes.now c.in-Ok.admitted admitted grows.0 },
+      record { reply_is = c.error_reply-then-is_err.ensures; makes = made_by g.D.Device.CONTEXTS _ c.args.bytes.now c.in-Ok.admitted admitted grows.0 },
       subst (λ (v : BrokerView g.row.D.Denot). HasRoom v.limit v.journal c.args.bytes.now) c.self.view_is ready.0,
-      subst (λ (v : BrokerView g.row.D.Denot). IsAdmitted v c.args.client c.args.bytes.now) c.self.view_is (c.in-Ok.admitted, admitted),
+      subst (λ (v : BrokerView g.row.D.Denot). IsAdmitted g.D.Device.CONTEXTS v c.args.client c.args.bytes.now) c.self.view_is (c.in-Ok.admitted, admitted),
     )
 
 pub answer-requires-clause-admitted : goal.answer-requires-clause-admitted
 answer-requires-clause-admitted g c =
-    let first = sym c.table.ensures in
     let is = sym (c.reserve.ensures.same.3 ∙ c.table_mut-table.ensures.value) in
-    ap (λ (v : SessionsView). client_admitted (tables_seen c.args.client c.reserve.new.table.items v.items) c.args.bytes.now) c.reserve.ensures.same.2
-    ∙ ap (λ (t : List _). client_admitted (tables_seen c.args.client t c.self.inside.machine.held.sessions.items) c.args.bytes.now) (sym is ∙ first) ∙ sym c.admit_client.ensures.value ∙ c.in-Ok.is
+    ap (λ (v : SessionsView). client_admitted (tables_seen g.D.Device.CONTEXTS c.args.client c.reserve.new.table.items v.items) c.args.bytes.now) c.reserve.ensures.same.2
+    ∙ admitted_read g.D.Device.CONTEXTS c.CONTEXTS.result c.args.client _ _ c.self.inside.machine.held.sessions.items c.args.bytes.now c.admit_client.result c.CONTEXTS.ensures (c.table.ensures ∙ is) c.admit_client.ensures.value ∙ c.in-Ok.is
 
 pub answer-requires-clause-room : goal.answer-requires-clause-room
 answer-requires-clause-room g c =
@@ -134,7 +130,7 @@ pub answer-requires-clause-may : goal.answer-requires-clause-may
 answer-requires-clause-may g c =
     let are = are_more _ _ c.reserve.ensures.items in
     let is_held = with_items_is c.self.inside.machine.held c.reserve.new.self.held c.reserve.ensures.same.1 c.reserve.ensures.same.2 in
-    subst (λ (d : _). MayMove 2000 g.D.Device.seen d c.reserve.new.self.held) (sym c.reserve.ensures.same.0)
+    subst (λ (d : _). MayMove 2000 g.D.Device.CONTEXTS g.D.Device.seen d c.reserve.new.self.held) (sym c.reserve.ensures.same.0)
     (moves_now g.D.Device.seen c.self.inside.machine.device c.reserve.new.self.held.objects.items (g.met.D.Device.told_together c.self.inside.machine.device) c.self.invariant.0 are is_held)
 
 pub enter_reply-requires-clause-header : goal.enter_reply-requires-clause-header
@@ -143,18 +139,16 @@ enter_reply-requires-clause-header g c = omega (arith, frame_long c.answer.new.r
 pub enter_reply-requires-clause-long : goal.enter_reply-requires-clause-long
 enter_reply-requires-clause-long g c =
     let none = none_is c.self.inside.wrong_code (sym c.is_some.ensures ∙ c.if-is_some.false) in
-    let first = sym c.table.ensures in
-    let admitted = ap (λ (t : List _). client_admitted (tables_seen c.args.client t c.self.inside.machine.held.sessions.items) c.args.bytes.now) first ∙ sym c.admit_client.ensures.value ∙ c.in-Ok.is in
-    let before = subst (λ (d : _). IsRight (asked_of (g.D.Device.seen d)) (last_of (g.D.Device.seen d))) (sym c.reserve.ensures.same.0) (c.self.invariant.0.answers.right none) in
+    let admitted = admitted_read g.D.Device.CONTEXTS c.CONTEXTS.result c.args.client _ _ c.self.inside.machine.held.sessions.items c.args.bytes.now c.admit_client.result c.CONTEXTS.ensures c.table.ensures c.admit_client.ensures.value ∙ c.in-Ok.is in
+    let before = subst (λ (d : _). IsRight g.D.Device.CONTEXTS (asked_of (g.D.Device.seen d)) (last_of (g.D.Device.seen d))) (sym c.reserve.ensures.same.0) (c.self.invariant.0.answers.right none) in
     let done = c.in-Ok-answer.ensures in
     λ tells. long_now g.D.Device.seen _ c.in-Ok.admitted c.args.bytes.now c.answer.new.reply admitted before done.serves.right done.carries.did tells
 
 pub enter_reply-requires-clause-context : goal.enter_reply-requires-clause-context
 enter_reply-requires-clause-context g c =
     let none = none_is c.self.inside.wrong_code (sym c.is_some.ensures ∙ c.if-is_some.false) in
-    let first = sym c.table.ensures in
-    let admitted = ap (λ (t : List _). client_admitted (tables_seen c.args.client t c.self.inside.machine.held.sessions.items) c.args.bytes.now) first ∙ sym c.admit_client.ensures.value ∙ c.in-Ok.is in
-    let before = subst (λ (d : _). IsRight (asked_of (g.D.Device.seen d)) (last_of (g.D.Device.seen d))) (sym c.reserve.ensures.same.0) (c.self.invariant.0.answers.right none) in
+    let admitted = admitted_read g.D.Device.CONTEXTS c.CONTEXTS.result c.args.client _ _ c.self.inside.machine.held.sessions.items c.args.bytes.now c.admit_client.result c.CONTEXTS.ensures c.table.ensures c.admit_client.ensures.value ∙ c.in-Ok.is in
+    let before = subst (λ (d : _). IsRight g.D.Device.CONTEXTS (asked_of (g.D.Device.seen d)) (last_of (g.D.Device.seen d))) (sym c.reserve.ensures.same.0) (c.self.invariant.0.answers.right none) in
     let done = c.in-Ok-answer.ensures in
     λ tells. context_now g.D.Device.seen _ c.in-Ok.admitted c.args.bytes.now c.answer.new.reply admitted before done.serves.right done.carries.did tells
 
@@ -168,7 +162,7 @@ invariant_of-self-in-Ok-answer g c =
     let are = are_more _ _ c.reserve.ensures.items in
     let device = c.reserve.ensures.same.0 in
     let done = c.in-Ok-answer.ensures in
-    let holds = subst (λ (d : _). Holds c.self.inside.began (g.D.Device.seen d) c.self.inside.journal.entries c.self.inside.journal.limit
+    let holds = subst (λ (d : _). Holds g.D.Device.CONTEXTS c.self.inside.began (g.D.Device.seen d) c.self.inside.journal.entries c.self.inside.journal.limit
     c.self.inside.tables.items c.self.inside.tables.lists c.self.inside.machine.held c.self.inside.present c.self.inside.wrong_code) (sym device) c.self.invariant.0 in
     let is_held = with_items_is c.self.inside.machine.held c.reserve.new.self.held c.reserve.ensures.same.1 c.reserve.ensures.same.2 in
     rw (c.enter_reply.ensures.entered, c.enter_reply.ensures.limit) (
@@ -187,8 +181,8 @@ invariant_of-self-in-Err-Failed g c =
     let are = are_more _ _ c.reserve.ensures.items in
     let device = c.reserve.ensures.same.0 in
     let done = c.in-Err-Failed.ensures in
-    let cause = subst (λ (e : SwapError). HasCause g.D.Device.seen e c.reserve.new.self.device c.answer.new.self.device) c.in-Err-Failed.field-0-is done.serves.cause in
-    let holds = subst (λ (d : _). Holds c.self.inside.began (g.D.Device.seen d) c.self.inside.journal.entries c.self.inside.journal.limit
+    let cause = subst (λ (e : SwapError). HasCause g.D.Device.CONTEXTS g.D.Device.seen e c.reserve.new.self.device c.answer.new.self.device) c.in-Err-Failed.field-0-is done.serves.cause in
+    let holds = subst (λ (d : _). Holds g.D.Device.CONTEXTS c.self.inside.began (g.D.Device.seen d) c.self.inside.journal.entries c.self.inside.journal.limit
     c.self.inside.tables.items c.self.inside.tables.lists c.self.inside.machine.held c.self.inside.present c.self.inside.wrong_code) (sym device) c.self.invariant.0 in
     let tables = tables_same c.self.inside.tables.items c.args.client c.answer.new.table.items (done.serves.stays.table_is ∙ sym is) in
     let is_held = with_items_is c.self.inside.machine.held c.reserve.new.self.held c.reserve.ensures.same.1 c.reserve.ensures.same.2 in
@@ -202,12 +196,16 @@ pub invariant_of-self-in-Err-Answer : goal.invariant_of-self-in-Err-Answer
 invariant_of-self-in-Err-Answer g c =
     let device = c.reserve.ensures.same.0 in
     let done = c.in-Err-Answer.ensures in
-    let cause = subst (λ (e : SwapError). HasCause g.D.Device.seen e c.reserve.new.self.device c.answer.new.self.device) c.in-Err-Answer.field-0-is done.serves.cause in
+    let cause = subst (λ (e : SwapError). HasCause g.D.Device.CONTEXTS g.D.Device.seen e c.reserve.new.self.device c.answer.new.self.device) c.in-Err-Answer.field-0-is done.serves.cause in
     let length_is = length-set c.self.inside.tables.items c.args.client c.answer.new.table.items in
     let none = sym c.is_some.ensures ∙ c.if-is_some.false in
     let are = are_more _ _ c.reserve.ensures.items in
     rw (c.from.ensures, c.in-Err-Answer.code-is) (
       holds_wrong {new_held = c.answer.new.self.held} c.in-Err-Answer.code c.self.invariant.0 length_is (omega (arith, done.serves.moves.keeps.count, ap (λ d. (g.D.Device.seen d).faults) device))
+          (record {
+            objects = done.serves.moves.made_for.objects ∙ ap (λ (v : ObjectsView). v.contexts) c.reserve.ensures.same.1;
+            sessions = done.serves.moves.made_for.sessions ∙ ap (λ (v : SessionsView). v.contexts) c.reserve.ensures.same.2;
+          })
           (done.serves.moves.slots ∙ ap (λ (v : ObjectsView). v.slots) c.reserve.ensures.same.1) (done.serves.moves.numbers ∙ ap (λ (v : SessionsView). v.numbers) c.reserve.ensures.same.2) (omega (arith, done.serves.moves.length_is, few_more _ c.self.invariant.0 none are)) (omega (arith, done.serves.moves.length_is, c.reserve.ensures.most c.self.invariant.0.placed)) cause,
       c.self.invariant.1,
     )
@@ -216,11 +214,10 @@ pub returns-in-Ok-answer-clause-told : goal.returns-in-Ok-answer-clause-told
 returns-in-Ok-answer-clause-told g c =
     let opened = subst (λ (v : _). IsOpen v.journal c.args.client) (sym c.self.view_is) c.requires.present in
     let ready = c.in_default.ensures.ok in
-    let first = sym c.table.ensures in
     let is = sym (c.reserve.ensures.same.3 ∙ c.table_mut-table.ensures.value) in
     let are = are_more _ _ c.reserve.ensures.items in
     let device = c.reserve.ensures.same.0 in
-    let admitted = ap (λ (t : List _). client_admitted (tables_seen c.args.client t c.self.inside.machine.held.sessions.items) c.args.bytes.now) first ∙ sym c.admit_client.ensures.value ∙ c.in-Ok.is in
+    let admitted = admitted_read g.D.Device.CONTEXTS c.CONTEXTS.result c.args.client _ _ c.self.inside.machine.held.sessions.items c.args.bytes.now c.admit_client.result c.CONTEXTS.ensures c.table.ensures c.admit_client.ensures.value ∙ c.in-Ok.is in
     let done = c.in-Ok-answer.ensures in
     let is_held = with_items_is c.self.inside.machine.held c.reserve.new.self.held c.reserve.ensures.same.1 c.reserve.ensures.same.2 in
     let e : Entry = command_entry c.args.client c.args.number (pick_of c.in-Ok.admitted c.answer.new.reply) c.args.bytes.now c.answer.new.reply in
@@ -241,12 +238,11 @@ returns-in-Ok-answer-clause-told g c =
 pub returns-in-Err-Failed-clause-told : goal.returns-in-Err-Failed-clause-told
 returns-in-Err-Failed-clause-told g c =
     let ready = c.in_default.ensures.ok in
-    let first = sym c.table.ensures in
     let is = sym (c.reserve.ensures.same.3 ∙ c.table_mut-table.ensures.value) in
     let device = c.reserve.ensures.same.0 in
-    let admitted = ap (λ (t : List _). client_admitted (tables_seen c.args.client t c.self.inside.machine.held.sessions.items) c.args.bytes.now) first ∙ sym c.admit_client.ensures.value ∙ c.in-Ok.is in
+    let admitted = admitted_read g.D.Device.CONTEXTS c.CONTEXTS.result c.args.client _ _ c.self.inside.machine.held.sessions.items c.args.bytes.now c.admit_client.result c.CONTEXTS.ensures c.table.ensures c.admit_client.ensures.value ∙ c.in-Ok.is in
     let done = c.in-Err-Failed.ensures in
-    let cause = subst (λ (e : SwapError). HasCause g.D.Device.seen e c.reserve.new.self.device c.answer.new.self.device) c.in-Err-Failed.field-0-is done.serves.cause in
+    let cause = subst (λ (e : SwapError). HasCause g.D.Device.CONTEXTS g.D.Device.seen e c.reserve.new.self.device c.answer.new.self.device) c.in-Err-Failed.field-0-is done.serves.cause in
     let e : Entry = fault_entry c.args.client c.args.number c.fault_count-faults.result c.args.bytes.now c.enter_fault.new.reply in
     let old : BrokerView g.row.D.Denot = record {
       device = c.self.inside.machine.device;
@@ -263,7 +259,7 @@ returns-in-Err-Failed-clause-told g c =
     let left = done.serves.stays.left ∙ ap (λ (v : SessionsView). v.left) c.reserve.ensures.same.2 in
     let objects = owners_more c.self.inside.machine.held.objects.items c.reserve.new.self.held.objects.items c.answer.new.self.held.objects.items are done.serves.stays.objects in
     let failed = subst (λ (d : _). Rose (g.D.Device.seen d).faults (g.D.Device.seen c.answer.new.self.device).faults × (last_of (g.D.Device.seen c.answer.new.self.device) ≡ None)) device cause in
-    let sent = subst (λ (d : _). FailsAtLast g.D.Device.seen d c.answer.new.self.device) device done.serves.fails in
+    let sent = subst (λ (d : _). FailsAtLast g.D.Device.CONTEXTS g.D.Device.seen d c.answer.new.self.device) device done.serves.fails in
     entered_seen g.D.Device.seen {old = old} c.self.view_is
     (entered_faulted g.D.Device.seen old _ c.args.client c.args.number c.fault_count-faults.result c.args.bytes.now c.enter_fault.new.reply c.in-Ok.admitted
     admitted c.enter_fault.ensures.reply c.fault_count-faults.ensures ready.0 c.enter_fault.ensures.entered failed sent tables sessions left objects)
@@ -300,9 +296,8 @@ returns-in-Err-Answer-clause-left g c =
 
 pub returns-in-Ok-answer-clause-costs : goal.returns-in-Ok-answer-clause-costs
 returns-in-Ok-answer-clause-costs g c =
-    let first = sym c.table.ensures in
     let is = sym (c.reserve.ensures.same.3 ∙ c.table_mut-table.ensures.value) in
-    let admitted = ap (λ (t : List _). client_admitted (tables_seen c.args.client t c.self.inside.machine.held.sessions.items) c.args.bytes.now) first ∙ sym c.admit_client.ensures.value ∙ c.in-Ok.is in
+    let admitted = admitted_read g.D.Device.CONTEXTS c.CONTEXTS.result c.args.client _ _ c.self.inside.machine.held.sessions.items c.args.bytes.now c.admit_client.result c.CONTEXTS.ensures c.table.ensures c.admit_client.ensures.value ∙ c.in-Ok.is in
     let is_held = with_items_is c.self.inside.machine.held c.reserve.new.self.held c.reserve.ensures.same.1 c.reserve.ensures.same.2 in
     costs_admitted g.D.Device.seen c.args.client c.args.bytes.now c.in-Ok.admitted c.reserve.new.self.held.objects.items c.self.view_is admitted
     c.reserve.ensures.same.0 (are_more _ _ c.reserve.ensures.items) is_held is c.in-Ok-answer.ensures.serves.costs c.in-Ok-answer.ensures.at_hand
@@ -310,9 +305,8 @@ returns-in-Ok-answer-clause-costs g c =
 
 pub returns-in-Err-Failed-clause-costs : goal.returns-in-Err-Failed-clause-costs
 returns-in-Err-Failed-clause-costs g c =
-    let first = sym c.table.ensures in
     let is = sym (c.reserve.ensures.same.3 ∙ c.table_mut-table.ensures.value) in
-    let admitted = ap (λ (t : List _). client_admitted (tables_seen c.args.client t c.self.inside.machine.held.sessions.items) c.args.bytes.now) first ∙ sym c.admit_client.ensures.value ∙ c.in-Ok.is in
+    let admitted = admitted_read g.D.Device.CONTEXTS c.CONTEXTS.result c.args.client _ _ c.self.inside.machine.held.sessions.items c.args.bytes.now c.admit_client.result c.CONTEXTS.ensures c.table.ensures c.admit_client.ensures.value ∙ c.in-Ok.is in
     let is_held = with_items_is c.self.inside.machine.held c.reserve.new.self.held c.reserve.ensures.same.1 c.reserve.ensures.same.2 in
     costs_admitted g.D.Device.seen c.args.client c.args.bytes.now c.in-Ok.admitted c.reserve.new.self.held.objects.items c.self.view_is admitted
     c.reserve.ensures.same.0 (are_more _ _ c.reserve.ensures.items) is_held is c.in-Err-Failed.ensures.serves.costs c.in-Err-Failed.ensures.at_hand
@@ -320,9 +314,8 @@ returns-in-Err-Failed-clause-costs g c =
 
 pub returns-in-Err-Answer-clause-costs : goal.returns-in-Err-Answer-clause-costs
 returns-in-Err-Answer-clause-costs g c =
-    let first = sym c.table.ensures in
     let is = sym (c.reserve.ensures.same.3 ∙ c.table_mut-table.ensures.value) in
-    let admitted = ap (λ (t : List _). client_admitted (tables_seen c.args.client t c.self.inside.machine.held.sessions.items) c.args.bytes.now) first ∙ sym c.admit_client.ensures.value ∙ c.in-Ok.is in
+    let admitted = admitted_read g.D.Device.CONTEXTS c.CONTEXTS.result c.args.client _ _ c.self.inside.machine.held.sessions.items c.args.bytes.now c.admit_client.result c.CONTEXTS.ensures c.table.ensures c.admit_client.ensures.value ∙ c.in-Ok.is in
     let is_held = with_items_is c.self.inside.machine.held c.reserve.new.self.held c.reserve.ensures.same.1 c.reserve.ensures.same.2 in
     costs_admitted g.D.Device.seen c.args.client c.args.bytes.now c.in-Ok.admitted c.reserve.new.self.held.objects.items c.self.view_is admitted
     c.reserve.ensures.same.0 (are_more _ _ c.reserve.ensures.items) is_held is c.in-Err-Answer.ensures.serves.costs c.in-Err-Answer.ensures.at_hand

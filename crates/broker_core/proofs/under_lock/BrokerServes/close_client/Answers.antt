@@ -8,7 +8,7 @@ use Rattle.broker_core.proofs.under_lock.BrokerServes.close_client.Goals as goal
 pub returns-clause-closed : goal.returns-clause-closed
 returns-clause-closed g c = record {
   entered = c.close_client-closed.ensures.closed.0;
-  answer = may_leave (fixed_of (origin_of (g.D.Device.seen c.args.self.now.device).base c.args.self.now.held.sessions.numbers) c.args.self.now) _ _ _ c.close_client-closed.ensures.left
+  answer = may_leave (fixed_of g.D.Device.CONTEXTS (origin_of (g.D.Device.seen c.args.self.now.device).base c.args.self.now.held.sessions.numbers) c.args.self.now) _ _ _ c.close_client-closed.ensures.left
       (λ answer. unknown _ c.args.self.now.held.sessions.numbers
       (subst (λ (b : Option Persist). b ≡ None) c.close_client-closed.ensures.keeps.base_is (c.show_sound.ensures.untold (c.close_client-closed.ensures.answer.0 answer))));
 }

@@ -6,7 +6,7 @@ use Rattle.broker_core.proofs.under_lock.BrokerServes.command.Goals as goal
 
 pub returns-clause-told : goal.returns-clause-told
 returns-clause-told g c =
-    tells g.D.Device.seen _ c.command.result c.args.self.now c.command.new.self _ _ _ _ c.show_sound.ensures.began c.show_sound.ensures.faulted
+    tells g.D.Device.CONTEXTS g.D.Device.seen _ c.command.result c.args.self.now c.command.new.self _ _ _ _ c.show_sound.ensures.began c.show_sound.ensures.faulted
     (λ answer. unknown _ c.args.self.now.held.sessions.numbers (subst (λ (b : Option Persist). b ≡ None) c.command.ensures.keeps.base_is
     (untold _ _ _ (g.met.D.Device.told_together c.command.new.self.device) c.command.ensures.last_answer.taken (c.command.ensures.answer.0 answer))))
     c.command.ensures.told

@@ -4,5 +4,5 @@ use Rattle.broker_tests.proofs.given_back.Desk.save_other.Goals as goal
 
 pub returns-clause-named : goal.returns-clause-named
 returns-clause-named c =
-    still_named _ c.client_save.result _ _ SECOND c.args.self.now.sessions c.client_save.new.self c.requires c.client_save.ensures.ok
+    still_named _ _ c.client_save.result _ _ SECOND c.args.self.now.sessions c.client_save.new.self c.requires c.client_save.ensures.ok
     c.client_save.ensures.err

@@ -2,7 +2,7 @@ use Rattle.std.proofs.Common.{◌+◌, ◌≤◌, inl, inr, ℕ, Ok, length, ap,
 use Rattle.std.specs.List.{count_by}
 use Rattle.std.proofs.lemmas.Result.{on_ok_weaker}
 use Rattle.tab_spec.specs.Shape.{number_of_session}
-use Rattle.tab_spec.specs.Numbers.{left_most}
+use Rattle.tab_spec.specs.Numbers.{leave_limit}
 use Rattle.session_swap.specs.Items.{SessionsView, is_owned, item_at, left_behind}
 use Rattle.session_swap.proofs.Counts.{flag_false, flag_true}
 use Rattle.client_machine.specs.Dropping.{KeepsOthers}
@@ -16,7 +16,7 @@ use Rattle.client_machine.proofs.machine.Machine.close_session.Goals as goal
 
 pub returns-then-is_in_use-clause-ok : goal.returns-then-is_in_use-clause-ok
 returns-then-is_in_use-clause-ok g c =
-    drops_passed g.D.Device.seen c.args.client c.args.handle _ _ c.args.self.now.held c.drop_session.new.self.held c.drop_session.result
+    drops_passed _ g.D.Device.seen c.args.client c.args.handle _ _ c.args.self.now.held c.drop_session.new.self.held c.drop_session.result
     (inl (c.requires.own, sym c.is_in_use.ensures ∙ c.if-is_in_use.true)) c.drop_session.ensures.ok
 
 pub returns-then-is_in_use-clause-count : goal.returns-then-is_in_use-clause-count
@@ -56,9 +56,9 @@ returns-in-Some-clause-ok g c =
     let first = c.in-Some.ensures.first in
     let is = leaving client held.sessions.items c.args.handle c.requires.named c.requires.own (sym c.is_in_use.ensures ∙ c.if-is_in_use.false)
     c.requires.least in
-    leaves_dropped seen client _ _ held view c.drop_session-in-Some.new.self.held (number_of_session c.args.handle) (number_of_session c.in-Some.first)
+    leaves_dropped _ seen client _ _ held view c.drop_session-in-Some.new.self.held (number_of_session c.args.handle) (number_of_session c.in-Some.first)
     c.drop_session-in-Some.result c.leave.ensures.left is c.requires.settled first.1 c.drop_session-in-Some.ensures.gone
-    (drops_passed seen client c.in-Some.first _ _ (with_sessions held view) c.drop_session-in-Some.new.self.held c.drop_session-in-Some.result
+    (drops_passed _ seen client c.in-Some.first _ _ (with_sessions held view) c.drop_session-in-Some.new.self.held c.drop_session-in-Some.result
     (inr (first.0, first.1)) c.drop_session-in-Some.ensures.ok)
 
 pub returns-in-Some-clause-count : goal.returns-in-Some-clause-count
@@ -112,7 +112,7 @@ returns-in-None-clause-ok g c =
     let active = ap (λ (v : SessionsView). v.numbers.active) c.leave.ensures.left in
     leaves_then seen client _ _ held view (with_sessions held view) (number_of_session c.args.handle) 0 c.leave.ensures.left
     (leaving client held.sessions.items c.args.handle c.requires.named c.requires.own (sym c.is_in_use.ensures ∙ c.if-is_in_use.false) c.requires.least)
-    c.requires.settled (λ few. subst (λ (n : ℕ). length view.left ≤ left_most n) active c.in-None.ensures.first)
+    c.requires.settled (λ few. subst (λ (n : ℕ). length view.left ≤ leave_limit n) active c.in-None.ensures.first)
     (drops_none seen client _ (with_sessions held view)
     (behind_settled _ held view c.args.handle c.leave.ensures.left c.requires.settled c.requires.named))
 

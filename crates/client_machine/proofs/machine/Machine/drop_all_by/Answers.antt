@@ -27,7 +27,7 @@ returns-clause-ok g c =
     let new_held = c.drop_objects.new.self.held in
     let of_sessions = c.in_ok-of_sessions.of_sessions in
     let owner = ap (λ (v : ObjectsView). owner_at v.owners c.args.list) c.drop_sessions.ensures.rest ∙ c.requires.list in
-    subst (λ (n : ℕ). Drops g.D.Device.seen client c.args.self.now.device c.drop_objects.new.self.device held
+    subst (λ (n : ℕ). Drops g.D.Device.CONTEXTS g.D.Device.seen client c.args.self.now.device c.drop_objects.new.self.device held
     (with_objects new_held c.end_client.new.self) (set held.objects.owners c.args.list None) (of_sessions + n))
     (sym c.from.ensures)
     (drops_ended _ client _ _ held new_held c.end_client.new.self c.args.list _

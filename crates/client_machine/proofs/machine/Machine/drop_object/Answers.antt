@@ -31,12 +31,13 @@ returns-in-Ok-clause-ok g c =
             slots = done.dropped.slots;
             owners = done.dropped.owners;
             left = done.dropped.left;
+            made_for = done.dropped.contexts;
           })
           at c.requires.settled;
       fewer = fewer_objects held.objects.items c.drop_by.new.self.items client item at done.ok.0.items;
       costs = omega (
         arith,
-        sent_slot g.D.Device.seen (item_at held.objects.items item).slot tt _ _ (Ok tt) done.sent,
+        sent_slot _ g.D.Device.seen (item_at held.objects.items item).slot tt _ _ (Ok tt) done.sent,
         fewer_residents held.objects.items c.drop_by.new.self.items client item at done.ok.0.items,
       );
     }
@@ -44,6 +45,7 @@ returns-in-Ok-clause-ok g c =
 pub returns-in-Ok-clause-disowns : goal.returns-in-Ok-clause-disowns
 returns-in-Ok-clause-disowns g c = record {
   keeps = search rules;
+  made_for = record { objects = c.in-Ok.ensures.dropped.contexts; sessions = refl };
   slots = search rules;
   numbers = search rules;
   length_is = search rules;
@@ -60,7 +62,7 @@ returns-in-Ok-clause-costs g c =
     let item = c.args.item in
     omega (
       arith,
-      sent_slot g.D.Device.seen (item_at items item).slot tt _ _ (Ok tt) c.in-Ok.ensures.sent,
+      sent_slot _ g.D.Device.seen (item_at items item).slot tt _ _ (Ok tt) c.in-Ok.ensures.sent,
       among_residents items client item (record { names = c.requires.named; own = own }),
     )
 
@@ -70,7 +72,7 @@ returns-in-Err-Failed-clause-ok g c =
     let held = c.args.self.now.held in
     let item = c.args.item in
     let failed = c.in-Err-Failed.ensures in
-    let cause = failed_cause g.D.Device.seen _ c.in-Err-Failed.field-0-0 _ _ c.in-Err-Failed.field-0-is failed.asks.cause in
+    let cause = failed_cause g.D.Device.CONTEXTS g.D.Device.seen _ c.in-Err-Failed.field-0-0 _ _ c.in-Err-Failed.field-0-is failed.asks.cause in
     let at : IsNamed held.objects.items client item = record { names = c.requires.named; own = own } in
     let slot = is_in_slot _ _ (item_at held.objects.items item).slot tt c.in-Err-Failed.field-0 failed.sent in
     let view_is : c.orphan_by.new.self ≡ orphaned held.objects item slot.0 =
@@ -84,7 +86,7 @@ returns-in-Err-Failed-clause-ok g c =
       fewer = fewer_objects held.objects.items c.orphan_by.new.self.items client item at items_are;
       costs = omega (
         arith,
-        sent_slot g.D.Device.seen (item_at held.objects.items item).slot tt _ _ (Err _) failed.sent,
+        sent_slot _ g.D.Device.seen (item_at held.objects.items item).slot tt _ _ (Err _) failed.sent,
         fewer_residents held.objects.items c.orphan_by.new.self.items client item at items_are,
       );
     }
@@ -103,7 +105,7 @@ returns-in-Err-Failed-clause-disowns g c =
     let held = c.args.self.now.held in
     let item = c.args.item in
     let failed = c.in-Err-Failed.ensures in
-    let cause = failed_cause g.D.Device.seen _ c.in-Err-Failed.field-0-0 _ _ c.in-Err-Failed.field-0-is failed.asks.cause in
+    let cause = failed_cause g.D.Device.CONTEXTS g.D.Device.seen _ c.in-Err-Failed.field-0-0 _ _ c.in-Err-Failed.field-0-is failed.asks.cause in
     let slot = is_in_slot _ _ (item_at held.objects.items item).slot tt c.in-Err-Failed.field-0 failed.sent in
     disowns_left _ _ _ held c.orphan_by.new.self item slot.0 tt
     (c.orphan_by.ensures.left slot.0 (ap (λ (v : ObjectsView). (item_at v.items item).slot) failed.err.0 ∙ slot.1)
@@ -118,13 +120,14 @@ returns-in-Err-Failed-clause-costs g c =
     let item = c.args.item in
     omega (
       arith,
-      sent_slot g.D.Device.seen (item_at items item).slot tt _ _ (Err _) c.in-Err-Failed.ensures.sent,
+      sent_slot _ g.D.Device.seen (item_at items item).slot tt _ _ (Err _) c.in-Err-Failed.ensures.sent,
       among_residents items client item (record { names = c.requires.named; own = own }),
     )
 
 pub returns-in-Err-Answer-clause-disowns : goal.returns-in-Err-Answer-clause-disowns
 returns-in-Err-Answer-clause-disowns g c = record {
   keeps = search rules;
+  made_for = record { objects = c.in-Err-Answer.ensures.dropped.contexts; sessions = refl };
   slots = search rules;
   numbers = search rules;
   length_is = search rules;
@@ -142,6 +145,6 @@ returns-in-Err-Answer-clause-costs g c =
     let item = c.args.item in
     omega (
       arith,
-      sent_slot g.D.Device.seen (item_at items item).slot tt _ _ (Err _) c.in-Err-Answer.ensures.sent,
+      sent_slot _ g.D.Device.seen (item_at items item).slot tt _ _ (Err _) c.in-Err-Answer.ensures.sent,
       among_residents items client item (record { names = c.requires.named; own = own }),
     )

@@ -110,7 +110,7 @@ returns-clause-ok g c =
       c.orphans.ensures,
       c.orphans-before.ensures,
     ) in
-    subst (λ (n : ℕ). Drops g.D.Device.seen client c.args.self.now.device c.loop-item.self.device held c.loop-item.self.held held.objects.owners n)
+    subst (λ (n : ℕ). Drops g.D.Device.CONTEXTS g.D.Device.seen client c.args.self.now.device c.loop-item.self.device held c.loop-item.self.held held.objects.owners n)
     failed so_far.1
 
 pub returns-clause-none : goal.returns-clause-none

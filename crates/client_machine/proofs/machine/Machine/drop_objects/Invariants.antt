@@ -15,11 +15,11 @@ invariant-loop-item g l =
     record {
       drops : (client : ℕ) → owner_at l.fn.self.held.objects.owners l.list ≡ Some client
           → (failed : ℕ)
-          × Drops D.seen client l.fn.self.device l.self.device l.fn.self.held l.self.held l.fn.self.held.objects.owners failed;
+          × Drops D.CONTEXTS D.seen client l.fn.self.device l.self.device l.fn.self.held l.self.held l.fn.self.held.objects.owners failed;
       settled : Settled (D.seen l.self.device).state l.self.held;
       lists : l.self.held.objects.owners ≡ l.fn.self.held.objects.owners;
       rest : l.self.held.sessions ≡ l.fn.self.held.sessions;
-      disowns : Disowns {A = ℕ} D.seen l.fn.self.device l.self.device l.fn.self.held l.self.held (Ok 0);
+      disowns : Disowns {A = ℕ} D.CONTEXTS D.seen l.fn.self.device l.self.device l.fn.self.held l.self.held (Ok 0);
       costs : (client : ℕ) → owner_at l.fn.self.held.objects.owners l.list ≡ Some client
           → sent_of (D.seen l.self.device) + own_residents client l.self.held.objects.items
           ≤ sent_of (D.seen l.fn.self.device) + own_residents client l.fn.self.held.objects.items;

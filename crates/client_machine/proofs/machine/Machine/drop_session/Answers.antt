@@ -1,4 +1,4 @@
-use Rattle.std.proofs.Common.{[], Ok, Err, set, ap, arith, rules, ◌∙◌}
+use Rattle.std.proofs.Common.{[], Ok, Err, set, ap, arith, refl, rules, ◌∙◌}
 use Rattle.std.specs.List.{count_by}
 use Rattle.tab_spec.specs.Shape.{number_of_session}
 use Rattle.device_port.specs.Use.{without_one}
@@ -28,6 +28,7 @@ returns-in-Ok-clause-ok g c =
       counter = done.counts.counter;
       rest = done.stands.rest;
       answered = done.asks.answered;
+      made_for = ap (λ (v : SessionsView). v.contexts) done.ok.view_is;
     })
     (going client c.args.self.now.held.sessions c.args.handle c.requires.named done.listed dropped) c.requires.settled
 
@@ -48,7 +49,7 @@ pub returns-in-Err-Failed-clause-ok : goal.returns-in-Err-Failed-clause-ok
 returns-in-Err-Failed-clause-ok g c =
     λ client dropped.
     let failed = c.in-Err-Failed.ensures in
-    let cause = failed_cause g.D.Device.seen _ c.in-Err-Failed.field-0-0 _ _ c.in-Err-Failed.field-0-is failed.asks.cause in
+    let cause = failed_cause g.D.Device.CONTEXTS g.D.Device.seen _ c.in-Err-Failed.field-0-0 _ _ c.in-Err-Failed.field-0-is failed.asks.cause in
     let n = number_of_session c.args.handle in
     orphaned _ client _ _ c.args.self.now.held c.orphan_session.new.self c.args.handle
     (c.orphan_session.ensures
@@ -87,6 +88,7 @@ returns-in-Err-Answer-clause-costs g c = sent_one g.D.Device.seen _ _ _ (Err _) 
 pub returns-in-Ok-clause-disowns : goal.returns-in-Ok-clause-disowns
 returns-in-Ok-clause-disowns g c = record {
   keeps = search rules;
+  made_for = record { objects = refl; sessions = ap (λ (v : SessionsView). v.contexts) c.in-Ok.ensures.ok.view_is };
   slots = search rules;
   numbers = search rules;
   length_is = search rules;
@@ -101,9 +103,10 @@ pub returns-in-Err-Failed-clause-disowns : goal.returns-in-Err-Failed-clause-dis
 returns-in-Err-Failed-clause-disowns g c =
     let failed = c.in-Err-Failed.ensures in
     let n = number_of_session c.args.handle in
-    let cause = failed_cause g.D.Device.seen _ c.in-Err-Failed.field-0-0 _ _ c.in-Err-Failed.field-0-is failed.asks.cause in
+    let cause = failed_cause g.D.Device.CONTEXTS g.D.Device.seen _ c.in-Err-Failed.field-0-0 _ _ c.in-Err-Failed.field-0-is failed.asks.cause in
     record {
       keeps = search rules;
+      made_for = record { objects = refl; sessions = ap (λ (v : SessionsView). v.contexts) c.orphan_session.ensures ∙ ap (λ (v : SessionsView). v.contexts) failed.err };
       slots = search rules;
       numbers = search rules;
       length_is = search rules;
@@ -119,6 +122,7 @@ returns-in-Err-Failed-clause-disowns g c =
 pub returns-in-Err-Answer-clause-disowns : goal.returns-in-Err-Answer-clause-disowns
 returns-in-Err-Answer-clause-disowns g c = record {
   keeps = search rules;
+  made_for = record { objects = refl; sessions = ap (λ (v : SessionsView). v.contexts) c.in-Err-Answer.ensures.err };
   slots = search rules;
   numbers = search rules;
   length_is = search rules;

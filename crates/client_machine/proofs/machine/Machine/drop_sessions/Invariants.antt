@@ -10,10 +10,10 @@ abbrev pub invariant-loop-number : goal.invariant-loop-number
 invariant-loop-number g l =
     let D = g.D.Device in
     record {
-      drops : Drops D.seen l.fn.client l.fn.self.device l.self.device l.fn.self.held l.self.held l.fn.self.held.objects.owners l.failed;
+      drops : Drops D.CONTEXTS D.seen l.fn.client l.fn.self.device l.self.device l.fn.self.held l.self.held l.fn.self.held.objects.owners l.failed;
       left : count_by (is_owned l.fn.client) l.self.held.sessions.items + l._number ≤ count_by is_held l.fn.self.held.sessions.items;
       few : l.failed ≤ l._number;
-      disowns : Disowns {A = ℕ} D.seen l.fn.self.device l.self.device l.fn.self.held l.self.held (Ok 0);
+      disowns : Disowns {A = ℕ} D.CONTEXTS D.seen l.fn.self.device l.self.device l.fn.self.held l.self.held (Ok 0);
       rest : l.self.held.objects ≡ l.fn.self.held.objects;
       costs : sent_of (D.seen l.self.device) + count_by (is_owned l.fn.client) l.self.held.sessions.items
           ≤ sent_of (D.seen l.fn.self.device) + count_by (is_owned l.fn.client) l.fn.self.held.sessions.items;

@@ -45,15 +45,15 @@ returns-in_err-drop_session-clause-serves g c = λ client may.
     let before = c.flush_orphans.ensures.clears.prepared in
     let failed = c.in_err-drop_session.ensures in
     let returned = c.from_residual-in_err-drop_session in
-    serves_failed {contexts = 0} client c.args.table.now.items returned.result (err_from_is_err_and returned.result returned.ensures.1) (omega arith)
+    serves_failed {most = 0} client c.args.table.now.items returned.result (err_from_is_err_and returned.result returned.ensures.1) (omega arith)
     (prepares_then seen _ c.flush_orphans.new.device _ _ between _ (omega arith) before
     (prepares_failed seen c.flush_orphans.new.device _ between _ (keeps_over_sessions _ _ _ failed.stands.rest) failed.asks.err
     (ap (λ (v : SessionsView). record { objects = between.objects; sessions = v }) failed.err) before.settled))
     may.own_table
-    (cause_then seen _ c.flush_orphans.new.device _ _ c.in_ok-flush_orphans.ensures.asks.count failed.asks.cause)
+    (cause_then g.D.Device.CONTEXTS seen _ c.flush_orphans.new.device _ _ c.in_ok-flush_orphans.ensures.asks.count failed.asks.cause)
     (omega (arith, c.flush_orphans.ensures.costs, failed.asks.once))
     (fails_asking seen _ _ _
-    (asks_then seen _ c.flush_orphans.new.device _ tt (Err _) c.in_ok-flush_orphans.ensures.asks (asks_some seen _ _ _ (Err _) failed.asks)))
+    (asks_then g.D.Device.CONTEXTS seen _ c.flush_orphans.new.device _ tt (Err _) c.in_ok-flush_orphans.ensures.asks (asks_some g.D.Device.CONTEXTS seen _ _ _ (Err _) failed.asks)))
 
 -- a session of the client's that was flushed
 pub returns-then-octet_of-ne-HT_TRANSIENT-clause-serves : goal.returns-then-octet_of-ne-HT_TRANSIENT-clause-serves
@@ -72,7 +72,7 @@ returns-then-octet_of-ne-HT_TRANSIENT-clause-serves g c = λ client may.
     let still = owner_again client handle held.sessions.items between.sessions.items own same in
     record {
       moves = moves_after seen client _ c.flush_orphans.new.device _ _ between _ _ before.prepared
-          (forgets _ client _ _ between c.drop_session.new.self n
+          (forgets g.D.Device.CONTEXTS _ client _ _ between c.drop_session.new.self n
           (record {
             numbers = ap (λ (v : SessionsView). v.numbers) done.ok.view_is;
             items_are = ap (λ (v : SessionsView). v.items) done.ok.view_is;
@@ -83,11 +83,12 @@ returns-then-octet_of-ne-HT_TRANSIENT-clause-serves g c = λ client may.
             counter = done.counts.counter;
             rest = done.stands.rest;
             answered = done.asks.answered;
+            made_for = ap (λ (v : SessionsView). v.contexts) done.ok.view_is;
           })
           (named_inside between.sessions.items handle (owner_named client handle between.sessions.items still))
           (owned_stays client handle between.sessions.items still) settled)
           (prepares_table client c.args.table.now.items before.prepared may.own_table);
-      right = rightly seen _ _ (inr done.asks.answered);
+      right = rightly g.D.Device.CONTEXTS seen _ _ (inr done.asks.answered);
       stays = tt;
       costs = omega (arith, c.flush_orphans.ensures.costs, done.asks.once);
       cause = tt;
@@ -150,7 +151,7 @@ returns-then-is_none-clause-serves g c = λ client may.
       moves = moves_after g.D.Device.seen client _ c.args.self.now.device _ _ held _ _
           (prepares_same g.D.Device.seen c.args.self.now.device held settled)
           (drops_object _ client _ _ held c.drop_object.new.self
-          (dropped _ client _ _ held c.drop_object.new.self c.unwrap-item.result
+          (dropped {contexts = g.D.Device.CONTEXTS} _ client _ _ held c.drop_object.new.self c.unwrap-item.result
           (record {
             items_are = done.ok.0.items;
             objects = done.ok.0.objects;
@@ -161,15 +162,16 @@ returns-then-is_none-clause-serves g c = λ client may.
             slots = done.dropped.slots;
             owners = done.dropped.owners;
             left = done.dropped.left;
+            made_for = done.dropped.contexts;
           })
           (held_named held.objects.items client c.args.table.now.items c.args.handle c.unwrap-item.result may.own_table here) settled))
           (table_after held.objects.items c.drop_object.new.self.items client c.args.table.now.items c.remove.new.self.items c.args.handle
           c.unwrap-item.result may.own_table here done.ok.0.items c.remove.ensures.items);
-      right = rightly g.D.Device.seen _ _ done.asks.answered;
+      right = rightly g.D.Device.CONTEXTS g.D.Device.seen _ _ done.asks.answered;
       stays = tt;
       costs = omega (
         arith,
-        sent_slot g.D.Device.seen (item_at held.objects.items c.unwrap-item.result).slot tt _ _ (Ok tt) done.sent,
+        sent_slot _ g.D.Device.seen (item_at held.objects.items c.unwrap-item.result).slot tt _ _ (Ok tt) done.sent,
         one_most (is_some (handle_in (item_at held.objects.items c.unwrap-item.result).slot)),
       );
       cause = tt;
@@ -195,7 +197,7 @@ returns-then-is_none-clause-flushes g c =
     let done = c.in_ok-drop_object.ensures in
     let out : is_some (handle_in (item_at held.objects.items item).slot) ≡ false =
     ap (λ (slot : Option ℕ). is_some slot) (sym c.slot_of.ensures) ∙ c.is_none.ensures ∙ ap not c.if-is_none.true in
-    let unsent = object_unsent _ _ g.D.Device.seen (orphan_count held) c.args.table.now.items held.objects.items c.args.handle item _ c.drop_object.new.device
+    let unsent = object_unsent _ _ _ g.D.Device.seen (orphan_count held) c.args.table.now.items held.objects.items c.args.handle item _ c.drop_object.new.device
     (transient c.octet_of.result c.args.handle c.octet_of.ensures c.if-octet_of-ne-HT_TRANSIENT.false) (sym c.find.ensures ∙ c.unwrap-item.ensures) out done.sent in
     record {
       sent_is = unsent.0;
@@ -225,18 +227,18 @@ returns-in_err-drop_object-2-clause-serves g c = λ client may.
     let before = c.flush_orphans-2.ensures.clears.prepared in
     let failed = c.in_err-drop_object-2.ensures in
     let returned = c.from_residual-in_err-drop_object-2 in
-    serves_failed {contexts = 0} client c.args.table.now.items returned.result (err_from_is_err_and returned.result returned.ensures.1) (omega arith)
+    serves_failed {most = 0} client c.args.table.now.items returned.result (err_from_is_err_and returned.result returned.ensures.1) (omega arith)
     (prepares_then seen _ c.flush_orphans-2.new.device _ _ between _ (omega arith) before
     (prepares_failed seen c.flush_orphans-2.new.device _ between _ (keeps_over_objects _ _ _ failed.dropped.rest) failed.err.1
     (ap (λ (v : ObjectsView). record { objects = v; sessions = between.sessions }) failed.err.0) before.settled))
-    may.own_table (cause_then seen _ c.flush_orphans-2.new.device _ _ c.in_ok-flush_orphans-2.ensures.asks.count failed.asks.cause)
+    may.own_table (cause_then g.D.Device.CONTEXTS seen _ c.flush_orphans-2.new.device _ _ c.in_ok-flush_orphans-2.ensures.asks.count failed.asks.cause)
     (omega (
       arith,
       c.flush_orphans-2.ensures.costs,
-      sent_slot seen (item_at between.objects.items c.unwrap-item.result).slot tt _ _ (Err _) failed.sent,
+      sent_slot _ seen (item_at between.objects.items c.unwrap-item.result).slot tt _ _ (Err _) failed.sent,
       one_most (is_some (handle_in (item_at between.objects.items c.unwrap-item.result).slot)),
     ))
-    (fails_asking seen _ _ _ (asks_then seen _ c.flush_orphans-2.new.device _ tt (Err _) c.in_ok-flush_orphans-2.ensures.asks failed.asks))
+    (fails_asking seen _ _ _ (asks_then g.D.Device.CONTEXTS seen _ c.flush_orphans-2.new.device _ tt (Err _) c.in_ok-flush_orphans-2.ensures.asks failed.asks))
 
 pub returns-clause-serves : goal.returns-clause-serves
 returns-clause-serves g c = λ client may.
@@ -249,7 +251,7 @@ returns-clause-serves g c = λ client may.
     record {
       moves = moves_after seen client _ c.flush_orphans-2.new.device _ _ between _ _ before
           (drops_object _ client _ _ between c.drop_object-2.new.self
-          (dropped _ client _ _ between c.drop_object-2.new.self c.unwrap-item.result
+          (dropped {contexts = g.D.Device.CONTEXTS} _ client _ _ between c.drop_object-2.new.self c.unwrap-item.result
           (record {
             items_are = done.ok.0.items;
             objects = done.ok.0.objects;
@@ -260,16 +262,17 @@ returns-clause-serves g c = λ client may.
             slots = done.dropped.slots;
             owners = done.dropped.owners;
             left = done.dropped.left;
+            made_for = done.dropped.contexts;
           })
           (held_named between.objects.items client c.args.table.now.items c.args.handle c.unwrap-item.result is here) before.settled))
           (table_after between.objects.items c.drop_object-2.new.self.items client c.args.table.now.items c.remove-2.new.self.items c.args.handle
           c.unwrap-item.result is here done.ok.0.items c.remove-2.ensures.items);
-      right = rightly seen _ _ (asks_then seen _ c.flush_orphans-2.new.device _ tt (Ok tt) c.in_ok-flush_orphans-2.ensures.asks done.asks).answered;
+      right = rightly g.D.Device.CONTEXTS seen _ _ (asks_then g.D.Device.CONTEXTS seen _ c.flush_orphans-2.new.device _ tt (Ok tt) c.in_ok-flush_orphans-2.ensures.asks done.asks).answered;
       stays = tt;
       costs = omega (
         arith,
         c.flush_orphans-2.ensures.costs,
-        sent_slot seen (item_at between.objects.items c.unwrap-item.result).slot tt _ _ (Ok tt) done.sent,
+        sent_slot _ seen (item_at between.objects.items c.unwrap-item.result).slot tt _ _ (Ok tt) done.sent,
         one_most (is_some (handle_in (item_at between.objects.items c.unwrap-item.result).slot)),
       );
       cause = tt;
@@ -335,7 +338,7 @@ returns-in_err-drop_object-2-clause-costs g c =
     omega (
       arith,
       c.flush_orphans-2.ensures.costs,
-      sent_slot g.D.Device.seen slot tt _ _ (Err _) c.in_err-drop_object-2.ensures.sent,
+      sent_slot _ g.D.Device.seen slot tt _ _ (Err _) c.in_err-drop_object-2.ensures.sent,
       one_most (is_some (handle_in slot)),
     )
 
@@ -345,6 +348,6 @@ returns-clause-costs g c =
     omega (
       arith,
       c.flush_orphans-2.ensures.costs,
-      sent_slot g.D.Device.seen slot tt _ _ (Ok tt) c.in_ok-drop_object-2.ensures.sent,
+      sent_slot _ g.D.Device.seen slot tt _ _ (Ok tt) c.in_ok-drop_object-2.ensures.sent,
       one_most (is_some (handle_in slot)),
     )

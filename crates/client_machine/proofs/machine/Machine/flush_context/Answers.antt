@@ -39,8 +39,8 @@ returns-in_ok-flush-in-Ok-clause-carries g c =
     (flush_of a bytes) reply named may done.flushes c.start_response.ensures in
     record {
       did = inl (eq-eqb a.shape.row.code CC_FLUSH_CONTEXT c.requires.code, flushed);
-      steps = flush_steps (seen c.args.self.now.device).state (seen c.flush.new.self.device).state held c.flush.new.self.held c.args.client table
-          c.flush.new.table.items a bytes reply c.requires.may.settled c.requires.table c.requires.admitted c.requires.code
+      steps = flush_steps _ (seen c.args.self.now.device).state (seen c.flush.new.self.device).state held c.flush.new.self.held c.args.client table
+          c.flush.new.table.items a bytes reply c.requires.may.settled c.requires.table c.requires.admitted c.requires.code (g.met.D.Device.profile c.args.self.now.device)
           (flushes (seen c.args.self.now.device).state (seen c.flush.new.self.device).state held c.flush.new.self.held c.args.client table
           c.flush.new.table.items c.in-Ok.handle (flush_of a bytes) reply named may (done.left c.args.client may) (done.serves c.args.client may).moves.counts
           c.requires.may.settled c.start_response.ensures);
@@ -74,8 +74,8 @@ returns-in-Err-clause-carries g c =
     let flushed = refused_so seen tables device held table (flush_of a bytes) c.in-Err.code reply refused c.error_reply.ensures in
     record {
       did = inl (eq-eqb a.shape.row.code CC_FLUSH_CONTEXT c.requires.code, flushed);
-      steps = flush_steps (seen device).state (seen device).state held held c.args.client table table a bytes reply c.requires.may.settled c.requires.table
-          c.requires.admitted c.requires.code
+      steps = flush_steps _ (seen device).state (seen device).state held held c.args.client table table a bytes reply c.requires.may.settled c.requires.table
+          c.requires.admitted c.requires.code (g.met.D.Device.profile c.args.self.now.device)
           (unflushed (seen device).state held c.args.client table (flush_of a bytes) c.in-Err.code reply refused c.requires.may.settled c.requires.table
           c.error_reply.ensures);
       whole = flushed_frame tables (flush_of a bytes) reply flushed.reply_is;
@@ -94,10 +94,10 @@ returns-in_ok-flush-in-Ok-clause-at_hand g c = λ hand. omega (arith, c.in_ok-fl
 
 pub returns-in_err-flush-in-Ok-clause-few : goal.returns-in_err-flush-in-Ok-clause-few
 returns-in_err-flush-in-Ok-clause-few g c = λ calm.
-    sent_one_more g.D.Device.seen (moves_for c.args.self.now.held c.args.table.now.items c.args.admitted.now c.args.bytes.now) _ _
+    sent_one_more g.D.Device.seen (moves_for g.D.Device.CONTEXTS c.args.self.now.held c.args.table.now.items c.args.admitted.now c.args.bytes.now) _ _
     (omega (arith, c.in_err-flush-in-Ok.ensures.costs, calm.nobodys))
 
 pub returns-in_ok-flush-in-Ok-clause-few : goal.returns-in_ok-flush-in-Ok-clause-few
 returns-in_ok-flush-in-Ok-clause-few g c = λ calm.
-    sent_one_more g.D.Device.seen (moves_for c.args.self.now.held c.args.table.now.items c.args.admitted.now c.args.bytes.now) _ _
+    sent_one_more g.D.Device.seen (moves_for g.D.Device.CONTEXTS c.args.self.now.held c.args.table.now.items c.args.admitted.now c.args.bytes.now) _ _
     (omega (arith, c.in_ok-flush-in-Ok.ensures.costs, calm.nobodys))

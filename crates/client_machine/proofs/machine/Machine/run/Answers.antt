@@ -27,13 +27,13 @@ pub send-requires-clause-frame : goal.send-requires-clause-frame
 send-requires-clause-frame g c =
     prepared_frame
     (prepared c.args.client c.args.table.now.items c.args.admitted.now c.args.bytes.now c.prepare.ensures.prepared c.requires.table c.requires.admitted c.requires.sort
-    c.requires.may c.type_inv.bytes c.in_ok-prepare.ensures.ready c.prepare.ensures.costs c.in_ok-prepare.ensures.stays c.in_ok-prepare.ensures.used c.as_slice.ensures.value)
+    c.requires.may (g.met.D.Device.profile c.prepare.new.device) c.type_inv.bytes c.in_ok-prepare.ensures.ready c.prepare.ensures.costs c.in_ok-prepare.ensures.stays c.in_ok-prepare.ensures.used c.as_slice.ensures.value)
 
 pub send-requires-clause-told : goal.send-requires-clause-told
 send-requires-clause-told g c =
     prepared_taken
     (prepared c.args.client c.args.table.now.items c.args.admitted.now c.args.bytes.now c.prepare.ensures.prepared c.requires.table c.requires.admitted c.requires.sort
-    c.requires.may c.type_inv.bytes c.in_ok-prepare.ensures.ready c.prepare.ensures.costs c.in_ok-prepare.ensures.stays c.in_ok-prepare.ensures.used c.as_slice.ensures.value)
+    c.requires.may (g.met.D.Device.profile c.prepare.new.device) c.type_inv.bytes c.in_ok-prepare.ensures.ready c.prepare.ensures.costs c.in_ok-prepare.ensures.stays c.in_ok-prepare.ensures.used c.as_slice.ensures.value)
     (sym c.saves_one.ensures ∙ c.if-saves_one.false)
 
 pub returns-in_err-send-clause-serves : goal.returns-in_err-send-clause-serves
@@ -42,20 +42,20 @@ returns-in_err-send-clause-serves g c =
     let between = c.prepare.new.device in
     let failed = c.in_err-send.ensures.err in
     let returned = c.from_residual-in_err-send in
-    serves_failed {contexts = 100} c.args.client c.args.table.now.items returned.result (err_from_is_err_and returned.result returned.ensures.1) (omega arith)
+    serves_failed {most = 100} c.args.client c.args.table.now.items returned.result (err_from_is_err_and returned.result returned.ensures.1) (omega arith)
     (prepares_then seen _ between _ _ c.prepare.new.held _ (omega arith) c.prepare.ensures.prepared
     (prepares_failed seen between c.send.new.device c.prepare.new.held c.prepare.new.held
     (record { base_is = failed.base_is; tells = ap (λ s. is_some s) failed.state_is; count = failed.count }) failed.state_is refl
     c.prepare.ensures.prepared.settled))
     c.requires.table
-    (cause_then seen _ between _ _ c.in_ok-prepare.ensures.sends.asks.count failed.cause)
+    (cause_then g.D.Device.CONTEXTS seen _ between _ _ c.in_ok-prepare.ensures.sends.asks.count failed.cause)
     (omega (arith, c.prepare.ensures.costs, failed.sent.once))
     (fails_sending seen _ between _ _ tt c.in_ok-prepare.ensures.sends.asks failed.sent)
 
 pub keep_sessions-requires-clause-started : goal.keep_sessions-requires-clause-started
 keep_sessions-requires-clause-started g c =
     let p = prepared c.args.client c.args.table.now.items c.args.admitted.now c.args.bytes.now c.prepare.ensures.prepared c.requires.table c.requires.admitted
-    c.requires.sort c.requires.may c.type_inv.bytes c.in_ok-prepare.ensures.ready c.prepare.ensures.costs c.in_ok-prepare.ensures.stays c.in_ok-prepare.ensures.used c.as_slice.ensures.value in
+    c.requires.sort c.requires.may (g.met.D.Device.profile c.prepare.new.device) c.type_inv.bytes c.in_ok-prepare.ensures.ready c.prepare.ensures.costs c.in_ok-prepare.ensures.stays c.in_ok-prepare.ensures.used c.as_slice.ensures.value in
     λ tells.
     subst (λ (reply : List ℕ). MayStart reply c.prepare.new.held.sessions) (sym c.as_slice-2.ensures.value)
     (may_start p c.in_ok-send.ensures.ok (ap (λ (reply : List ℕ). tells_session c.args.admitted.now reply) (sym c.as_slice-2.ensures.value) ∙ tells))
@@ -63,13 +63,13 @@ keep_sessions-requires-clause-started g c =
 pub keep_sessions-requires-clause-own : goal.keep_sessions-requires-clause-own
 keep_sessions-requires-clause-own g c =
     let p = prepared c.args.client c.args.table.now.items c.args.admitted.now c.args.bytes.now c.prepare.ensures.prepared c.requires.table c.requires.admitted
-    c.requires.sort c.requires.may c.type_inv.bytes c.in_ok-prepare.ensures.ready c.prepare.ensures.costs c.in_ok-prepare.ensures.stays c.in_ok-prepare.ensures.used c.as_slice.ensures.value in
+    c.requires.sort c.requires.may (g.met.D.Device.profile c.prepare.new.device) c.type_inv.bytes c.in_ok-prepare.ensures.ready c.prepare.ensures.costs c.in_ok-prepare.ensures.stays c.in_ok-prepare.ensures.used c.as_slice.ensures.value in
     λ ends. ends_own c.as_slice-2.result.now p ends
 
 pub adopt-requires-clause-may : goal.adopt-requires-clause-may
 adopt-requires-clause-may g c =
     let p = prepared c.args.client c.args.table.now.items c.args.admitted.now c.args.bytes.now c.prepare.ensures.prepared c.requires.table c.requires.admitted
-    c.requires.sort c.requires.may c.type_inv.bytes c.in_ok-prepare.ensures.ready c.prepare.ensures.costs c.in_ok-prepare.ensures.stays c.in_ok-prepare.ensures.used c.as_slice.ensures.value in
+    c.requires.sort c.requires.may (g.met.D.Device.profile c.prepare.new.device) c.type_inv.bytes c.in_ok-prepare.ensures.ready c.prepare.ensures.costs c.in_ok-prepare.ensures.stays c.in_ok-prepare.ensures.used c.as_slice.ensures.value in
     may_adopt c.args.table.now.spare p c.in_ok-send.ensures.ok c.requires.room
     (ap (λ (reply : List ℕ). tells_object c.args.admitted.now reply) (sym c.as_slice-3.ensures.value) ∙ sym c.tells_object.ensures ∙ c.if-tells_object.true)
 
@@ -80,7 +80,7 @@ adopt-requires-clause-list g c =
 pub returns-then-tells_object-clause-serves : goal.returns-then-tells_object-clause-serves
 returns-then-tells_object-clause-serves g c =
     let p = prepared c.args.client c.args.table.now.items c.args.admitted.now c.args.bytes.now c.prepare.ensures.prepared c.requires.table c.requires.admitted
-    c.requires.sort c.requires.may c.type_inv.bytes c.in_ok-prepare.ensures.ready c.prepare.ensures.costs c.in_ok-prepare.ensures.stays c.in_ok-prepare.ensures.used c.as_slice.ensures.value in
+    c.requires.sort c.requires.may (g.met.D.Device.profile c.prepare.new.device) c.type_inv.bytes c.in_ok-prepare.ensures.ready c.prepare.ensures.costs c.in_ok-prepare.ensures.stays c.in_ok-prepare.ensures.used c.as_slice.ensures.value in
     let sent = c.in_ok-send.ensures.ok in
     let tells : tells_object c.args.admitted.now c.send.new.reply ≡ true =
     ap (λ (reply : List ℕ). tells_object c.args.admitted.now reply) (sym c.as_slice-3.ensures.value) ∙ sym c.tells_object.ensures ∙ c.if-tells_object.true in
@@ -91,7 +91,7 @@ returns-then-tells_object-clause-serves g c =
 pub returns-then-tells_object-clause-carries : goal.returns-then-tells_object-clause-carries
 returns-then-tells_object-clause-carries g c =
     let p = prepared c.args.client c.args.table.now.items c.args.admitted.now c.args.bytes.now c.prepare.ensures.prepared c.requires.table c.requires.admitted
-    c.requires.sort c.requires.may c.type_inv.bytes c.in_ok-prepare.ensures.ready c.prepare.ensures.costs c.in_ok-prepare.ensures.stays c.in_ok-prepare.ensures.used c.as_slice.ensures.value in
+    c.requires.sort c.requires.may (g.met.D.Device.profile c.prepare.new.device) c.type_inv.bytes c.in_ok-prepare.ensures.ready c.prepare.ensures.costs c.in_ok-prepare.ensures.stays c.in_ok-prepare.ensures.used c.as_slice.ensures.value in
     let sent = c.in_ok-send.ensures.ok in
     let tells : tells_object c.args.admitted.now c.send.new.reply ≡ true =
     ap (λ (reply : List ℕ). tells_object c.args.admitted.now reply) (sym c.as_slice-3.ensures.value) ∙ sym c.tells_object.ensures ∙ c.if-tells_object.true in
@@ -102,7 +102,7 @@ returns-then-tells_object-clause-carries g c =
 pub returns-else-tells_object-clause-serves : goal.returns-else-tells_object-clause-serves
 returns-else-tells_object-clause-serves g c =
     let p = prepared c.args.client c.args.table.now.items c.args.admitted.now c.args.bytes.now c.prepare.ensures.prepared c.requires.table c.requires.admitted
-    c.requires.sort c.requires.may c.type_inv.bytes c.in_ok-prepare.ensures.ready c.prepare.ensures.costs c.in_ok-prepare.ensures.stays c.in_ok-prepare.ensures.used c.as_slice.ensures.value in
+    c.requires.sort c.requires.may (g.met.D.Device.profile c.prepare.new.device) c.type_inv.bytes c.in_ok-prepare.ensures.ready c.prepare.ensures.costs c.in_ok-prepare.ensures.stays c.in_ok-prepare.ensures.used c.as_slice.ensures.value in
     let tells : tells_object c.args.admitted.now c.send.new.reply ≡ false =
     ap (λ (reply : List ℕ). tells_object c.args.admitted.now reply) (sym c.as_slice-3.ensures.value) ∙ sym c.tells_object.ensures ∙ c.if-tells_object.false in
     (outcome_else c.keep_sessions.new.sessions p c.in_ok-send.ensures.ok c.in_ok-prepare.ensures.sends.before c.prepare.ensures.still
@@ -111,7 +111,7 @@ returns-else-tells_object-clause-serves g c =
 pub returns-else-tells_object-clause-carries : goal.returns-else-tells_object-clause-carries
 returns-else-tells_object-clause-carries g c =
     let p = prepared c.args.client c.args.table.now.items c.args.admitted.now c.args.bytes.now c.prepare.ensures.prepared c.requires.table c.requires.admitted
-    c.requires.sort c.requires.may c.type_inv.bytes c.in_ok-prepare.ensures.ready c.prepare.ensures.costs c.in_ok-prepare.ensures.stays c.in_ok-prepare.ensures.used c.as_slice.ensures.value in
+    c.requires.sort c.requires.may (g.met.D.Device.profile c.prepare.new.device) c.type_inv.bytes c.in_ok-prepare.ensures.ready c.prepare.ensures.costs c.in_ok-prepare.ensures.stays c.in_ok-prepare.ensures.used c.as_slice.ensures.value in
     let tells : tells_object c.args.admitted.now c.send.new.reply ≡ false =
     ap (λ (reply : List ℕ). tells_object c.args.admitted.now reply) (sym c.as_slice-3.ensures.value) ∙ sym c.tells_object.ensures ∙ c.if-tells_object.false in
     (outcome_else c.keep_sessions.new.sessions p c.in_ok-send.ensures.ok c.in_ok-prepare.ensures.sends.before c.prepare.ensures.still
@@ -123,14 +123,14 @@ returns-in_err-client_save-clause-serves g c =
     let between = c.prepare.new.device in
     let failed = c.in_err-client_save.ensures in
     let returned = c.from_residual-in_err-client_save in
-    serves_failed {contexts = 100} c.args.client c.args.table.now.items returned.result (err_from_is_err_and returned.result returned.ensures.1) (omega arith)
+    serves_failed {most = 100} c.args.client c.args.table.now.items returned.result (err_from_is_err_and returned.result returned.ensures.1) (omega arith)
     (prepares_then seen _ between _ _ c.prepare.new.held _ (omega arith) c.prepare.ensures.prepared
     (prepares_failed seen between c.client_save.new.device c.prepare.new.held _ (keeps_over_sessions _ _ _ failed.stands.rest) failed.asks.err
     (ap (λ (v : SessionsView). record { objects = c.prepare.new.held.objects; sessions = v }) failed.err) c.prepare.ensures.prepared.settled))
     c.requires.table
-    (cause_then seen _ between _ _ c.in_ok-prepare.ensures.sends.asks.count failed.asks.cause)
+    (cause_then g.D.Device.CONTEXTS seen _ between _ _ c.in_ok-prepare.ensures.sends.asks.count failed.asks.cause)
     (omega (arith, c.prepare.ensures.costs, failed.asks.once))
-    (fails_asking seen _ _ _ (asks_then seen _ between _ tt (Err _) c.in_ok-prepare.ensures.sends.asks (asks_some seen _ _ _ (Err _) failed.asks)))
+    (fails_asking seen _ _ _ (asks_then g.D.Device.CONTEXTS seen _ between _ tt (Err _) c.in_ok-prepare.ensures.sends.asks (asks_some g.D.Device.CONTEXTS seen _ _ _ (Err _) failed.asks)))
 
 pub client_save-requires-clause-stand : goal.client_save-requires-clause-stand
 client_save-requires-clause-stand g c =
@@ -139,7 +139,7 @@ client_save-requires-clause-stand g c =
 pub client_save-requires-clause-may : goal.client_save-requires-clause-may
 client_save-requires-clause-may g c =
     let p = prepared c.args.client c.args.table.now.items c.args.admitted.now c.args.bytes.now c.prepare.ensures.prepared c.requires.table c.requires.admitted
-    c.requires.sort c.requires.may c.type_inv.bytes c.in_ok-prepare.ensures.ready c.prepare.ensures.costs c.in_ok-prepare.ensures.stays c.in_ok-prepare.ensures.used refl in
+    c.requires.sort c.requires.may (g.met.D.Device.profile c.prepare.new.device) c.type_inv.bytes c.in_ok-prepare.ensures.ready c.prepare.ensures.costs c.in_ok-prepare.ensures.stays c.in_ok-prepare.ensures.used refl in
     record {
       owned = saved_owned p (sym c.saves_one.ensures ∙ c.if-saves_one.true);
       loaded = search rules;
@@ -151,8 +151,8 @@ pub returns-then-saves_one-clause-serves : goal.returns-then-saves_one-clause-se
 returns-then-saves_one-clause-serves g c =
     let D = g.D.Device in
     let p = prepared c.args.client c.args.table.now.items c.args.admitted.now c.args.bytes.now c.prepare.ensures.prepared c.requires.table c.requires.admitted
-    c.requires.sort c.requires.may c.type_inv.bytes c.in_ok-prepare.ensures.ready c.prepare.ensures.costs c.in_ok-prepare.ensures.stays c.in_ok-prepare.ensures.used refl in
-    let saved : SavedOne D.seen c.prepare.new.device c.client_save.new.device c.prepare.new.held c.client_save.new.self
+    c.requires.sort c.requires.may (g.met.D.Device.profile c.prepare.new.device) c.type_inv.bytes c.in_ok-prepare.ensures.ready c.prepare.ensures.costs c.in_ok-prepare.ensures.stays c.in_ok-prepare.ensures.used refl in
+    let saved : SavedOne D.CONTEXTS D.seen c.prepare.new.device c.client_save.new.device c.prepare.new.held c.client_save.new.self
     (first_handle c.args.admitted.now) c.client_save.new.reply =
     saved_now c.client_save.ensures.stands.rest c.client_save.ensures.sessions
     (sessions_settled (D.seen c.prepare.new.device).state c.prepare.new.held c.prepare.ensures.prepared.settled)
@@ -164,8 +164,8 @@ pub returns-then-saves_one-clause-carries : goal.returns-then-saves_one-clause-c
 returns-then-saves_one-clause-carries g c =
     let D = g.D.Device in
     let p = prepared c.args.client c.args.table.now.items c.args.admitted.now c.args.bytes.now c.prepare.ensures.prepared c.requires.table c.requires.admitted
-    c.requires.sort c.requires.may c.type_inv.bytes c.in_ok-prepare.ensures.ready c.prepare.ensures.costs c.in_ok-prepare.ensures.stays c.in_ok-prepare.ensures.used refl in
-    let saved : SavedOne D.seen c.prepare.new.device c.client_save.new.device c.prepare.new.held c.client_save.new.self
+    c.requires.sort c.requires.may (g.met.D.Device.profile c.prepare.new.device) c.type_inv.bytes c.in_ok-prepare.ensures.ready c.prepare.ensures.costs c.in_ok-prepare.ensures.stays c.in_ok-prepare.ensures.used refl in
+    let saved : SavedOne D.CONTEXTS D.seen c.prepare.new.device c.client_save.new.device c.prepare.new.held c.client_save.new.self
     (first_handle c.args.admitted.now) c.client_save.new.reply =
     saved_now c.client_save.ensures.stands.rest c.client_save.ensures.sessions
     (sessions_settled (D.seen c.prepare.new.device).state c.prepare.new.held c.prepare.ensures.prepared.settled)
@@ -202,30 +202,30 @@ returns-then-saves_one-clause-at_hand g c = λ hand.
 
 pub returns-in_err-prepare-clause-few : goal.returns-in_err-prepare-clause-few
 returns-in_err-prepare-clause-few g c = λ calm.
-    sent_more g.D.Device.seen (moves_for c.args.self.now.held c.args.table.now.items c.args.admitted.now c.args.bytes.now) 1 _ _
+    sent_more g.D.Device.seen (moves_for g.D.Device.CONTEXTS c.args.self.now.held c.args.table.now.items c.args.admitted.now c.args.bytes.now) 1 _ _
     (c.prepare.ensures.few calm)
 
 pub returns-in_err-send-clause-few : goal.returns-in_err-send-clause-few
 returns-in_err-send-clause-few g c = λ calm.
-    sent_then g.D.Device.seen (moves_for c.args.self.now.held c.args.table.now.items c.args.admitted.now c.args.bytes.now) _ c.prepare.new.device _
+    sent_then g.D.Device.seen (moves_for g.D.Device.CONTEXTS c.args.self.now.held c.args.table.now.items c.args.admitted.now c.args.bytes.now) _ c.prepare.new.device _
     (c.prepare.ensures.few calm) (omega (arith, c.in_err-send.ensures.err.sent.once))
 
 pub returns-then-tells_object-clause-few : goal.returns-then-tells_object-clause-few
 returns-then-tells_object-clause-few g c = λ calm.
-    sent_then g.D.Device.seen (moves_for c.args.self.now.held c.args.table.now.items c.args.admitted.now c.args.bytes.now) _ c.prepare.new.device _
+    sent_then g.D.Device.seen (moves_for g.D.Device.CONTEXTS c.args.self.now.held c.args.table.now.items c.args.admitted.now c.args.bytes.now) _ c.prepare.new.device _
     (c.prepare.ensures.few calm) (omega (arith, c.in_ok-send.ensures.ok.sent.once))
 
 pub returns-else-tells_object-clause-few : goal.returns-else-tells_object-clause-few
 returns-else-tells_object-clause-few g c = λ calm.
-    sent_then g.D.Device.seen (moves_for c.args.self.now.held c.args.table.now.items c.args.admitted.now c.args.bytes.now) _ c.prepare.new.device _
+    sent_then g.D.Device.seen (moves_for g.D.Device.CONTEXTS c.args.self.now.held c.args.table.now.items c.args.admitted.now c.args.bytes.now) _ c.prepare.new.device _
     (c.prepare.ensures.few calm) (omega (arith, c.in_ok-send.ensures.ok.sent.once))
 
 pub returns-in_err-client_save-clause-few : goal.returns-in_err-client_save-clause-few
 returns-in_err-client_save-clause-few g c = λ calm.
-    sent_then g.D.Device.seen (moves_for c.args.self.now.held c.args.table.now.items c.args.admitted.now c.args.bytes.now) _ c.prepare.new.device _
+    sent_then g.D.Device.seen (moves_for g.D.Device.CONTEXTS c.args.self.now.held c.args.table.now.items c.args.admitted.now c.args.bytes.now) _ c.prepare.new.device _
     (c.prepare.ensures.few calm) (omega (arith, c.in_err-client_save.ensures.asks.once))
 
 pub returns-then-saves_one-clause-few : goal.returns-then-saves_one-clause-few
 returns-then-saves_one-clause-few g c = λ calm.
-    sent_then g.D.Device.seen (moves_for c.args.self.now.held c.args.table.now.items c.args.admitted.now c.args.bytes.now) _ c.prepare.new.device _
+    sent_then g.D.Device.seen (moves_for g.D.Device.CONTEXTS c.args.self.now.held c.args.table.now.items c.args.admitted.now c.args.bytes.now) _ c.prepare.new.device _
     (c.prepare.ensures.few calm) (omega (arith, c.in_ok-client_save.ensures.asks.once))

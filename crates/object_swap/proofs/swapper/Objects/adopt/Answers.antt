@@ -62,8 +62,8 @@ invariant_of-self c =
     let d = c.index_mut-record.result.now in
     let n : Record = record { client = Some c.args.client; handle = Some c.args.handle; blob = d.blob; kept = d.kept } in
     let d_kept : d.kept ≡ false = ap (λ (r : Record). r.kept) c.index_mut-record.ensures.value ∙ unkept records item d place.inside place.vacant in
-    let old : IsRecord d = subst (λ (r : Record). IsRecord r) (sym c.index_mut-record.ensures.value) (record_at records item d c.self.invariant.held.sound place.inside) in
-    let sound : IsRecord n = record { handle = c.requires.handle; room = old.room; context = old.context } in
+    let old : IsRecord inside.contexts d = subst (λ (r : Record). IsRecord inside.contexts r) (sym c.index_mut-record.ensures.value) (record_at records item d c.self.invariant.held.sound place.inside) in
+    let sound : IsRecord inside.contexts n = record { handle = c.requires.handle; room = old.room; context = old.context } in
     let is = adopted_item n c.args.client c.args.handle refl refl d_kept in
     let owner = ap (λ (v : ObjectsView). owner_at v.owners c.args.list) c.self.view_is ∙ c.requires.list in
     record {
@@ -71,7 +71,7 @@ invariant_of-self c =
           (owned_put items inside.lists inside.owners.owners inside.vacant c.self.invariant.owned item left.fresh c.insert_back-item.new.self c.args.list
           c.args.client tt (new_item c.args.client (slot_of c.args.handle)) place.items_inside refl refl owner place.some left.lists left.spare
           (place.least c.insert_back-item.new.self.given left.given.2) (place.most c.insert_back-item.new.self.given left.given.2));
-      held = subst (λ (l : List ℕ). HoldsResidents (set records item n) l inside.left.items (vec_capacity c.list_last.new.indices) (vec_capacity inside.left)
+      held = subst (λ (l : List ℕ). HoldsResidents inside.contexts (set records item n) l inside.left.items (vec_capacity c.list_last.new.indices) (vec_capacity inside.left)
           inside.slots) (sym {A = List ℕ} c.list_last.ensures.last)
           (held_adopted records inside.loaded.items inside.left.items (vec_capacity inside.loaded) (vec_capacity c.list_last.new.indices)
           (vec_capacity inside.left) inside.slots item c.args.client (slot_of c.args.handle) n c.self.invariant.held place.inside place.out is sound
@@ -121,4 +121,5 @@ returns-clause-held c =
     let order = c.list_last.ensures.last ∙ ap (λ (v : ObjectsView). v.order ++ item ∷ []) c.self.view_is in
     let owners = ap (λ (v : ObjectsView). v.owners) c.self.view_is in
     let nobodys = ap (λ (v : ObjectsView). v.left) c.self.view_is in
-    λ i. record { items = same i; slots = slots i; order = order i; owners = owners i; left = nobodys i }
+    let room = ap (λ (v : ObjectsView). v.contexts) c.self.view_is in
+    λ i. record { items = same i; slots = slots i; order = order i; owners = owners i; left = nobodys i; contexts = room i }

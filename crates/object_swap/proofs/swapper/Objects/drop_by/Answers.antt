@@ -31,7 +31,7 @@ invariant_of-self g c =
     record {
       owned = left.owned inside.owners.owners c.self.invariant.owned;
       held = held_out inside.records.items c.release.new.records.items inside.loaded.items inside.left.items _ _ inside.slots c.args.item c.self.invariant.held
-          left.items left.sound left.count (ap (λ (l : List Item). is_resident (item_at l c.args.item)) view ∙ ap (λ (s : Option ℕ). is_some s) out);
+          left.items (left.sound inside.contexts c.self.invariant.held.sound) left.count (ap (λ (l : List Item). is_resident (item_at l c.args.item)) view ∙ ap (λ (s : Option ℕ). is_some s) out);
     }
 
 pub returns-in_default-clause-ok : goal.returns-in_default-clause-ok
@@ -62,6 +62,7 @@ returns-in_default-clause-dropped g c =
     left_dropped g.D.Device.seen c.args.device.now c.args.item c.args.self.now _ c.requires.named.inside out
     (c.release.ensures.items ∙ ap (λ (l : List Item). set l c.args.item no_item) view) (ap (λ (v : ObjectsView). v.slots) c.self.view_is)
     (ap (λ (v : ObjectsView). v.owners) c.self.view_is) (ap (λ (v : ObjectsView). v.left) c.self.view_is)
+    (ap (λ (v : ObjectsView). v.contexts) c.self.view_is)
 
 pub flush-requires-clause-transient : goal.flush-requires-clause-transient
 flush-requires-clause-transient g c =
@@ -95,7 +96,7 @@ invariant_of-self-2 g c =
     record {
       owned = left.owned inside.owners.owners c.self.invariant.owned;
       held = held_flushed records c.release-2.new.records.items inside.loaded.items inside.left.items (vec_capacity inside.loaded) (vec_capacity inside.left)
-          inside.slots c.args.item c.self.invariant.held left.items left.sound left.count c.unlist.new.indices.items (vec_capacity c.unlist.new.indices)
+          inside.slots c.args.item c.self.invariant.held left.items (left.sound inside.contexts c.self.invariant.held.sound) left.count c.unlist.new.indices.items (vec_capacity c.unlist.new.indices)
           (named_inside records c.args.item (subst (λ (l : List Item). Names l c.args.item) (sym view) c.requires.named))
           (ap (λ (l : List Item). is_resident (item_at l c.args.item)) view ∙ ap (λ (s : Option ℕ). is_some s) met.slot)
           (c.unlist.ensures.listed (residency records) c.self.invariant.held.residents) c.unlist.ensures.capacity;
@@ -126,24 +127,25 @@ returns-clause-dropped g c =
     flushed_dropped g.D.Device.seen c.args.device.now c.flush.new.device c.args.item c.in-Some.handle c.args.self.now _ c.requires.named.inside met.slot c.in_ok-flush.ensures.state asks.base asks.count
     (c.release-2.ensures.items ∙ ap (λ (l : List Item). set l c.args.item no_item) view) (ap (λ (v : ObjectsView). v.slots) c.self.view_is)
     (ap (λ (v : ObjectsView). v.owners) c.self.view_is) (ap (λ (v : ObjectsView). v.left) c.self.view_is)
+    (ap (λ (v : ObjectsView). v.contexts) c.self.view_is)
 
 pub returns-in_err-flush-clause-sent : goal.returns-in_err-flush-clause-sent
 returns-in_err-flush-clause-sent g c =
     let is = found c.self.inside.records.items c.deref.result.now c.args.item c.look_up.result.now c.deref.ensures.value c.look_up.ensures.found in
     let met = met c.self.inside.records.items c.args.self.now.items c.args.item c.in-Some.handle c.look_up.result.now c.self.invariant.held.sound (ap (λ (v : ObjectsView). v.items) c.self.view_is) c.requires.named is c.in-Some.is in
     let failed = err_from_is_err_and c.from_residual.result c.from_residual.ensures.1 in
-    let asks = subst (λ (r : Result (Unit {0}) SwapError). Asks g.D.Device.seen c.args.device.now c.flush.new.device (flush_context_command c.in-Some.handle) r) (sym (failed.1 ∙ ap (λ (e : SwapError). Err e) failed.2))
+    let asks = subst (λ (r : Result (Unit {0}) SwapError). Asks g.D.Device.CONTEXTS g.D.Device.seen c.args.device.now c.flush.new.device (flush_context_command c.in-Some.handle) r) (sym (failed.1 ∙ ap (λ (e : SwapError). Err e) failed.2))
     c.in_err-flush.ensures.asks in
     of_handle _ _ (item_at c.args.self.now.items c.args.item).slot c.in-Some.handle met.slot met.transient asks
 
 pub returns-in_default-clause-asks : goal.returns-in_default-clause-asks
-returns-in_default-clause-asks g c = asks_none g.D.Device.seen c.args.device.now
+returns-in_default-clause-asks g c = asks_none g.D.Device.CONTEXTS g.D.Device.seen c.args.device.now
 
 pub returns-in_err-flush-clause-asks : goal.returns-in_err-flush-clause-asks
 returns-in_err-flush-clause-asks g c =
     let seen = g.D.Device.seen in
-    some_failed seen _ _ _ c.from_residual.result (err_from_is_err_and c.from_residual.result c.from_residual.ensures.1)
-    (asks_some seen _ _ _ (Err _) c.in_err-flush.ensures.asks)
+    some_failed g.D.Device.CONTEXTS seen _ _ _ c.from_residual.result (err_from_is_err_and c.from_residual.result c.from_residual.ensures.1)
+    (asks_some g.D.Device.CONTEXTS seen _ _ _ (Err _) c.in_err-flush.ensures.asks)
 
 pub returns-clause-asks : goal.returns-clause-asks
-returns-clause-asks g c = asks_some g.D.Device.seen _ _ _ (Ok tt) c.in_ok-flush.ensures.asks
+returns-clause-asks g c = asks_some g.D.Device.CONTEXTS g.D.Device.seen _ _ _ (Ok tt) c.in_ok-flush.ensures.asks

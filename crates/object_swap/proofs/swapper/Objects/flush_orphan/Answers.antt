@@ -42,8 +42,8 @@ returns-in_err-flush-clause-sent g c left slot is =
     let last : Last inside.left.items c.args.self.now.left c.in-Some.handle.now =
     last_of_left inside.left.items c.args.self.now.left c.deref.result.now c.in-Some.handle.now (ap (λ (v : ObjectsView). v.left) c.self.view_is)
     c.deref.ensures.value c.in-Some.ensures.value c.self.invariant.held.transient in
-    subst (λ (handle : ℕ). Asks seen c.args.device.now c.flush.new.device (flush_context_command handle) c.from_residual.result) (sym (last.handle left slot is))
-    (asks_failed seen c.args.device.now c.flush.new.device (flush_context_command c.in-Some.handle.now) _ c.from_residual.result
+    subst (λ (handle : ℕ). Asks g.D.Device.CONTEXTS seen c.args.device.now c.flush.new.device (flush_context_command handle) c.from_residual.result) (sym (last.handle left slot is))
+    (asks_failed g.D.Device.CONTEXTS seen c.args.device.now c.flush.new.device (flush_context_command c.in-Some.handle.now) _ c.from_residual.result
     (err_from_is_err_and c.from_residual.result c.from_residual.ensures.1) c.in_err-flush.ensures.asks)
 
 pub invariant_of-self : goal.invariant_of-self
@@ -79,10 +79,11 @@ returns-clause-flushed g c some =
     let slots = ap (λ (v : ObjectsView). v.slots) view in
     let order = ap (λ (v : ObjectsView). v.order) view in
     let owners = ap (λ (v : ObjectsView). v.owners) view in
+    let room = ap (λ (v : ObjectsView). v.contexts) view in
     record {
       slot = slot_of handle;
       left = left;
-      same = λ i. record { items = items_is i; slots = slots i; order = order i; owners = owners i; left = others };
+      same = λ i. record { items = items_is i; slots = slots i; order = order i; owners = owners i; left = others; contexts = room i };
       objects = ap (objects_of new_state) items_is ∙ ap (λ (st : Option SlotState). objects_of st items) state_is ∙ flushed.objects;
       stand = subst (λ (l : List Item). Stand new_state l others) (sym items_is)
           (subst (λ (st : Option SlotState). Stand st items others) (sym state_is) flushed.stand);
@@ -96,17 +97,17 @@ returns-clause-sent g c left slot is =
     let last : Last inside.left.items c.args.self.now.left c.in-Some.handle.now =
     last_of_left inside.left.items c.args.self.now.left c.deref.result.now c.in-Some.handle.now (ap (λ (v : ObjectsView). v.left) c.self.view_is)
     c.deref.ensures.value c.in-Some.ensures.value c.self.invariant.held.transient in
-    subst (λ (handle : ℕ). Asks seen c.args.device.now c.flush.new.device (flush_context_command handle) (Ok true)) (sym (last.handle left slot is))
-    (asks_ok seen c.args.device.now c.flush.new.device (flush_context_command c.in-Some.handle.now) tt true c.in_ok-flush.ensures.asks)
+    subst (λ (handle : ℕ). Asks g.D.Device.CONTEXTS seen c.args.device.now c.flush.new.device (flush_context_command handle) (Ok true)) (sym (last.handle left slot is))
+    (asks_ok g.D.Device.CONTEXTS seen c.args.device.now c.flush.new.device (flush_context_command c.in-Some.handle.now) tt true c.in_ok-flush.ensures.asks)
 
 pub returns-in_default-clause-asks : goal.returns-in_default-clause-asks
-returns-in_default-clause-asks g c = some_ok g.D.Device.seen _ _ tt false (asks_none g.D.Device.seen c.args.device.now)
+returns-in_default-clause-asks g c = some_ok g.D.Device.CONTEXTS g.D.Device.seen _ _ tt false (asks_none g.D.Device.CONTEXTS g.D.Device.seen c.args.device.now)
 
 pub returns-in_err-flush-clause-asks : goal.returns-in_err-flush-clause-asks
 returns-in_err-flush-clause-asks g c =
     let seen = g.D.Device.seen in
-    some_failed seen _ _ _ c.from_residual.result (err_from_is_err_and c.from_residual.result c.from_residual.ensures.1)
-    (asks_some seen _ _ _ (Err _) c.in_err-flush.ensures.asks)
+    some_failed g.D.Device.CONTEXTS seen _ _ _ c.from_residual.result (err_from_is_err_and c.from_residual.result c.from_residual.ensures.1)
+    (asks_some g.D.Device.CONTEXTS seen _ _ _ (Err _) c.in_err-flush.ensures.asks)
 
 pub returns-clause-asks : goal.returns-clause-asks
-returns-clause-asks g c = some_ok g.D.Device.seen _ _ tt true (asks_some g.D.Device.seen _ _ _ (Ok tt) c.in_ok-flush.ensures.asks)
+returns-clause-asks g c = some_ok g.D.Device.CONTEXTS g.D.Device.seen _ _ tt true (asks_some g.D.Device.CONTEXTS g.D.Device.seen _ _ _ (Ok tt) c.in_ok-flush.ensures.asks)

@@ -1,6 +1,7 @@
 use Rattle.std.proofs.Common.{◌≡◌, List, ℕ, [], ap, sym, ◌∙◌, subst, arith, length, map}
 use Rattle.std.specs.Prelude.{vec_capacity}
 use Rattle.std.proofs.lemmas.List.{length-map}
+use Rattle.tab_spec.specs.declared.contexts.ContextLimits.{ContextLimits}
 use Rattle.device_spec.specs.Slots.{slot_of}
 use Rattle.object_swap.specs.declared.record.Record.{Record}
 use Rattle.object_swap.specs.Items.{AreThere, Item, KeepsSlots, MakesRoom, ObjectsView, Stand, owners, pending_of, residents}
@@ -34,12 +35,17 @@ swap_objects-requires-clause-needed g c =
       room = has_room (g.D.Device.seen c.args.device.now).state c.args.self.now.slots c.self.inside.slots c.requires.may.slots (omega (arith, slots));
     }
 
+-- there is room for the device's contexts
+made_for : {v w : ObjectsView} {contexts : ContextLimits} → v ≡ w → w.contexts ≡ contexts → v.contexts ≡ contexts
+made_for is for = ap (λ (v : ObjectsView). v.contexts) is ∙ for
+
 pub swap_objects-requires-clause-ready : goal.swap_objects-requires-clause-ready
 swap_objects-requires-clause-ready g c =
     let view = ap items_of c.deref_mut.ensures.value ∙ ap (λ (v : ObjectsView). v.items) c.self.view_is in
     let state = (g.D.Device.seen c.args.device.now).state in
     record {
-      sound = subst (λ (l : List Record). AreRecords l) (sym c.deref_mut.ensures.value) c.self.invariant.held.sound;
+      sound = subst (λ (contexts : ContextLimits). AreRecords contexts c.deref_mut.result.now) (made_for c.self.view_is c.requires.contexts)
+          (subst (λ (l : List Record). AreRecords c.self.inside.contexts l) (sym c.deref_mut.ensures.value) c.self.invariant.held.sound);
       stand = subst (λ (l : List Item). Stand state l []) (sym view) c.requires.stand;
       below = omega (arith, pending_most state c.args.self.now.items c.requires.stand, c.requires.may.counter, ap (pending_of state) view);
     }
@@ -60,13 +66,14 @@ invariant_of-self g c =
     let whole = written_back records c.deref_mut.result.now new inside.records.len old (omega arith) same in
     let again = same ∙ ap (λ (l : List Record). owners (items_of l)) old in
     let none = no_handles inside.left.items (ap (λ (v : ObjectsView). v.left) c.self.view_is ∙ c.requires.nobodys) in
-    subst (λ (l : List Record). Holds l inside.lists inside.owners.owners inside.vacant c.swap_objects.new.loaded.items inside.left.items
+    subst (λ (l : List Record). Holds inside.contexts l inside.lists inside.owners.owners inside.vacant c.swap_objects.new.loaded.items inside.left.items
     (vec_capacity c.swap_objects.new.loaded) (vec_capacity inside.left) inside.slots) (sym whole)
     (record {
       owned = owned_again (items_of records) inside.lists inside.owners.owners inside.vacant c.self.invariant.owned (items_of new) again
           (same_items records new again);
       held = swapped_held records new inside.loaded.items c.swap_objects.new.loaded.items inside.left.items (vec_capacity inside.loaded)
-          (vec_capacity c.swap_objects.new.loaded) (vec_capacity inside.left) inside.slots c.self.invariant.held again left.swaps.sound left.listed.0
+          (vec_capacity c.swap_objects.new.loaded) (vec_capacity inside.left) inside.slots c.self.invariant.held again
+          (subst (λ (contexts : ContextLimits). AreRecords contexts new) (sym (made_for c.self.view_is c.requires.contexts)) left.swaps.sound) left.listed.0
           (omega (arith, left.listed.1, none));
     })
 
@@ -80,6 +87,7 @@ returns-clause-moved g c =
     swapped g.D.Device.seen c.args.device.now c.swap_objects.new.device c.swap_objects.result lent new c.args.self.now _ left.swaps left.asks
     (ap items_of old ∙ ap (λ (v : ObjectsView). v.items) c.self.view_is) (ap items_of whole) (ap (λ (v : ObjectsView). v.slots) c.self.view_is)
     (ap (λ (v : ObjectsView). v.owners) c.self.view_is) (ap (λ (v : ObjectsView). v.left) c.self.view_is)
+    (ap (λ (v : ObjectsView). v.contexts) c.self.view_is)
 
 pub returns-clause-room : goal.returns-clause-room
 returns-clause-room g c =
@@ -93,14 +101,14 @@ returns-clause-room g c =
     let left = c.swap_objects.ensures in
     let old = c.deref_mut.ensures.value in
     let whole = written_back inside.records.items c.deref_mut.result.now new inside.records.len old (omega arith) left.swaps.keeps.objects.owners in
-    let view : view_with c.deref_mut.result.now loaded slots owners nobodys ≡ c.args.self.now =
-    ap (λ (l : List Record). view_with l loaded slots owners nobodys) old ∙ c.self.view_is in
+    let view : view_with c.deref_mut.result.now loaded slots owners nobodys inside.contexts ≡ c.args.self.now =
+    ap (λ (l : List Record). view_with l loaded slots owners nobodys inside.contexts) old ∙ c.self.view_is in
     subst (λ (l : List Record). MakesRoom seen c.args.device.now c.swap_objects.new.device c.args.needed.now c.args.new_slots c.args.self.now
-    (view_with l c.swap_objects.new.loaded.items slots owners nobodys) c.swap_objects.result) (sym whole)
+    (view_with l c.swap_objects.new.loaded.items slots owners nobodys inside.contexts) c.swap_objects.result) (sym whole)
     (subst (λ (v : ObjectsView). MakesRoom seen c.args.device.now c.swap_objects.new.device c.args.needed.now c.args.new_slots v
-    (view_with new c.swap_objects.new.loaded.items slots owners nobodys) c.swap_objects.result) view
+    (view_with new c.swap_objects.new.loaded.items slots owners nobodys inside.contexts) c.swap_objects.result) view
     (room_seen seen c.args.device.now c.swap_objects.new.device c.args.needed.now c.args.new_slots c.deref_mut.result.now new loaded
-    c.swap_objects.new.loaded.items slots owners nobodys c.swap_objects.result left.room))
+    c.swap_objects.new.loaded.items slots owners nobodys inside.contexts c.swap_objects.result left.room))
 
 pub returns-clause-ok : goal.returns-clause-ok
 returns-clause-ok g c =

@@ -42,10 +42,10 @@ invariant_of-self g c =
     met records c.args.self.now.items c.args.item handle c.index.result.now c.self.invariant.held.sound view c.requires.named c.index.ensures c.unwrap-handle.ensures in
     record {
       owned = left.owned inside.owners.owners c.self.invariant.owned;
-      held = subst (λ (l : List ℕ). HoldsResidents c.release.new.records.items c.unlist.new.indices.items l (vec_capacity c.unlist.new.indices)
+      held = subst (λ (l : List ℕ). HoldsResidents c.self.inside.contexts c.release.new.records.items c.unlist.new.indices.items l (vec_capacity c.unlist.new.indices)
           (vec_capacity c.list_last.new.indices) inside.slots) (sym {A = List ℕ} c.list_last.ensures.last)
           (held_orphaned records c.release.new.records.items inside.loaded.items inside.left.items (vec_capacity inside.loaded) (vec_capacity inside.left)
-          inside.slots c.args.item c.self.invariant.held left.items left.sound left.count c.unlist.new.indices.items (vec_capacity c.unlist.new.indices)
+          inside.slots c.args.item c.self.invariant.held left.items (left.sound inside.contexts c.self.invariant.held.sound) left.count c.unlist.new.indices.items (vec_capacity c.unlist.new.indices)
           (named_inside records c.args.item (subst (λ (l : List Item). Names l c.args.item) (sym view) c.requires.named))
           (ap (λ (l : List Item). is_resident (item_at l c.args.item)) view ∙ c.requires.slot)
           (c.unlist.ensures.listed (residency records) c.self.invariant.held.residents) c.unlist.ensures.capacity handle (vec_capacity c.list_last.new.indices)

@@ -23,7 +23,7 @@ invariant_of-self-2 c =
     let items = items_of records in
     let n : Record = record { client = None; handle = None; blob = c.in_ok-blob.blob; kept = false } in
     let few : length records + 1 < 2 ^ 32 = omega (arith, c.len.ensures, c.if-len.false) in
-    let sound : IsRecord n = record { handle = tt; room = omega (arith, c.in_ok-blob.ensures.exact); context = λ kept. absurd (false≢true kept) } in
+    let sound : IsRecord inside.contexts n = record { handle = tt; room = omega (arith, c.in_ok-blob.ensures.exact); context = λ kept. absurd (false≢true kept) } in
     let room : length records + 1 ≤ vec_capacity c.reserve-2.new.self = omega (arith, c.in_ok-reserve-2.ensures.ok) in
     let left = c.in_ok-reserve.ensures in
     let more = owned_more items inside.lists inside.owners.owners inside.vacant c.self.invariant.owned c.reserve.new.self (omega (arith, c.if-self-gt0.false))
@@ -33,9 +33,9 @@ invariant_of-self-2 c =
     record {
       owned = subst (λ (l : List Item). IsOwnedBy l c.reserve.new.self inside.owners.owners 1)
           (sym (ap items_of c.in_ok-push.ensures.items ∙ map_push item_of records n)) more;
-      held = subst (λ (l : List Record). HoldsResidents l c.reserve-2.new.self.items inside.left.items (vec_capacity c.reserve-2.new.self)
+      held = subst (λ (l : List Record). HoldsResidents inside.contexts l c.reserve-2.new.self.items inside.left.items (vec_capacity c.reserve-2.new.self)
           (vec_capacity inside.left) inside.slots) (sym c.in_ok-push.ensures.items)
-          (subst (λ (l : List ℕ). HoldsResidents (records ++ n ∷ []) l inside.left.items (vec_capacity c.reserve-2.new.self) (vec_capacity inside.left)
+          (subst (λ (l : List ℕ). HoldsResidents inside.contexts (records ++ n ∷ []) l inside.left.items (vec_capacity c.reserve-2.new.self) (vec_capacity inside.left)
           inside.slots) (sym c.reserve-2.ensures.items) held);
     }
 

@@ -2,7 +2,7 @@ use Rattle.std.proofs.Common.{◌≡◌, ◌-◌, ◌∙◌, ◌++◌, ℕ, true
 use Rattle.std.specs.List.{remove}
 use Rattle.std.specs.Vec.{with_items}
 use Rattle.std.proofs.lemmas.List.{with_items_is}
-use Rattle.tab_spec.specs.Numbers.{left_most}
+use Rattle.tab_spec.specs.Numbers.{leave_limit}
 use Rattle.world_spec.specs.World.{Client, Owned, World, closed_world, left_place, saved_numbers, without_client, without_places}
 use Rattle.plain_machine.specs.Clients.{is_open_in, place_in}
 use Rattle.plain_machine.specs.Owners.{owners_of}
@@ -26,7 +26,7 @@ returns c =
     let shared = inside.shared in
     let before = owners_of shared.sessions.items in
     let all : List (Option Owned) → List ℕ = λ sessions. shared.left ++ saved_numbers client 0 sessions in
-    let gone : List (Option Owned) → ℕ = λ sessions. length (all sessions) - left_most shared.most in
+    let gone : List (Option Owned) → ℕ = λ sessions. length (all sessions) - leave_limit shared.most in
     let place : c.place_of-place.result ≡ place_in clients client =
     c.place_of-place.ensures ∙ ap (λ cs. place_in cs client) c.deref.ensures.value in
     let others : c.remove.new.self.items ≡ without_client client clients =

@@ -1,4 +1,5 @@
 use Rattle.std.proofs.Common.{ℕ, List, [], ◌∷◌, ◌++◌, map, ap, sym, ◌∙◌, append_assoc}
+use Rattle.broker_lock.specs.Known.{limits_of}
 use Rattle.history_spec.specs.Entry.{close_entry}
 use Rattle.script_lines.specs.declared.label.Label.{Label}
 use Rattle.script_lines.specs.Labels.{LabelsView}
@@ -25,6 +26,6 @@ loop-client-preserved g c =
         so_far.0 ++ x.label ∷ [],
         so_far.1 ∙ ap (λ (ls : List Label). so_far.0 ++ map (λ y. y.label) ls) first.2 ∙ sym (append_assoc so_far.0 (x.label ∷ []) (map (λ y. y.label) xs))
             ∙ ap (λ (ls : List Label). (so_far.0 ++ x.label ∷ []) ++ map (λ y. y.label) ls) (sym left),
-        rw (entered, left) (leads_closing (g.B.Recorded.fixed c.args.self.now.value).limit c.args.self.now.labels.present labels.present (g.B.Recorded.history c.args.self.now.value) history so_far.0 x xs first.2 so_far.2),
+        rw (entered, left) (leads_closing (limits_of (g.B.Recorded.fixed c.args.self.now.value)) c.args.self.now.labels.present labels.present (g.B.Recorded.history c.args.self.now.value) history so_far.0 x xs first.2 so_far.2),
       );
     }

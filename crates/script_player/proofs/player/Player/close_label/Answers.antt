@@ -1,5 +1,6 @@
 use Rattle.std.proofs.Common.{◌++◌, ◌∷◌, [], ℕ, ap, ◌∙◌}
 use Rattle.std.proofs.lemmas.Result.{on_ok_weaker}
+use Rattle.broker_lock.specs.Known.{limits_of}
 use Rattle.history_spec.specs.Entry.{close_entry}
 use Rattle.tab_laws.proofs.Outcomes.{if_err_weaker}
 use Rattle.script_player.proofs.Keeping.{not_true}
@@ -23,7 +24,7 @@ returns-clause-leads g c =
     let closed = c.close-client.ensures found.0 found.1 in
     let history = g.B.Recorded.history c.args.self.now.value in
     let entered = c.close_client.ensures.closed ∙ ap (λ (n : ℕ). history ++ close_entry n ∷ []) closed.0 in
-    rw (entered, closed.1) (leads_closed (g.B.Recorded.fixed c.args.self.now.value).limit c.args.self.now.labels.present history c.args.label found.0 found.1)
+    rw (entered, closed.1) (leads_closed (limits_of (g.B.Recorded.fixed c.args.self.now.value)) c.args.self.now.labels.present history c.args.label found.0 found.1)
 
 pub returns-clause-sound : goal.returns-clause-sound
 returns-clause-sound g c = on_ok_weaker c.after_closed.result (λ not. not_true _ (λ yes. not (c.close_client.ensures.wrong.1 yes))) c.after_closed.ensures.ok

@@ -1,5 +1,6 @@
 use Rattle.std.proofs.Common.{◌≡◌, ℕ, List, Option, Some, ap, sym, subst, ◌∙◌, arith}
 use Rattle.std.proofs.lemmas.Result.{on_ok_weaker}
+use Rattle.broker_lock.specs.Known.{limits_of}
 use Rattle.script_spec.specs.Script.{item_of, piece, close}
 use Rattle.script_lines.specs.declared.lines.LineItem.{LineItem}
 use Rattle.script_lines.specs.LineItem.{item_said}
@@ -16,7 +17,7 @@ pub returns-then-is_none-clause-played : goal.returns-then-is_none-clause-played
 returns-then-is_none-clause-played g c =
     let label = c.in-Some-Close.label in
     let item : item_of c.args.text.now ≡ Some (close label) = c.read_line.ensures ∙ ap (λ (r : Option LineItem). item_said r c.read_line.new.into) (c.in-Some-Close.is ∙ ap Some c.in-Some-Close.field-0-is) in
-    played_no_close (g.B.Recorded.fixed c.args.self.now.value).limit c.args.text.now c.args.self.now.labels (g.B.Recorded.history c.args.self.now.value) (g.O.Sink.written c.args.output.now) label item (no_client _ _ c.client.ensures c.if-is_none.ensures)
+    played_no_close (limits_of (g.B.Recorded.fixed c.args.self.now.value)) c.args.text.now c.args.self.now.labels (g.B.Recorded.history c.args.self.now.value) (g.O.Sink.written c.args.output.now) label item (no_client _ _ c.client.ensures c.if-is_none.ensures)
 
 pub returns-then-is_none-clause-behind : goal.returns-then-is_none-clause-behind
 returns-then-is_none-clause-behind g c =
@@ -29,7 +30,7 @@ returns-else-is_none-clause-played g c =
     let item : item_of c.args.text.now ≡ Some (close label) = c.read_line.ensures ∙ ap (λ (r : Option LineItem). item_said r c.read_line.new.into) (c.in-Some-Close.is ∙ ap Some c.in-Some-Close.field-0-is) in
     let found = has_client _ _ c.client.ensures c.if-is_none.ensures in
     on_ok_weaker c.close_label.result (λ sound.
-    played_close (g.B.Recorded.fixed c.args.self.now.value).limit c.args.text.now c.args.self.now.labels c.close_label.new.self.labels (g.B.Recorded.history c.args.self.now.value) (g.B.Recorded.history c.close_label.new.self.value) (g.O.Sink.written c.args.output.now) label found.0 item found.1
+    played_close (limits_of (g.B.Recorded.fixed c.args.self.now.value)) c.args.text.now c.args.self.now.labels c.close_label.new.self.labels (g.B.Recorded.history c.args.self.now.value) (g.B.Recorded.history c.close_label.new.self.value) (g.O.Sink.written c.args.output.now) label found.0 item found.1
     c.close_label.ensures.labels c.close_label.ensures.leads) c.close_label.ensures.sound
 
 pub returns-else-is_none-clause-behind : goal.returns-else-is_none-clause-behind
@@ -50,12 +51,12 @@ returns-else-is_none-clause-ends g c =
     let found = has_client _ _ c.client.ensures c.if-is_none.ensures in
     let written = g.O.Sink.written c.args.output.now in
     if_err_weaker c.close_label.result (λ stop is_wrong.
-    subst (λ (s : Stop). EndsAt (g.B.Recorded.fixed c.args.self.now.value).limit s c.args.text.now c.args.played c.args.self.now.labels c.close_label.new.self.labels (g.B.Recorded.history c.args.self.now.value) (g.B.Recorded.history c.close_label.new.self.value) written written (g.B.Recorded.wrong c.close_label.new.self.value)) (sym is_wrong.0) (record {
+    subst (λ (s : Stop). EndsAt (limits_of (g.B.Recorded.fixed c.args.self.now.value)) s c.args.text.now c.args.played c.args.self.now.labels c.close_label.new.self.labels (g.B.Recorded.history c.args.self.now.value) (g.B.Recorded.history c.close_label.new.self.value) written written (g.B.Recorded.wrong c.close_label.new.self.value)) (sym is_wrong.0) (record {
       of_line = tt;
       even = λ even. absurd even;
       full = λ count is. absurd cc;
       stopped = λ of_run.
-          stopped_line_close (g.B.Recorded.fixed c.args.self.now.value).limit c.args.text.now c.args.self.now.labels c.close_label.new.self.labels.present (g.B.Recorded.history c.args.self.now.value) (g.B.Recorded.history c.close_label.new.self.value) written (g.B.Recorded.wrong c.close_label.new.self.value) label found.0 item found.1
+          stopped_line_close (limits_of (g.B.Recorded.fixed c.args.self.now.value)) c.args.text.now c.args.self.now.labels c.close_label.new.self.labels.present (g.B.Recorded.history c.args.self.now.value) (g.B.Recorded.history c.close_label.new.self.value) written (g.B.Recorded.wrong c.close_label.new.self.value) label found.0 item found.1
           c.close_label.ensures.leads;
     })) c.close_label.ensures.err
 
@@ -74,7 +75,7 @@ returns-in_ok-open_label-in-Some-Piece-clause-played g c =
     let opened_is = c.in_ok-open_label-in-Some-Piece.ensures.labels in
     let item : item_of c.args.text.now ≡ Some (piece label bytes) = c.read_line.ensures ∙ ap (λ (r : Option LineItem). item_said r c.read_line.new.into) (c.in-Some-Piece.is ∙ ap Some c.in-Some-Piece.field-0-is) ∙ ap (λ (b : List ℕ). Some (piece label b)) (sym c.as_slice.ensures.same) in
     on_ok_weaker c.play_piece.result (λ both.
-    played_piece (g.B.Recorded.fixed c.args.self.now.value).limit c.args.text.now c.args.self.now.labels c.open_label.new.self.labels c.play_piece.new.self.labels (g.B.Recorded.history c.args.self.now.value) (g.B.Recorded.history c.open_label.new.self.value) (g.B.Recorded.history c.play_piece.new.self.value)
+    played_piece (limits_of (g.B.Recorded.fixed c.args.self.now.value)) c.args.text.now c.args.self.now.labels c.open_label.new.self.labels c.play_piece.new.self.labels (g.B.Recorded.history c.args.self.now.value) (g.B.Recorded.history c.open_label.new.self.value) (g.B.Recorded.history c.play_piece.new.self.value)
     (g.O.Sink.written c.args.output.now) (g.O.Sink.written c.play_piece.new.output) label bytes item opened_is c.in_ok-open_label-in-Some-Piece.ensures.leads both.0 (rw c.open_label.ensures.kept.fixed_is at both.1))
     (on_ok_both c.play_piece.result _ _ c.play_piece.ensures.labels c.play_piece.ensures.ok)
 
@@ -99,9 +100,9 @@ returns-in_ok-open_label-in-Some-Piece-clause-ends g c =
     if_err_weaker c.play_piece.result (λ stop both. record {
       of_line = of_command stop c.args.text.now c.args.played c.args.self.now.labels both.0;
       even = λ even. absurd (not_even stop both.0 even);
-      full = not_full (g.B.Recorded.fixed c.args.self.now.value).limit stop (g.B.Recorded.history c.args.self.now.value) both.0;
+      full = not_full (limits_of (g.B.Recorded.fixed c.args.self.now.value)) stop (g.B.Recorded.history c.args.self.now.value) both.0;
       stopped = λ of_run.
-          stopped_piece (g.B.Recorded.fixed c.args.self.now.value).limit stop c.args.text.now c.args.self.now.labels c.open_label.new.self.labels c.play_piece.new.self.labels.present (g.B.Recorded.history c.args.self.now.value) (g.B.Recorded.history c.open_label.new.self.value) (g.B.Recorded.history c.play_piece.new.self.value)
+          stopped_piece (limits_of (g.B.Recorded.fixed c.args.self.now.value)) stop c.args.text.now c.args.self.now.labels c.open_label.new.self.labels c.play_piece.new.self.labels.present (g.B.Recorded.history c.args.self.now.value) (g.B.Recorded.history c.open_label.new.self.value) (g.B.Recorded.history c.play_piece.new.self.value)
           (g.O.Sink.written c.args.output.now) (g.O.Sink.written c.play_piece.new.output) (g.B.Recorded.wrong c.play_piece.new.self.value) label bytes item opened_is c.in_ok-open_label-in-Some-Piece.ensures.leads (rw c.open_label.ensures.kept.fixed_is at both.1);
     }) (if_err_both c.play_piece.result _ _ c.play_piece.ensures.err c.play_piece.ensures.stopped)
 

@@ -1,4 +1,5 @@
 use Rattle.std.proofs.Common.{◌+◌, ℕ, List, Ok, refl, ap, ◌∙◌, subst, arith}
+use Rattle.broker_lock.specs.Known.{limits_of}
 use Rattle.script_player.specs.declared.stop.Stop.TheVariants as stops
 use Rattle.script_lines.specs.declared.reader.Line.TheVariants.{Text, End, TooLong}
 use Rattle.script_lines.specs.Labels.{LabelsView}
@@ -30,34 +31,34 @@ loop-input-init g c =
       input_count = refl;
       pulled = pulled_none _ c.args.lines.now;
       ahead = rw c.requires.fresh (omega arith);
-      played = has_played_none (g.B.Recorded.fixed c.args.self.now.value).limit _ _ _ _ _ _ _ starts.labels_are starts.history_is (omega arith) room pending;
+      played = has_played_none (limits_of (g.B.Recorded.fixed c.args.self.now.value)) _ _ _ _ _ _ _ starts.labels_are starts.history_is (omega arith) room pending;
     }
 
 pub returns-in-Ok-End-clause-played : goal.returns-in-Ok-End-clause-played
 returns-in-Ok-End-clause-played g c even =
     let read = rw c.in-Ok-End.field-0-is at c.in-Ok-End.ensures.read in
-    played_stops (g.B.Recorded.fixed c.args.self.now.value).limit stops.End _ _ _ c.loop-input.lines c.next.new.self _ _ (g.I.Source.left c.next.new.input) _ _ c.next.new.text.items End c.loop-input.invariant.played read tt (λ count is. absurd cc)
+    played_stops (limits_of (g.B.Recorded.fixed c.args.self.now.value)) stops.End _ _ _ c.loop-input.lines c.next.new.self _ _ (g.I.Source.left c.next.new.input) _ _ c.next.new.text.items End c.loop-input.invariant.played read tt (λ count is. absurd cc)
 
 pub returns-in-Ok-TooLong-clause-played : goal.returns-in-Ok-TooLong-clause-played
 returns-in-Ok-TooLong-clause-played g c even =
     let read = rw c.in-Ok-TooLong.field-0-is at c.in-Ok-TooLong.ensures.read in
-    played_stops (g.B.Recorded.fixed c.args.self.now.value).limit (stops.BadLine (c.loop-input.played + 1)) _ _ _ c.loop-input.lines c.next.new.self _ _ (g.I.Source.left c.next.new.input) _ _ c.next.new.text.items TooLong c.loop-input.invariant.played read refl (λ count is. absurd cc)
+    played_stops (limits_of (g.B.Recorded.fixed c.args.self.now.value)) (stops.BadLine (c.loop-input.played + 1)) _ _ _ c.loop-input.lines c.next.new.self _ _ (g.I.Source.left c.next.new.input) _ _ c.next.new.text.items TooLong c.loop-input.invariant.played read refl (λ count is. absurd cc)
 
 pub returns-in-Err-play_line-clause-played : goal.returns-in-Err-play_line-clause-played
 returns-in-Err-play_line-clause-played g c even =
     let read = rw c.in-Ok-Text.field-0-is at c.in-Ok-Text.ensures.read in
-    let ends = subst (λ (t : List ℕ). EndsAt (g.B.Recorded.fixed c.loop-input.self.value).limit c.in-Err-play_line.stop t c.loop-input.played c.loop-input.self.labels c.play_line.new.self.labels (g.B.Recorded.history c.loop-input.self.value) (g.B.Recorded.history c.play_line.new.self.value)
+    let ends = subst (λ (t : List ℕ). EndsAt (limits_of (g.B.Recorded.fixed c.loop-input.self.value)) c.in-Err-play_line.stop t c.loop-input.played c.loop-input.self.labels c.play_line.new.self.labels (g.B.Recorded.history c.loop-input.self.value) (g.B.Recorded.history c.play_line.new.self.value)
     (g.O.Sink.written c.loop-input.output) (g.O.Sink.written c.play_line.new.output) (g.B.Recorded.wrong c.play_line.new.self.value)) c.deref.ensures.value c.in-Err-play_line.ensures.ends in
     let unplayed = ends.even even in
     rw (ap (λ (v : LabelsView). v.present) unplayed.labels_are, unplayed.history_is, unplayed.written_is)
-    (played_stops (g.B.Recorded.fixed c.args.self.now.value).limit c.in-Err-play_line.stop _ _ _ c.loop-input.lines c.next.new.self _ _ (g.I.Source.left c.next.new.input) _ _ c.next.new.text.items Text c.loop-input.invariant.played read
+    (played_stops (limits_of (g.B.Recorded.fixed c.args.self.now.value)) c.in-Err-play_line.stop _ _ _ c.loop-input.lines c.next.new.self _ _ (g.I.Source.left c.next.new.input) _ _ c.next.new.text.items Text c.loop-input.invariant.played read
     (stops_after c.in-Err-play_line.stop c.next.new.text.items c.loop-input.played c.loop-input.self.labels ends.of_line) (rw c.loop-input.invariant.kept.fixed_is at ends.full))
 
 pub loop-input-preserved : goal.loop-input-preserved
 loop-input-preserved g c =
     let read = rw c.in-Ok-Text.field-0-is at c.in-Ok-Text.ensures.read in
     let less = c.in-Ok-Text.ensures.room (ap Ok c.in-Ok-Text.field-0-is) in
-    let line = subst (λ (t : List ℕ). IsPlayed (g.B.Recorded.fixed c.loop-input.self.value).limit t c.loop-input.self.labels (g.B.Recorded.history c.loop-input.self.value) c.play_line.new.self.labels (g.B.Recorded.history c.play_line.new.self.value) (g.O.Sink.written c.loop-input.output) (g.O.Sink.written c.play_line.new.output)) c.deref.ensures.value c.in_default.ensures.played in
+    let line = subst (λ (t : List ℕ). IsPlayed (limits_of (g.B.Recorded.fixed c.loop-input.self.value)) t c.loop-input.self.labels (g.B.Recorded.history c.loop-input.self.value) c.play_line.new.self.labels (g.B.Recorded.history c.play_line.new.self.value) (g.O.Sink.written c.loop-input.output) (g.O.Sink.written c.play_line.new.output)) c.deref.ensures.value c.in_default.ensures.played in
     record {
       behind = c.in_default.ensures.behind;
       kept = keeps_on c.loop-input.invariant.kept c.in_default.ensures.kept;
@@ -67,19 +68,19 @@ loop-input-preserved g c =
       input_count = c.in-Ok-Text.ensures.quiet ∙ c.loop-input.invariant.input_count;
       pulled = pulled_on _ _ _ _ c.loop-input.lines c.next.new.self c.loop-input.invariant.pulled c.in-Ok-Text.ensures.pulled;
       ahead = c.in-Ok-Text.ensures.ahead;
-      played = has_played_on (g.B.Recorded.fixed c.args.self.now.value).limit c.loop-input.self.labels (g.B.Recorded.history c.loop-input.self.value) c.play_line.new.self.labels (g.B.Recorded.history c.play_line.new.self.value) (c.loop-input.played + 1) c.loop-input.lines c.next.new.self _ _ _ _ _ _ c.next.new.text.items c.loop-input.invariant.played read (rw c.loop-input.invariant.kept.fixed_is at line);
+      played = has_played_on (limits_of (g.B.Recorded.fixed c.args.self.now.value)) c.loop-input.self.labels (g.B.Recorded.history c.loop-input.self.value) c.play_line.new.self.labels (g.B.Recorded.history c.play_line.new.self.value) (c.loop-input.played + 1) c.loop-input.lines c.next.new.self _ _ _ _ _ _ c.next.new.text.items c.loop-input.invariant.played read (rw c.loop-input.invariant.kept.fixed_is at line);
     }
 
 pub returns-in-Err-clause-played : goal.returns-in-Err-clause-played
 returns-in-Err-clause-played g c even =
-    played_fails (g.B.Recorded.fixed c.args.self.now.value).limit c.fault_count.result _ _ _ c.loop-input.lines _ _ (g.I.Source.left c.next.new.input) _ _ c.loop-input.invariant.played c.in-Err.ensures.cut
+    played_fails (limits_of (g.B.Recorded.fixed c.args.self.now.value)) c.fault_count.result _ _ _ c.loop-input.lines _ _ (g.I.Source.left c.next.new.input) _ _ c.loop-input.invariant.played c.in-Err.ensures.cut
 
 pub returns-in-Err-play_line-clause-stopped : goal.returns-in-Err-play_line-clause-stopped
 returns-in-Err-play_line-clause-stopped g c of_run =
     let read = rw c.in-Ok-Text.field-0-is at c.in-Ok-Text.ensures.read in
-    let ends = subst (λ (t : List ℕ). EndsAt (g.B.Recorded.fixed c.loop-input.self.value).limit c.in-Err-play_line.stop t c.loop-input.played c.loop-input.self.labels c.play_line.new.self.labels (g.B.Recorded.history c.loop-input.self.value) (g.B.Recorded.history c.play_line.new.self.value)
+    let ends = subst (λ (t : List ℕ). EndsAt (limits_of (g.B.Recorded.fixed c.loop-input.self.value)) c.in-Err-play_line.stop t c.loop-input.played c.loop-input.self.labels c.play_line.new.self.labels (g.B.Recorded.history c.loop-input.self.value) (g.B.Recorded.history c.play_line.new.self.value)
     (g.O.Sink.written c.loop-input.output) (g.O.Sink.written c.play_line.new.output) (g.B.Recorded.wrong c.play_line.new.self.value)) c.deref.ensures.value c.in-Err-play_line.ensures.ends in
-    stopped_at (g.B.Recorded.fixed c.args.self.now.value).limit c.in-Err-play_line.stop c.loop-input.self.labels (g.B.Recorded.history c.loop-input.self.value) c.play_line.new.self.labels.present (g.B.Recorded.history c.play_line.new.self.value) (c.loop-input.played + 1) c.loop-input.lines c.next.new.self _ _ (g.I.Source.left c.next.new.input) _ _ _ c.next.new.text.items _ c.loop-input.invariant.played read (rw c.loop-input.invariant.kept.fixed_is at (ends.stopped of_run))
+    stopped_at (limits_of (g.B.Recorded.fixed c.args.self.now.value)) c.in-Err-play_line.stop c.loop-input.self.labels (g.B.Recorded.history c.loop-input.self.value) c.play_line.new.self.labels.present (g.B.Recorded.history c.play_line.new.self.value) (c.loop-input.played + 1) c.loop-input.lines c.next.new.self _ _ (g.I.Source.left c.next.new.input) _ _ _ c.next.new.text.items _ c.loop-input.invariant.played read (rw c.loop-input.invariant.kept.fixed_is at (ends.stopped of_run))
 
 pub returns-in-Err-play_line-clause-kept : goal.returns-in-Err-play_line-clause-kept
 returns-in-Err-play_line-clause-kept g c = keeps_on c.loop-input.invariant.kept c.play_line.ensures.kept

@@ -1,4 +1,5 @@
 use Rattle.std.proofs.Common.{◌≡◌, ◌≤◌, ◌+◌, length, vec_capacity}
+use Rattle.broker_lock.specs.Known.{limits_of}
 use Rattle.script_spec.specs.declared.TheConstants.{LINE_BYTES, SCRIPT_BYTES}
 use Rattle.script_lines.specs.Lines.{HasPulled}
 use Rattle.script_player.specs.Play.{HasPlayed}
@@ -15,7 +16,7 @@ invariant-loop-input g l = record {
   input_count : g.I.Source.faults l.input ≡ g.I.Source.faults l.initial.input;
   pulled : HasPulled l.initial.lines (g.I.Source.left l.initial.input) l.lines (g.I.Source.left l.input);
   ahead : length l.lines.pending ≤ l.lines.room + 1;
-  played : HasPlayed (g.B.Recorded.fixed l.initial.self.value).limit l.self.labels (g.B.Recorded.history l.self.value) (l.played + 1) l.lines.room l.lines.pending (g.I.Source.left l.initial.input) (g.I.Source.left l.input) (g.O.Sink.written l.initial.output) (g.O.Sink.written l.output);
+  played : HasPlayed (limits_of (g.B.Recorded.fixed l.initial.self.value)) l.self.labels (g.B.Recorded.history l.self.value) (l.played + 1) l.lines.room l.lines.pending (g.I.Source.left l.initial.input) (g.I.Source.left l.input) (g.O.Sink.written l.initial.output) (g.O.Sink.written l.output);
 }
 
 abbrev pub decreases-loop-input : goal.decreases-loop-input

@@ -1,6 +1,7 @@
 use Rattle.std.proofs.Common.{◌≤◌, ◌++◌, take, length, refl, sym, ap, ◌∙◌, subst, arith}
 use Rattle.std.proofs.lemmas.List.{take_rest}
 use Rattle.std.proofs.lemmas.Result.{err_from_is_err_and, on_ok_weaker}
+use Rattle.broker_lock.specs.Known.{limits_of}
 use Rattle.tab_spec.specs.Frame.{command, cancel}
 use Rattle.script_lines.specs.declared.label.Label.{Label}
 use Rattle.script_lines.specs.Labels.{LabelsView, label_in, counted, replaced}
@@ -25,7 +26,7 @@ loop-self-init g c =
         found.0,
         found.1,
         found.2,
-        fed_none (g.B.Recorded.fixed c.args.self.now.value).limit c.args.label c.canceled_up_to-upto.result found.0 c.args.piece.now c.args.self.now.labels (g.B.Recorded.history c.args.self.now.value) (g.O.Sink.written c.args.output.now) found.1 (is_found c.args.self.now.labels.present c.args.label found.0 found.1).label_is (c.canceled_up_to-upto.ensures found.0 found.1),
+        fed_none (limits_of (g.B.Recorded.fixed c.args.self.now.value)) c.args.label c.canceled_up_to-upto.result found.0 c.args.piece.now c.args.self.now.labels (g.B.Recorded.history c.args.self.now.value) (g.O.Sink.written c.args.output.now) found.1 (is_found c.args.self.now.labels.present c.args.label found.0 found.1).label_is (c.canceled_up_to-upto.ensures found.0 found.1),
       );
     }
 
@@ -33,14 +34,14 @@ pub run-requires-clause-ready : goal.run-requires-clause-ready
 run-requires-clause-ready g c =
     let so_far = c.loop-self.invariant.fed.3 in
     let next = c.in-Command.ensures so_far.x so_far.found in
-    let at = keeps (g.B.Recorded.fixed c.args.self.now.value).limit c.args.label c.loop-self.self.labels c.next.new.self (g.B.Recorded.history c.loop-self.self.value) so_far.x next.0 c.loop-self.invariant.kept.fits so_far.found next.2 in
+    let at = keeps (limits_of (g.B.Recorded.fixed c.args.self.now.value)) c.args.label c.loop-self.self.labels c.next.new.self (g.B.Recorded.history c.loop-self.self.value) so_far.x next.0 c.loop-self.invariant.kept.fits so_far.found next.2 in
     record { fits = at.fits; sound = c.loop-self.invariant.sound }
 
 pub run-requires-clause-is_open : goal.run-requires-clause-is_open
 run-requires-clause-is_open g c =
     let so_far = c.loop-self.invariant.fed.3 in
     let next = c.in-Command.ensures so_far.x so_far.found in
-    rw (keeps (g.B.Recorded.fixed c.args.self.now.value).limit c.args.label c.loop-self.self.labels c.next.new.self (g.B.Recorded.history c.loop-self.self.value) so_far.x next.0 c.loop-self.invariant.kept.fits so_far.found next.2).found
+    rw (keeps (limits_of (g.B.Recorded.fixed c.args.self.now.value)) c.args.label c.loop-self.self.labels c.next.new.self (g.B.Recorded.history c.loop-self.self.value) so_far.x next.0 c.loop-self.invariant.kept.fits so_far.found next.2).found
     (omega (arith, so_far.small, c.loop-self.invariant.fed.2))
 
 pub loop-self-preserved-in-Continue-1 : goal.loop-self-preserved-in-Continue-1
@@ -48,7 +49,7 @@ loop-self-preserved-in-Continue-1 g c =
     let fed = c.loop-self.invariant.fed in
     let so_far = fed.3 in
     let next = c.in-Command.ensures so_far.x so_far.found in
-    let at = keeps (g.B.Recorded.fixed c.args.self.now.value).limit c.args.label c.loop-self.self.labels c.next.new.self (g.B.Recorded.history c.loop-self.self.value) so_far.x next.0 c.loop-self.invariant.kept.fits so_far.found next.2 in
+    let at = keeps (limits_of (g.B.Recorded.fixed c.args.self.now.value)) c.args.label c.loop-self.self.labels c.next.new.self (g.B.Recorded.history c.loop-self.self.value) so_far.x next.0 c.loop-self.invariant.kept.fits so_far.found next.2 in
     let ran = c.in_ok-run-in-Command.ensures.ok (keeping so_far.x next.0) at.found in
     record {
       sound = c.in_ok-run-in-Command.ensures.outcome.sound;
@@ -58,7 +59,7 @@ loop-self-preserved-in-Continue-1 g c =
         fed.0,
         fed.1,
         fed.2,
-        fed_command (g.B.Recorded.fixed c.args.self.now.value).limit c.args.label c.canceled_up_to-upto.result fed.0 c.args.piece.now c.args.self.now.labels (g.B.Recorded.history c.args.self.now.value) (g.O.Sink.written c.args.output.now) c.loop-self.self.labels c.next.new.self c.run.new.self.labels
+        fed_command (limits_of (g.B.Recorded.fixed c.args.self.now.value)) c.args.label c.canceled_up_to-upto.result fed.0 c.args.piece.now c.args.self.now.labels (g.B.Recorded.history c.args.self.now.value) (g.O.Sink.written c.args.output.now) c.loop-self.self.labels c.next.new.self c.run.new.self.labels
             (g.B.Recorded.history c.loop-self.self.value) (g.B.Recorded.history c.run.new.self.value) (g.O.Sink.written c.loop-self.output) (g.O.Sink.written c.run.new.output) c.loop-self.rest.now next.0 c.next.new.out ran.0
             so_far next.1 next.2 (c.in_ok-run-in-Command.ensures.labels (keeping so_far.x next.0) at.found) (rw c.loop-self.invariant.kept.fixed_is at ran.2) ran.1,
       );
@@ -68,7 +69,7 @@ pub loop-self-smaller-in-Continue-1 : goal.loop-self-smaller-in-Continue-1
 loop-self-smaller-in-Continue-1 g c =
     let so_far = c.loop-self.invariant.fed.3 in
     let next = c.in-Command.ensures so_far.x so_far.found in
-    let at = keeps (g.B.Recorded.fixed c.args.self.now.value).limit c.args.label c.loop-self.self.labels c.next.new.self (g.B.Recorded.history c.loop-self.self.value) so_far.x next.0 c.loop-self.invariant.kept.fits so_far.found next.2 in
+    let at = keeps (limits_of (g.B.Recorded.fixed c.args.self.now.value)) c.args.label c.loop-self.self.labels c.next.new.self (g.B.Recorded.history c.loop-self.self.value) so_far.x next.0 c.loop-self.invariant.kept.fits so_far.found next.2 in
     let later = command_kept c.args.label c.next.new.self c.run.new.self.labels (keeping so_far.x next.0) at.found (c.in_ok-run-in-Command.ensures.labels (keeping so_far.x next.0) at.found) in
     smaller_item (command c.next.new.out) so_far.x (counted (keeping so_far.x next.0)) next.0 c.next.new.out c.loop-self.rest.now _ _ next.1 refl
     (kept_found c.loop-self.self.labels.present c.args.label so_far.x so_far.found) (kept_found c.run.new.self.labels.present c.args.label (counted (keeping so_far.x next.0)) later)
@@ -78,15 +79,15 @@ returns-in_err-run-in-Command-clause-stopped g c =
     let fed = c.loop-self.invariant.fed in
     let so_far = fed.3 in
     let next = c.in-Command.ensures so_far.x so_far.found in
-    let at = keeps (g.B.Recorded.fixed c.args.self.now.value).limit c.args.label c.loop-self.self.labels c.next.new.self (g.B.Recorded.history c.loop-self.self.value) so_far.x next.0 c.loop-self.invariant.kept.fits so_far.found next.2 in
+    let at = keeps (limits_of (g.B.Recorded.fixed c.args.self.now.value)) c.args.label c.loop-self.self.labels c.next.new.self (g.B.Recorded.history c.loop-self.self.value) so_far.x next.0 c.loop-self.invariant.kept.fits so_far.found next.2 in
     let failed = err_from_is_err_and c.from_residual.result c.from_residual.ensures.1 in
-    let stopped = fed_stopped (g.B.Recorded.fixed c.args.self.now.value).limit c.in_err-run-in-Command.field-0.0 c.args.label c.canceled_up_to-upto.result fed.0 c.args.piece.now c.args.self.now.labels (g.B.Recorded.history c.args.self.now.value) (g.O.Sink.written c.args.output.now) c.loop-self.self.labels c.next.new.self
+    let stopped = fed_stopped (limits_of (g.B.Recorded.fixed c.args.self.now.value)) c.in_err-run-in-Command.field-0.0 c.args.label c.canceled_up_to-upto.result fed.0 c.args.piece.now c.args.self.now.labels (g.B.Recorded.history c.args.self.now.value) (g.O.Sink.written c.args.output.now) c.loop-self.self.labels c.next.new.self
     (g.B.Recorded.history c.loop-self.self.value) (g.O.Sink.written c.loop-self.output) c.loop-self.rest.now next.0 c.next.new.out c.run.new.self.labels.present (g.B.Recorded.history c.run.new.self.value) (g.O.Sink.written c.run.new.output) (g.B.Recorded.wrong c.run.new.self.value)
     so_far next.1 at (rw c.loop-self.invariant.kept.fixed_is at (c.in_err-run-in-Command.ensures.stopped (keeping so_far.x next.0) at.found)) in
     rw failed.1 (λ x found.
-    subst (λ (stop : Stop). StoppedIn (g.B.Recorded.fixed c.args.self.now.value).limit stop (fed_calls x c.args.piece.now) c.args.self.now.labels.present (g.B.Recorded.history c.args.self.now.value) c.run.new.self.labels.present (g.B.Recorded.history c.run.new.self.value)
+    subst (λ (stop : Stop). StoppedIn (limits_of (g.B.Recorded.fixed c.args.self.now.value)) stop (fed_calls x c.args.piece.now) c.args.self.now.labels.present (g.B.Recorded.history c.args.self.now.value) c.run.new.self.labels.present (g.B.Recorded.history c.run.new.self.value)
     (g.O.Sink.written c.args.output.now) (g.O.Sink.written c.run.new.output) (g.B.Recorded.wrong c.run.new.self.value)) (sym failed.2)
-    (subst (λ (first : Label). StoppedIn (g.B.Recorded.fixed c.args.self.now.value).limit c.in_err-run-in-Command.field-0.0 (fed_calls first c.args.piece.now) c.args.self.now.labels.present (g.B.Recorded.history c.args.self.now.value) c.run.new.self.labels.present (g.B.Recorded.history c.run.new.self.value)
+    (subst (λ (first : Label). StoppedIn (limits_of (g.B.Recorded.fixed c.args.self.now.value)) c.in_err-run-in-Command.field-0.0 (fed_calls first c.args.piece.now) c.args.self.now.labels.present (g.B.Recorded.history c.args.self.now.value) c.run.new.self.labels.present (g.B.Recorded.history c.run.new.self.value)
     (g.O.Sink.written c.args.output.now) (g.O.Sink.written c.run.new.output) (g.B.Recorded.wrong c.run.new.self.value)) (same_some (sym fed.1 ∙ found)) stopped))
 
 pub loop-self-preserved-in-Cancel : goal.loop-self-preserved-in-Cancel
@@ -94,7 +95,7 @@ loop-self-preserved-in-Cancel g c =
     let fed = c.loop-self.invariant.fed in
     let so_far = fed.3 in
     let next = c.in-Cancel.ensures so_far.x so_far.found in
-    let at = keeps (g.B.Recorded.fixed c.args.self.now.value).limit c.args.label c.loop-self.self.labels c.next.new.self (g.B.Recorded.history c.loop-self.self.value) so_far.x next.0 c.loop-self.invariant.kept.fits so_far.found next.2 in
+    let at = keeps (limits_of (g.B.Recorded.fixed c.args.self.now.value)) c.args.label c.loop-self.self.labels c.next.new.self (g.B.Recorded.history c.loop-self.self.value) so_far.x next.0 c.loop-self.invariant.kept.fits so_far.found next.2 in
     record {
       sound = c.loop-self.invariant.sound;
       kept = record { fixed_is = c.loop-self.invariant.kept.fixed_is; fits = at.fits };
@@ -103,7 +104,7 @@ loop-self-preserved-in-Cancel g c =
         fed.0,
         fed.1,
         fed.2,
-        fed_cancel (g.B.Recorded.fixed c.args.self.now.value).limit c.args.label c.canceled_up_to-upto.result fed.0 c.args.piece.now c.args.self.now.labels (g.B.Recorded.history c.args.self.now.value) (g.O.Sink.written c.args.output.now) c.loop-self.self.labels c.next.new.self
+        fed_cancel (limits_of (g.B.Recorded.fixed c.args.self.now.value)) c.args.label c.canceled_up_to-upto.result fed.0 c.args.piece.now c.args.self.now.labels (g.B.Recorded.history c.args.self.now.value) (g.O.Sink.written c.args.output.now) c.loop-self.self.labels c.next.new.self
             (g.B.Recorded.history c.loop-self.self.value) (g.O.Sink.written c.loop-self.output) c.loop-self.rest.now next.0 c.next.new.out so_far next.1 next.2,
       );
     }
@@ -112,7 +113,7 @@ pub loop-self-smaller-in-Cancel : goal.loop-self-smaller-in-Cancel
 loop-self-smaller-in-Cancel g c =
     let so_far = c.loop-self.invariant.fed.3 in
     let next = c.in-Cancel.ensures so_far.x so_far.found in
-    let at = keeps (g.B.Recorded.fixed c.args.self.now.value).limit c.args.label c.loop-self.self.labels c.next.new.self (g.B.Recorded.history c.loop-self.self.value) so_far.x next.0 c.loop-self.invariant.kept.fits so_far.found next.2 in
+    let at = keeps (limits_of (g.B.Recorded.fixed c.args.self.now.value)) c.args.label c.loop-self.self.labels c.next.new.self (g.B.Recorded.history c.loop-self.self.value) so_far.x next.0 c.loop-self.invariant.kept.fits so_far.found next.2 in
     smaller_item cancel so_far.x (keeping so_far.x next.0) next.0 c.next.new.out c.loop-self.rest.now _ _ next.1 refl
     (kept_found c.loop-self.self.labels.present c.args.label so_far.x so_far.found) (kept_found c.next.new.self.present c.args.label (keeping so_far.x next.0) at.found)
 
@@ -137,7 +138,7 @@ returns-in-BadSize-clause-labels g c =
     let same = keeps_all c.args.label c.loop-self.self.labels c.next.new.self so_far.x next.0 so_far.found next.1.1 next.2 in
     on_ok_weaker c.end_label.result (λ both x found.
     let ended = rw same at both in
-    let whole = fed_bad (g.B.Recorded.fixed c.args.self.now.value).limit c.args.label c.canceled_up_to-upto.result fed.0 c.args.piece.now c.args.self.now.labels (g.B.Recorded.history c.args.self.now.value) (g.O.Sink.written c.args.output.now) c.loop-self.self.labels
+    let whole = fed_bad (limits_of (g.B.Recorded.fixed c.args.self.now.value)) c.args.label c.canceled_up_to-upto.result fed.0 c.args.piece.now c.args.self.now.labels (g.B.Recorded.history c.args.self.now.value) (g.O.Sink.written c.args.output.now) c.loop-self.self.labels
     (g.B.Recorded.history c.loop-self.self.value) (g.O.Sink.written c.loop-self.output) c.loop-self.rest.now c.in-BadSize.field-0 c.end_label.new.self.labels (g.B.Recorded.history c.end_label.new.self.value) (g.O.Sink.written c.end_label.new.output) ended.1.0
     so_far next.1.0 ended.0 ended.1.2 ended.1.1 in
     whole.labels_are ∙ ap (λ (first : Label). fed_labels first c.args.piece.now c.args.self.now.labels) (same_some (sym fed.1 ∙ found))) (on_ok_both c.end_label.result _ _ c.end_label.ensures.labels c.end_label.ensures.ok)
@@ -150,12 +151,12 @@ returns-in-BadSize-clause-ok g c =
     let same = keeps_all c.args.label c.loop-self.self.labels c.next.new.self so_far.x next.0 so_far.found next.1.1 next.2 in
     on_ok_weaker c.end_label.result (λ both x found.
     let ended = rw same at both in
-    let whole = fed_bad (g.B.Recorded.fixed c.args.self.now.value).limit c.args.label c.canceled_up_to-upto.result fed.0 c.args.piece.now c.args.self.now.labels (g.B.Recorded.history c.args.self.now.value) (g.O.Sink.written c.args.output.now) c.loop-self.self.labels
+    let whole = fed_bad (limits_of (g.B.Recorded.fixed c.args.self.now.value)) c.args.label c.canceled_up_to-upto.result fed.0 c.args.piece.now c.args.self.now.labels (g.B.Recorded.history c.args.self.now.value) (g.O.Sink.written c.args.output.now) c.loop-self.self.labels
     (g.B.Recorded.history c.loop-self.self.value) (g.O.Sink.written c.loop-self.output) c.loop-self.rest.now c.in-BadSize.field-0 c.end_label.new.self.labels (g.B.Recorded.history c.end_label.new.self.value) (g.O.Sink.written c.end_label.new.output) ended.1.0
     so_far next.1.0 ended.0 ended.1.2 ended.1.1 in (
       whole.more,
       whole.written_is,
-      subst (λ (first : Label). Leads (g.B.Recorded.fixed c.args.self.now.value).limit c.args.self.now.labels.present (g.B.Recorded.history c.args.self.now.value) (fed_calls first c.args.piece.now) c.end_label.new.self.labels.present (g.B.Recorded.history c.end_label.new.self.value) whole.more)
+      subst (λ (first : Label). Leads (limits_of (g.B.Recorded.fixed c.args.self.now.value)) c.args.self.now.labels.present (g.B.Recorded.history c.args.self.now.value) (fed_calls first c.args.piece.now) c.end_label.new.self.labels.present (g.B.Recorded.history c.end_label.new.self.value) whole.more)
           (same_some (sym fed.1 ∙ found)) whole.leads,
     )) (on_ok_both c.end_label.result _ _ c.end_label.ensures.labels c.end_label.ensures.ok)
 
@@ -167,9 +168,9 @@ returns-in-BadSize-clause-stopped g c =
     let same = keeps_all c.args.label c.loop-self.self.labels c.next.new.self so_far.x next.0 so_far.found next.1.1 next.2 in
     if_err_weaker c.end_label.result (λ stop at_end x found.
     let stopped = rw (same, c.loop-self.invariant.kept.fixed_is) at at_end in
-    subst (λ (first : Label). StoppedIn (g.B.Recorded.fixed c.args.self.now.value).limit stop (fed_calls first c.args.piece.now) c.args.self.now.labels.present (g.B.Recorded.history c.args.self.now.value) c.end_label.new.self.labels.present (g.B.Recorded.history c.end_label.new.self.value)
+    subst (λ (first : Label). StoppedIn (limits_of (g.B.Recorded.fixed c.args.self.now.value)) stop (fed_calls first c.args.piece.now) c.args.self.now.labels.present (g.B.Recorded.history c.args.self.now.value) c.end_label.new.self.labels.present (g.B.Recorded.history c.end_label.new.self.value)
     (g.O.Sink.written c.args.output.now) (g.O.Sink.written c.end_label.new.output) (g.B.Recorded.wrong c.end_label.new.self.value)) (same_some (sym fed.1 ∙ found))
-    (fed_bad_stopped (g.B.Recorded.fixed c.args.self.now.value).limit stop c.args.label c.canceled_up_to-upto.result fed.0 c.args.piece.now c.args.self.now.labels (g.B.Recorded.history c.args.self.now.value) (g.O.Sink.written c.args.output.now) c.loop-self.self.labels
+    (fed_bad_stopped (limits_of (g.B.Recorded.fixed c.args.self.now.value)) stop c.args.label c.canceled_up_to-upto.result fed.0 c.args.piece.now c.args.self.now.labels (g.B.Recorded.history c.args.self.now.value) (g.O.Sink.written c.args.output.now) c.loop-self.self.labels
     (g.B.Recorded.history c.loop-self.self.value) (g.O.Sink.written c.loop-self.output) c.loop-self.rest.now c.in-BadSize.field-0 c.end_label.new.self.labels.present (g.B.Recorded.history c.end_label.new.self.value) (g.O.Sink.written c.end_label.new.output) (g.B.Recorded.wrong c.end_label.new.self.value)
     so_far next.1.0 stopped)) c.end_label.ensures.stopped
 
@@ -192,7 +193,7 @@ returns-then-is_empty-clause-labels g c x found =
     let so_far = fed.3 in
     let next = c.in-NotYet.ensures so_far.x so_far.found in
     let same = keeps_all c.args.label c.loop-self.self.labels c.next.new.self so_far.x next.0 so_far.found next.1.2 next.2 in
-    let whole = fed_whole (g.B.Recorded.fixed c.args.self.now.value).limit c.args.label c.canceled_up_to-upto.result fed.0 c.args.piece.now c.args.self.now.labels (g.B.Recorded.history c.args.self.now.value) (g.O.Sink.written c.args.output.now) c.loop-self.self.labels
+    let whole = fed_whole (limits_of (g.B.Recorded.fixed c.args.self.now.value)) c.args.label c.canceled_up_to-upto.result fed.0 c.args.piece.now c.args.self.now.labels (g.B.Recorded.history c.args.self.now.value) (g.O.Sink.written c.args.output.now) c.loop-self.self.labels
     (g.B.Recorded.history c.loop-self.self.value) (g.O.Sink.written c.loop-self.output) c.loop-self.rest.now so_far (none_left c.is_empty.result c.loop-self.rest.now c.is_empty.ensures c.if-is_empty.true) next.1.0 next.1.1 in
     same ∙ whole.labels_are ∙ ap (λ (first : Label). fed_labels first c.args.piece.now c.args.self.now.labels) (same_some (sym fed.1 ∙ found))
 
@@ -202,11 +203,11 @@ returns-then-is_empty-clause-ok g c x found =
     let so_far = fed.3 in
     let next = c.in-NotYet.ensures so_far.x so_far.found in
     let same = keeps_all c.args.label c.loop-self.self.labels c.next.new.self so_far.x next.0 so_far.found next.1.2 next.2 in
-    let whole = fed_whole (g.B.Recorded.fixed c.args.self.now.value).limit c.args.label c.canceled_up_to-upto.result fed.0 c.args.piece.now c.args.self.now.labels (g.B.Recorded.history c.args.self.now.value) (g.O.Sink.written c.args.output.now) c.loop-self.self.labels
+    let whole = fed_whole (limits_of (g.B.Recorded.fixed c.args.self.now.value)) c.args.label c.canceled_up_to-upto.result fed.0 c.args.piece.now c.args.self.now.labels (g.B.Recorded.history c.args.self.now.value) (g.O.Sink.written c.args.output.now) c.loop-self.self.labels
     (g.B.Recorded.history c.loop-self.self.value) (g.O.Sink.written c.loop-self.output) c.loop-self.rest.now so_far (none_left c.is_empty.result c.loop-self.rest.now c.is_empty.ensures c.if-is_empty.true) next.1.0 next.1.1 in
-    let leads = subst (λ (first : Label). Leads (g.B.Recorded.fixed c.args.self.now.value).limit c.args.self.now.labels.present (g.B.Recorded.history c.args.self.now.value) (fed_calls first c.args.piece.now) c.loop-self.self.labels.present (g.B.Recorded.history c.loop-self.self.value) whole.more)
+    let leads = subst (λ (first : Label). Leads (limits_of (g.B.Recorded.fixed c.args.self.now.value)) c.args.self.now.labels.present (g.B.Recorded.history c.args.self.now.value) (fed_calls first c.args.piece.now) c.loop-self.self.labels.present (g.B.Recorded.history c.loop-self.self.value) whole.more)
     (same_some (sym fed.1 ∙ found)) whole.leads in
-    (whole.more, whole.written_is, subst (λ (v : LabelsView). Leads (g.B.Recorded.fixed c.args.self.now.value).limit c.args.self.now.labels.present (g.B.Recorded.history c.args.self.now.value) (fed_calls x c.args.piece.now) v.present (g.B.Recorded.history c.loop-self.self.value) whole.more) (sym same) leads)
+    (whole.more, whole.written_is, subst (λ (v : LabelsView). Leads (limits_of (g.B.Recorded.fixed c.args.self.now.value)) c.args.self.now.labels.present (g.B.Recorded.history c.args.self.now.value) (fed_calls x c.args.piece.now) v.present (g.B.Recorded.history c.loop-self.self.value) whole.more) (sym same) leads)
 
 pub feed-fed-requires : goal.feed-fed-requires
 feed-fed-requires g c =
@@ -245,14 +246,14 @@ loop-self-preserved g c =
       sound = c.loop-self.invariant.sound;
       kept = record {
         fixed_is = c.loop-self.invariant.kept.fixed_is;
-        fits = (keeps (g.B.Recorded.fixed c.args.self.now.value).limit c.args.label c.loop-self.self.labels c.feed-fed.new.self (g.B.Recorded.history c.loop-self.self.value) so_far.x bytes c.loop-self.invariant.kept.fits so_far.found labels_are).fits;
+        fits = (keeps (limits_of (g.B.Recorded.fixed c.args.self.now.value)) c.args.label c.loop-self.self.labels c.feed-fed.new.self (g.B.Recorded.history c.loop-self.self.value) so_far.x bytes c.loop-self.invariant.kept.fits so_far.found labels_are).fits;
       };
       quiet = c.loop-self.invariant.quiet;
       fed = (
         fed.0,
         fed.1,
         fed.2,
-        fed_more (g.B.Recorded.fixed c.args.self.now.value).limit c.args.label c.canceled_up_to-upto.result fed.0 c.args.piece.now c.args.self.now.labels (g.B.Recorded.history c.args.self.now.value) (g.O.Sink.written c.args.output.now) c.loop-self.self.labels c.feed-fed.new.self
+        fed_more (limits_of (g.B.Recorded.fixed c.args.self.now.value)) c.args.label c.canceled_up_to-upto.result fed.0 c.args.piece.now c.args.self.now.labels (g.B.Recorded.history c.args.self.now.value) (g.O.Sink.written c.args.output.now) c.loop-self.self.labels c.feed-fed.new.self
             (g.B.Recorded.history c.loop-self.self.value) (g.O.Sink.written c.loop-self.output) c.loop-self.rest.now _ c.feed-fed.result so_far within (take_rest c.loop-self.rest.now c.feed-fed.result) labels_are,
       );
     }
@@ -266,6 +267,6 @@ loop-self-smaller g c =
     let some = feeds_some so_far.x.kept c.loop-self.rest.now c.feed-fed.result next.1.0 next.1.1 (some_left c.is_empty.result c.loop-self.rest.now c.is_empty.ensures c.if-is_empty.false) feed.0 in
     let bytes = so_far.x.kept ++ take c.feed-fed.result c.loop-self.rest.now in
     let labels_are = feed.1 ∙ ap (λ (v : LabelsView). record v { present = replaced (keeping so_far.x bytes) v.present }) same in
-    let at = keeps (g.B.Recorded.fixed c.args.self.now.value).limit c.args.label c.loop-self.self.labels c.feed-fed.new.self (g.B.Recorded.history c.loop-self.self.value) so_far.x bytes c.loop-self.invariant.kept.fits so_far.found labels_are in
+    let at = keeps (limits_of (g.B.Recorded.fixed c.args.self.now.value)) c.args.label c.loop-self.self.labels c.feed-fed.new.self (g.B.Recorded.history c.loop-self.self.value) so_far.x bytes c.loop-self.invariant.kept.fits so_far.found labels_are in
     smaller_fed so_far.x c.loop-self.rest.now _ c.feed-fed.result _ _ some (take_rest c.loop-self.rest.now c.feed-fed.result)
     (kept_found c.loop-self.self.labels.present c.args.label so_far.x so_far.found) (kept_found c.feed-fed.new.self.present c.args.label (keeping so_far.x bytes) at.found)

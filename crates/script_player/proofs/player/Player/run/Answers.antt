@@ -1,5 +1,6 @@
 use Rattle.std.proofs.Common.{◌+◌, ℕ, [], ◌∷◌, refl, ap, inl, sym, ◌∙◌, subst}
 use Rattle.std.proofs.lemmas.Result.{err_from_is_err_and, on_ok_weaker}
+use Rattle.broker_lock.specs.Known.{limits_of}
 use Rattle.link_port.specs.Port.{with_more}
 use Rattle.history_spec.specs.Cancels.{cover}
 use Rattle.script_spec.specs.Calls.{command as run_command}
@@ -36,7 +37,7 @@ returns-in_err-write_reply-clause-kept g c =
     record {
       fixed_is = ap g.B.Recorded.fixed c.write_reply.ensures.value ∙ c.answer-told.ensures.fixed;
       fits = rw (c.write_reply.ensures.labels, c.answer-told.ensures.labels, c.write_reply.ensures.value, count.1)
-          (fits-told (g.B.Recorded.fixed c.args.self.now.value).limit c.answer-told.result c.args.self.now.labels (g.B.Recorded.history c.args.self.now.value) (g.B.Recorded.history c.answer-told.new.self.value) found.0 c.args.self.now.frame _ _ told c.requires.ready.fits (found_by_name _ _ _ found.1));
+          (fits-told (limits_of (g.B.Recorded.fixed c.args.self.now.value)) c.answer-told.result c.args.self.now.labels (g.B.Recorded.history c.args.self.now.value) (g.B.Recorded.history c.answer-told.new.self.value) found.0 c.args.self.now.frame _ _ told c.requires.ready.fits (found_by_name _ _ _ found.1));
     }
 
 pub returns-clause-kept : goal.returns-clause-kept
@@ -47,7 +48,7 @@ returns-clause-kept g c =
     record {
       fixed_is = ap g.B.Recorded.fixed c.write_reply.ensures.value ∙ c.answer-told.ensures.fixed;
       fits = rw (c.write_reply.ensures.labels, c.answer-told.ensures.labels, c.write_reply.ensures.value, count.1)
-          (fits-told (g.B.Recorded.fixed c.args.self.now.value).limit c.answer-told.result c.args.self.now.labels (g.B.Recorded.history c.args.self.now.value) (g.B.Recorded.history c.answer-told.new.self.value) found.0 c.args.self.now.frame _ _ told c.requires.ready.fits (found_by_name _ _ _ found.1));
+          (fits-told (limits_of (g.B.Recorded.fixed c.args.self.now.value)) c.answer-told.result c.args.self.now.labels (g.B.Recorded.history c.args.self.now.value) (g.B.Recorded.history c.answer-told.new.self.value) found.0 c.args.self.now.frame _ _ told c.requires.ready.fits (found_by_name _ _ _ found.1));
     }
 
 pub returns-clause-ok : goal.returns-clause-ok
@@ -59,7 +60,7 @@ returns-clause-ok g c =
       reply_line c.args.label c.answer-told.new.self.reply,
       c.in_ok-write_reply.ensures.written,
       λ output. rw (c.write_reply.ensures.labels, c.answer-told.ensures.labels, c.write_reply.ensures.value, count.1, ← name)
-          (leads-told (g.B.Recorded.fixed c.args.self.now.value).limit c.answer-told.result c.args.self.now.labels (g.B.Recorded.history c.args.self.now.value) (g.B.Recorded.history c.answer-told.new.self.value) x c.args.self.now.frame (cover c.args.upto (x.commands + 1)) c.answer-told.new.self.reply told not_answer c.requires.ready.fits (found_by_name _ _ _ found) output),
+          (leads-told (limits_of (g.B.Recorded.fixed c.args.self.now.value)) c.answer-told.result c.args.self.now.labels (g.B.Recorded.history c.args.self.now.value) (g.B.Recorded.history c.answer-told.new.self.value) x c.args.self.now.frame (cover c.args.upto (x.commands + 1)) c.answer-told.new.self.reply told not_answer c.requires.ready.fits (found_by_name _ _ _ found) output),
     )) c.after_told.ensures.ok
 
 pub returns-in_err-write_reply-clause-stopped : goal.returns-in_err-write_reply-clause-stopped
@@ -72,12 +73,12 @@ returns-in_err-write_reply-clause-stopped g c =
     let name = (is_found c.args.self.now.labels.present c.args.label x found).label_is in
     let told = told_of_label (g.B.Recorded.fixed c.args.self.now.value) c.answer-told.result (g.B.Recorded.history c.args.self.now.value) (g.B.Recorded.history c.answer-told.new.self.value) c.count-client.result x.client (x.commands + 1) c.args.upto c.cover-covered.result c.args.self.now.frame c.answer-told.new.self.reply count.0 c.cover-covered.ensures c.answer-told.ensures.run c.answer-told.ensures.told in
     let front = subst (λ (l : ℕ). WroteFront (reply_line l c.answer-told.new.self.reply) written written_new) (sym name) c.in_err-write_reply.ensures.front in
-    let stopped = stopped_told (g.B.Recorded.fixed c.args.self.now.value).limit c.answer-told.result (stops.Output (g.O.Sink.faults c.write_reply.new.output)) c.args.self.now.labels (g.B.Recorded.history c.args.self.now.value) (g.B.Recorded.history c.answer-told.new.self.value) x c.args.self.now.frame (cover c.args.upto (x.commands + 1)) c.answer-told.new.self.reply
+    let stopped = stopped_told (limits_of (g.B.Recorded.fixed c.args.self.now.value)) c.answer-told.result (stops.Output (g.O.Sink.faults c.write_reply.new.output)) c.args.self.now.labels (g.B.Recorded.history c.args.self.now.value) (g.B.Recorded.history c.answer-told.new.self.value) x c.args.self.now.frame (cover c.args.upto (x.commands + 1)) c.answer-told.new.self.reply
     written written_new (g.B.Recorded.wrong c.answer-told.new.self.value) told c.answer-told.ensures.wrong c.requires.ready.fits (found_by_name _ _ _ found) (λ last some is. some) (λ none is. absurd cc) front in
-    let of_label = subst (λ (l : ℕ). StoppedIn (g.B.Recorded.fixed c.args.self.now.value).limit (stops.Output (g.O.Sink.faults c.write_reply.new.output)) (run_command l (x.commands + 1) c.args.self.now.frame (cover c.args.upto (x.commands + 1)) ∷ []) c.args.self.now.labels.present (g.B.Recorded.history c.args.self.now.value)
+    let of_label = subst (λ (l : ℕ). StoppedIn (limits_of (g.B.Recorded.fixed c.args.self.now.value)) (stops.Output (g.O.Sink.faults c.write_reply.new.output)) (run_command l (x.commands + 1) c.args.self.now.frame (cover c.args.upto (x.commands + 1)) ∷ []) c.args.self.now.labels.present (g.B.Recorded.history c.args.self.now.value)
     (replaced (counted x) c.args.self.now.labels.present) (g.B.Recorded.history c.answer-told.new.self.value) written written_new (g.B.Recorded.wrong c.answer-told.new.self.value)) name stopped in
     rw (c.write_reply.ensures.labels, c.answer-told.ensures.labels, c.write_reply.ensures.value, count.1)
-    (subst (λ (stop : Stop). StoppedIn (g.B.Recorded.fixed c.args.self.now.value).limit stop (run_command c.args.label (x.commands + 1) c.args.self.now.frame (cover c.args.upto (x.commands + 1)) ∷ []) c.args.self.now.labels.present (g.B.Recorded.history c.args.self.now.value)
+    (subst (λ (stop : Stop). StoppedIn (limits_of (g.B.Recorded.fixed c.args.self.now.value)) stop (run_command c.args.label (x.commands + 1) c.args.self.now.frame (cover c.args.upto (x.commands + 1)) ∷ []) c.args.self.now.labels.present (g.B.Recorded.history c.args.self.now.value)
     (replaced (counted x) c.args.self.now.labels.present) (g.B.Recorded.history c.answer-told.new.self.value) written written_new (g.B.Recorded.wrong c.answer-told.new.self.value)) (sym (failed.2 ∙ c.in_err-write_reply.ensures.err.0)) of_label))
 
 pub returns-clause-stopped : goal.returns-clause-stopped
@@ -90,12 +91,12 @@ returns-clause-stopped g c =
     let told = told_of_label (g.B.Recorded.fixed c.args.self.now.value) c.answer-told.result (g.B.Recorded.history c.args.self.now.value) (g.B.Recorded.history c.answer-told.new.self.value) c.count-client.result x.client (x.commands + 1) c.args.upto c.cover-covered.result c.args.self.now.frame c.answer-told.new.self.reply count.0 c.cover-covered.ensures c.answer-told.ensures.run c.answer-told.ensures.told in
     let is_wrong = c.answer-told.ensures.wrong.0 at.1 in
     let wrote = c.in_ok-write_reply.ensures.written ∙ ap (λ (l : ℕ). with_more written (reply_line l c.answer-told.new.self.reply)) (sym name) in
-    let stopped = stopped_told (g.B.Recorded.fixed c.args.self.now.value).limit c.answer-told.result stops.Answer c.args.self.now.labels (g.B.Recorded.history c.args.self.now.value) (g.B.Recorded.history c.answer-told.new.self.value) x c.args.self.now.frame (cover c.args.upto (x.commands + 1)) c.answer-told.new.self.reply
+    let stopped = stopped_told (limits_of (g.B.Recorded.fixed c.args.self.now.value)) c.answer-told.result stops.Answer c.args.self.now.labels (g.B.Recorded.history c.args.self.now.value) (g.B.Recorded.history c.answer-told.new.self.value) x c.args.self.now.frame (cover c.args.upto (x.commands + 1)) c.answer-told.new.self.reply
     written written_new (g.B.Recorded.wrong c.answer-told.new.self.value) told c.answer-told.ensures.wrong c.requires.ready.fits (found_by_name _ _ _ found) (λ last is. inl refl) (λ none. absurd (none is_wrong)) wrote in
-    let of_label = subst (λ (l : ℕ). StoppedIn (g.B.Recorded.fixed c.args.self.now.value).limit stops.Answer (run_command l (x.commands + 1) c.args.self.now.frame (cover c.args.upto (x.commands + 1)) ∷ []) c.args.self.now.labels.present (g.B.Recorded.history c.args.self.now.value)
+    let of_label = subst (λ (l : ℕ). StoppedIn (limits_of (g.B.Recorded.fixed c.args.self.now.value)) stops.Answer (run_command l (x.commands + 1) c.args.self.now.frame (cover c.args.upto (x.commands + 1)) ∷ []) c.args.self.now.labels.present (g.B.Recorded.history c.args.self.now.value)
     (replaced (counted x) c.args.self.now.labels.present) (g.B.Recorded.history c.answer-told.new.self.value) written written_new (g.B.Recorded.wrong c.answer-told.new.self.value)) name stopped in
     rw (c.write_reply.ensures.labels, c.answer-told.ensures.labels, c.write_reply.ensures.value, count.1)
-    (subst (λ (s : Stop). StoppedIn (g.B.Recorded.fixed c.args.self.now.value).limit s (run_command c.args.label (x.commands + 1) c.args.self.now.frame (cover c.args.upto (x.commands + 1)) ∷ []) c.args.self.now.labels.present (g.B.Recorded.history c.args.self.now.value)
+    (subst (λ (s : Stop). StoppedIn (limits_of (g.B.Recorded.fixed c.args.self.now.value)) s (run_command c.args.label (x.commands + 1) c.args.self.now.frame (cover c.args.upto (x.commands + 1)) ∷ []) c.args.self.now.labels.present (g.B.Recorded.history c.args.self.now.value)
     (replaced (counted x) c.args.self.now.labels.present) (g.B.Recorded.history c.answer-told.new.self.value) written written_new (g.B.Recorded.wrong c.answer-told.new.self.value)) (sym at.0) of_label)) c.after_told.ensures.err
 
 pub returns-clause-outcome : goal.returns-clause-outcome

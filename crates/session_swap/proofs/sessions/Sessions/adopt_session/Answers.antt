@@ -19,8 +19,8 @@ invariant_of-self c =
     let number = c.number_of-number.result in
     let d = c.index_mut-record.result.now in
     let inside : number < length records = omega (arith, c.requires.number, c.self.invariant.sound.count, c.number_of-number.ensures) in
-    let was : IsRecord d =
-    subst (λ (r : Record). IsRecord r) (sym c.index_mut-record.ensures.value) (c.self.invariant.sound.each number d inside) in
+    let was : IsRecord c.self.inside.contexts d =
+    subst (λ (r : Record). IsRecord c.self.inside.contexts r) (sym c.index_mut-record.ensures.value) (c.self.invariant.sound.each number d inside) in
     let n : Record =
     record d { client = Some c.args.client; handle = c.args.handle; place = places.Loaded; in_use = true } in
     let handle : IsHandleOf number (new_item c.args.client c.args.handle) =
@@ -101,4 +101,5 @@ returns c =
     ∙ ap (λ (v : SessionsView). v.saved) c.self.view_is in
     let numbers = ap (λ (v : SessionsView). v.numbers) c.self.view_is in
     let left = ap (λ (v : SessionsView). v.left) c.self.view_is in
-    λ i. record { numbers = numbers i; items = same i; next = next i; order = order_is i; saved = saved_is i; left = left i }
+    let room = ap (λ (v : SessionsView). v.contexts) c.self.view_is in
+    λ i. record { numbers = numbers i; items = same i; next = next i; order = order_is i; saved = saved_is i; left = left i; contexts = room i }

@@ -5,17 +5,18 @@ use Rattle.std.proofs.lemmas.List.{take_at}
 use Rattle.std.proofs.lemmas.Result.{on_ok_weaker}
 use Rattle.tab_spec.specs.Shape.{number_of_session}
 use Rattle.tab_spec.specs.declared.TheConstants.{HEADER_BYTES}
+use Rattle.tab_spec.specs.declared.contexts.ContextLimits.{ContextLimits}
 use Rattle.device_port.specs.Use.{without_one}
 use Rattle.session_swap.specs.declared.record.Record.{Record}
 use Rattle.session_swap.specs.Items.{Item, ListsThose, MayHandOut, SavesTold, SessionsView, has_owner, is_held, is_left, is_loaded_item, is_saved_item, item_at, saved_by_client}
-use Rattle.session_swap.specs.Records.{AreListed, ListsIn, OrderView, items_of, view_of, whole_view}
+use Rattle.session_swap.specs.Records.{AreListed, AreRecords, ListsIn, OrderView, items_of, view_of, whole_view}
 use Rattle.session_swap.specs.Moves.{RiseIn}
 use Rattle.session_swap.proofs.Asking.{on_ok_both}
 use Rattle.session_swap.proofs.Bringing.{saved_apart}
 use Rattle.session_swap.proofs.Among.{loaded_whole}
 use Rattle.session_swap.proofs.Listing.{listed_once, listed_saved, lists_same, on_err_both, on_err_weaker}
 use Rattle.session_swap.proofs.Owners.{Handed, count_unchanged, held_saved, left_saved, owner_whole, rise_handed, rise_kept, some_saved}
-use Rattle.session_swap.proofs.Making.{either_way, ready_lent}
+use Rattle.session_swap.proofs.Making.{either_way, made_for, ready_lent}
 use Rattle.session_swap.proofs.Moved.{stand_alike}
 use Rattle.session_swap.proofs.sessions.Sessions.client_save.Goals as goal
 
@@ -30,7 +31,7 @@ save_for_client-saved-requires-clause-ready g c = (
   c.requires.stand.0,
   ready_lent c.self.inside.numbers (g.D.Device.seen c.args.device.now).state c.self.inside.records.items c.deref_mut.result.now c.self.inside.next
       c.self.inside.order c.self.inside.left c.args.self.now c.requires.stand.0 c.deref_mut.ensures.value c.self.invariant.sound c.self.view_is
-      c.requires.stand.1,
+      c.requires.contexts c.requires.stand.1,
 )
 
 pub list_saved-requires : goal.list_saved-requires
@@ -52,7 +53,8 @@ invariant_of-self g c =
     let same = c.deref_mut.ensures.value in
     let order = c.self.inside.order in
     let ready = ready_lent c.self.inside.numbers (g.D.Device.seen c.args.device.now).state records c.deref_mut.result.now c.self.inside.next order
-    c.self.inside.left c.args.self.now c.requires.stand.0 c.deref_mut.ensures.value c.self.invariant.sound c.self.view_is c.requires.stand.1 in
+    c.self.inside.left c.args.self.now c.requires.stand.0 c.deref_mut.ensures.value c.self.invariant.sound c.self.view_is c.requires.contexts
+    c.requires.stand.1 in
     let sound = (out.ensures.ready c.self.inside.numbers c.requires.stand.0 ready).sound in
     let count : length new ≡ length records = sound.count ∙ sym c.self.invariant.sound.count in
     let whole : take c.self.inside.records.len (new ++ drop (length new) records) ≡ new =
@@ -76,8 +78,10 @@ invariant_of-self g c =
     ∙ ap (λ (v : SessionsView). is_loaded_item (item_at v.items number)) c.self.view_is
     ∙ ap (λ (k : ℕ). is_loaded_item (item_at c.args.self.now.items k)) c.number_of.ensures
     ∙ loaded_whole c.args.handle (item_at c.args.self.now.items n) c.requires.may.loaded in
-    subst (λ (l : List Record). AreListed c.self.inside.numbers l c.list_saved.new.order c.self.inside.left c.self.inside.held) (sym whole) (record {
-      sound = sound;
+    subst
+    (λ (l : List Record). AreListed c.self.inside.contexts c.self.inside.numbers l c.list_saved.new.order c.self.inside.left c.self.inside.held)
+    (sym whole) (record {
+      sound = subst (λ (contexts : ContextLimits). AreRecords contexts new) (sym (made_for c.self.view_is c.requires.contexts)) sound;
       listed = listed_saved out.result lent new order c.list_saved.new.order number listed there
           (on_ok_weaker out.result
           (λ saves. saved_apart (items_of lent) (items_of new) number c.args.handle bytes c.number_of.ensures there
@@ -119,7 +123,8 @@ returns-clause-ok g c =
     let view = c.args.self.now in
     let before = ap (λ (l : List Record). items_of l) c.deref_mut.ensures.value ∙ ap (λ (v : SessionsView). v.items) c.self.view_is in
     let ready = ready_lent c.self.inside.numbers (g.D.Device.seen c.args.device.now).state records c.deref_mut.result.now c.self.inside.next c.self.inside.order
-    c.self.inside.left c.args.self.now c.requires.stand.0 c.deref_mut.ensures.value c.self.invariant.sound c.self.view_is c.requires.stand.1 in
+    c.self.inside.left c.args.self.now c.requires.stand.0 c.deref_mut.ensures.value c.self.invariant.sound c.self.view_is c.requires.contexts
+    c.requires.stand.1 in
     let sound = (out.ensures.ready c.self.inside.numbers c.requires.stand.0 ready).sound in
     let count : length new ≡ length records = sound.count ∙ sym c.self.invariant.sound.count in
     let whole : take c.self.inside.records.len (new ++ drop (length new) records) ≡ new =
@@ -130,6 +135,7 @@ returns-clause-ok g c =
     let after = its.view_is in
     let numbers_are = ap (λ (v : SessionsView). v.numbers) c.self.view_is in
     let left_are = ap (λ (v : SessionsView). v.left) c.self.view_is in
+    let room_is = ap (λ (v : SessionsView). v.contexts) c.self.view_is in
     let items_are = ap (λ (l : List Record). items_of l) whole ∙ ap (λ (v : SessionsView). v.items) after
     ∙ ap (λ (l : List (Option Item)). set l n (saved_by_client bytes (item_at l n))) before in
     let order_is = ap (λ (o : OrderView). o.loaded) gone ∙ ap (λ (k : ℕ). without_one k order.loaded) c.number_of.ensures
@@ -140,7 +146,15 @@ returns-clause-ok g c =
         last_is = its.last_is;
         frame = its.frame;
         success = its.success;
-        view_is = λ i. record { numbers = numbers_are i; items = items_are i; next = (after i).next; order = order_is i; saved = saved_is i; left = left_are i };
+        view_is = λ i. record {
+          numbers = numbers_are i;
+          items = items_are i;
+          next = (after i).next;
+          order = order_is i;
+          saved = saved_is i;
+          left = left_are i;
+          contexts = room_is i;
+        };
       },
       subst (λ (items : List (Option Item)). SavesTold (seen c.args.device.now).state (seen left.device).state left.reply handle items) before saves.1,
     )) out.ensures.ok c.list_saved.ensures.ok
@@ -151,7 +165,8 @@ returns-clause-err g c =
     let out = c.save_for_client-saved in
     let new = out.new.records in
     let ready = ready_lent c.self.inside.numbers (g.D.Device.seen c.args.device.now).state records c.deref_mut.result.now c.self.inside.next c.self.inside.order
-    c.self.inside.left c.args.self.now c.requires.stand.0 c.deref_mut.ensures.value c.self.invariant.sound c.self.view_is c.requires.stand.1 in
+    c.self.inside.left c.args.self.now c.requires.stand.0 c.deref_mut.ensures.value c.self.invariant.sound c.self.view_is c.requires.contexts
+    c.requires.stand.1 in
     let sound = (out.ensures.ready c.self.inside.numbers c.requires.stand.0 ready).sound in
     let count : length new ≡ length records = sound.count ∙ sym c.self.invariant.sound.count in
     let whole : take c.self.inside.records.len (new ++ drop (length new) records) ≡ new =
@@ -165,7 +180,16 @@ returns-clause-err g c =
     let saved_is = ap (λ (o : OrderView). o.saved) still ∙ ap (λ (v : SessionsView). v.saved) c.self.view_is in
     let numbers_are = ap (λ (v : SessionsView). v.numbers) c.self.view_is in
     let left_are = ap (λ (v : SessionsView). v.left) c.self.view_is in
-    λ i. record { numbers = numbers_are i; items = items_are i; next = next_is i; order = order_is i; saved = saved_is i; left = left_are i }) out.ensures.err c.list_saved.ensures.err
+    let room_is = ap (λ (v : SessionsView). v.contexts) c.self.view_is in
+    λ i. record {
+      numbers = numbers_are i;
+      items = items_are i;
+      next = next_is i;
+      order = order_is i;
+      saved = saved_is i;
+      left = left_are i;
+      contexts = room_is i;
+    }) out.ensures.err c.list_saved.ensures.err
 
 pub returns-clause-stands : goal.returns-clause-stands
 returns-clause-stands g c =
@@ -175,7 +199,8 @@ returns-clause-stands g c =
     let new = left.records in
     let lent = c.deref_mut.ensures.value in
     let ready = ready_lent c.self.inside.numbers (g.D.Device.seen c.args.device.now).state records c.deref_mut.result.now c.self.inside.next c.self.inside.order
-    c.self.inside.left c.args.self.now c.requires.stand.0 c.deref_mut.ensures.value c.self.invariant.sound c.self.view_is c.requires.stand.1 in
+    c.self.inside.left c.args.self.now c.requires.stand.0 c.deref_mut.ensures.value c.self.invariant.sound c.self.view_is c.requires.contexts
+    c.requires.stand.1 in
     let sound = (out.ensures.ready c.self.inside.numbers c.requires.stand.0 ready).sound in
     let count : length new ≡ length records = sound.count ∙ sym c.self.invariant.sound.count in
     let whole : take c.self.inside.records.len (new ++ drop (length new) records) ≡ new =
@@ -206,7 +231,8 @@ returns-clause-stands g c =
     ) in its) out.ensures.err c.list_saved.ensures.err in
     record {
       stand = λ others stand.
-          stand_alike new_state (view_of c.self.inside.numbers new left.next) (whole_view c.self.inside.numbers whole_records left.next c.list_saved.new.order c.self.inside.left) others
+          stand_alike new_state (view_of c.self.inside.numbers new left.next)
+          (whole_view c.self.inside.numbers whole_records left.next c.list_saved.new.order c.self.inside.left c.self.inside.contexts) others
           refl (ap (λ (l : List Record). items_of l) (sym whole)) refl
           (either_way out.result _ _ (RiseIn new_state (items_of whole_records) c.list_saved.new.order.saved) handed kept
           (λ its. rise_handed state new_state view others (items_of whole_records) c.list_saved.new.order.saved n bytes stand out.ensures.keeps.0.rest
@@ -215,6 +241,6 @@ returns-clause-stands g c =
           its.0 its.1))
           (out.ensures.ready c.self.inside.numbers others
           (ready_lent c.self.inside.numbers state records c.deref_mut.result.now c.self.inside.next c.self.inside.order
-          c.self.inside.left view others lent c.self.invariant.sound c.self.view_is stand)).stand;
+          c.self.inside.left view others lent c.self.invariant.sound c.self.view_is c.requires.contexts stand)).stand;
       rest = out.ensures.keeps.0;
     }

@@ -5,6 +5,7 @@ use Rattle.device_spec.specs.Slots.{SlotState}
 use Rattle.device_port.specs.Use.{without_one}
 use Rattle.session_swap.specs.Items.{HasGapRoom, Item, ListsThose, SessionsView, Stand, counter_of, gap_in, is_left, item_at, rest_of, sessions_of}
 use Rattle.tab_spec.specs.Admission.{is_session_handle}
+use Rattle.tab_spec.specs.declared.contexts.TheConstants.{PROFILE_CONTEXTS}
 use Rattle.session_swap.specs.Records.{IsHandleOf}
 use Rattle.session_swap.proofs.Among.{named_some}
 use Rattle.session_swap.proofs.Moved.{ended_drops, ended_room, has_item, stand_alike}
@@ -33,6 +34,7 @@ forgotten view n = record {
   order = without_one n view.order;
   saved = without_one n view.saved;
   left = without_one n view.left;
+  contexts = view.contexts;
 }
 
 -- the lists aside
@@ -44,6 +46,7 @@ view_ended view handle = record {
   order = [];
   saved = [];
   left = [];
+  contexts = PROFILE_CONTEXTS;
 }
 
 pub returns-clause-ok : goal.returns-clause-ok

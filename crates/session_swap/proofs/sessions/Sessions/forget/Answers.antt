@@ -56,7 +56,7 @@ invariant_of-self c =
     let inside = record_inside records number there in
     let d = c.index_mut-record.result.now in
     let is = c.index_mut-record.ensures.value in
-    let its : IsRecord d = subst (λ (r : Record). IsRecord r) (sym is) (c.self.invariant.sound.each number d inside) in
+    let its : IsRecord c.self.inside.contexts d = subst (λ (r : Record). IsRecord c.self.inside.contexts r) (sym is) (c.self.invariant.sound.each number d inside) in
     let n : Record = record d { place = places.Unused } in
     let was = ap is_held (read_there records number d inside is) ∙ sym c.is_held-was_held.ensures in
     let none : Option Item = None in
@@ -95,4 +95,5 @@ returns c =
     let saved = ap (λ (o : OrderView). o.saved) c.end.ensures ∙ ap (λ (v : SessionsView). without_one number v.saved) c.self.view_is in
     let numbers = ap (λ (v : SessionsView). v.numbers) c.self.view_is in
     let left = c.remove.ensures ∙ ap (λ (v : SessionsView). without_one number v.left) c.self.view_is in
-    λ i. record { numbers = numbers i; items = same i; next = next i; order = order i; saved = saved i; left = left i }
+    let room = ap (λ (v : SessionsView). v.contexts) c.self.view_is in
+    λ i. record { numbers = numbers i; items = same i; next = next i; order = order i; saved = saved i; left = left i; contexts = room i }

@@ -18,8 +18,8 @@ invariant_of-self-2 c =
     c.args.handle c.number_of-number.result c.self.invariant c.self.view_is c.requires.saved c.number_of-number.ensures c.push.new.self
     c.index_mut.result.now c.index_mut.ensures.value c.push.ensures
 
-pub returns-then-count-left_most-clause-left : goal.returns-then-count-left_most-clause-left
-returns-then-count-left_most-clause-left c =
+pub returns-then-count-leave_limit-clause-left : goal.returns-then-count-leave_limit-clause-left
+returns-then-count-leave_limit-clause-left c =
     leaves_view c.self.inside.numbers c.self.inside.records.items c.self.inside.next c.self.inside.order c.self.inside.left c.self.inside.held c.args.self.now
     c.args.handle c.number_of-number.result c.self.invariant c.self.view_is c.requires.saved c.number_of-number.ensures c.push.new.self
     c.index_mut.result.now c.index_mut.ensures.value c.push.ensures

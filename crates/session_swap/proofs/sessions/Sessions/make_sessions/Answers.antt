@@ -2,11 +2,12 @@ use Rattle.std.proofs.Common.{◌≡◌, ◌∙◌, ◌++◌, true, List, length
 use Rattle.std.specs.Prelude.{Option}
 use Rattle.std.proofs.lemmas.List.{take_at}
 use Rattle.std.proofs.lemmas.Result.{on_ok_weaker}
+use Rattle.tab_spec.specs.declared.contexts.ContextLimits.{ContextLimits}
 use Rattle.session_swap.specs.declared.record.Record.{Record}
 use Rattle.session_swap.specs.Items.{AreNeeded, HavePlaces, Item, MakesRoom, SessionsView, is_loaded_item, item_of}
-use Rattle.session_swap.specs.Records.{items_of, whole_view}
+use Rattle.session_swap.specs.Records.{items_of, view_with, whole_view}
 use Rattle.session_swap.proofs.Bringing.{room_whole}
-use Rattle.session_swap.proofs.Making.{gap_below, kept_lent, lent_in, moved_lent}
+use Rattle.session_swap.proofs.Making.{gap_below, kept_lent, lent_in, made_for, moved_lent}
 use Rattle.session_swap.proofs.sessions.Sessions.make_sessions.Goals as goal
 
 pub invariant_of-self : goal.invariant_of-self
@@ -18,7 +19,8 @@ invariant_of-self g c =
     let whole : take c.self.inside.records.len (new ++ drop (length new) records) ≡ new =
     take_at new (drop (length new) records) c.self.inside.records.len (omega arith) in
     kept_lent c.self.inside.numbers records c.deref_mut.result.now new (take c.self.inside.records.len (new ++ drop (length new) records)) c.self.inside.order
-    c.swap_sessions.new.order c.self.inside.left c.self.inside.held c.self.invariant c.deref_mut.ensures.value whole left.ready.ready.sound left.ready.listed
+    c.swap_sessions.new.order c.self.inside.left c.self.inside.held c.self.invariant (made_for c.self.view_is c.requires.contexts)
+    c.deref_mut.ensures.value whole left.ready.ready.sound left.ready.listed
     left.swaps.swaps.sessions.holders
 
 pub swap_sessions-requires-clause-needed : goal.swap_sessions-requires-clause-needed
@@ -29,7 +31,7 @@ swap_sessions-requires-clause-needed g c =
 pub swap_sessions-requires-clause-ready : goal.swap_sessions-requires-clause-ready
 swap_sessions-requires-clause-ready g c =
     lent_in c.self.inside.numbers (g.D.Device.seen c.args.device.now).state c.self.inside.records.items c.deref_mut.result.now c.self.inside.next c.self.inside.held
-    c.self.inside.order c.self.inside.left c.args.self.now c.deref_mut.ensures.value c.self.invariant c.self.view_is c.requires.stand
+    c.self.inside.order c.self.inside.left c.args.self.now c.deref_mut.ensures.value c.self.invariant c.self.view_is c.requires.contexts c.requires.stand
 
 pub returns-clause-ok : goal.returns-clause-ok
 returns-clause-ok g c =
@@ -42,7 +44,7 @@ returns-clause-ok g c =
     on_ok_weaker c.swap_sessions.result
     (λ ok.
     subst (λ (l : List Record). HavePlaces c.args.needed.now c.args.new_places (g.D.Device.seen c.swap_sessions.new.device).state
-    (whole_view c.self.inside.numbers l c.swap_sessions.new.next c.swap_sessions.new.order c.self.inside.left))
+    (whole_view c.self.inside.numbers l c.swap_sessions.new.next c.swap_sessions.new.order c.self.inside.left c.self.inside.contexts))
     (sym whole) (record { loaded = ok.loaded; few = ok.few; free = ok.free })) left.ok
 
 pub returns-clause-stay : goal.returns-clause-stay
@@ -76,12 +78,20 @@ returns-clause-room g c =
     take_at new (drop (length new) records) c.self.inside.records.len (omega arith) in
     let gone = c.self.inside.left in
     let numbers = c.self.inside.numbers in
-    let lent = whole_view numbers c.deref_mut.result.now c.self.inside.next c.self.inside.order gone in
-    let same = ap (λ (l : List Record). whole_view numbers l c.self.inside.next c.self.inside.order gone) c.deref_mut.ensures.value ∙ c.self.view_is in
-    subst (λ (l : List Record). MakesRoom seen old device c.args.needed.now c.args.new_places c.args.self.now (whole_view numbers l next new_order gone) result)
+    let contexts = c.self.inside.contexts in
+    let lent = whole_view numbers c.deref_mut.result.now c.self.inside.next c.self.inside.order gone contexts in
+    let same = ap (λ (l : List Record). whole_view numbers l c.self.inside.next c.self.inside.order gone contexts) c.deref_mut.ensures.value
+    ∙ c.self.view_is in
+    subst
+    (λ (l : List Record). MakesRoom seen old device c.args.needed.now c.args.new_places c.args.self.now (whole_view numbers l next new_order gone contexts) result)
     (sym whole)
-    (subst (λ (v : SessionsView). MakesRoom seen old device c.args.needed.now c.args.new_places v (whole_view numbers new next new_order gone) result) same
-    (room_whole seen old device c.args.needed.now c.args.new_places lent (whole_view numbers new next new_order gone) result left.room))
+    (subst
+    (λ (v : SessionsView). MakesRoom seen old device c.args.needed.now c.args.new_places v (whole_view numbers new next new_order gone contexts) result)
+    same
+    (room_whole seen old device c.args.needed.now c.args.new_places lent (whole_view numbers new next new_order gone contexts) result
+    (subst (λ (made : ContextLimits). MakesRoom seen old device c.args.needed.now c.args.new_places
+    (view_with numbers c.deref_mut.result.now c.self.inside.next c.self.inside.order made)
+    (view_with numbers new next new_order made) result) (sym (made_for c.self.view_is c.requires.contexts)) left.room)))
 
 pub returns-clause-moved : goal.returns-clause-moved
 returns-clause-moved g c =

@@ -9,7 +9,7 @@ use Rattle.session_swap.specs.Items.{AreKept, Item, Names, Renews, SessionsView,
 use Rattle.session_swap.specs.Moves.{IsOldestAt, RenewsAt}
 use Rattle.session_swap.specs.Records.{IsSoundView, items_of, view_of}
 use Rattle.session_swap.proofs.Listing.{sound_view}
-use Rattle.session_swap.proofs.Making.{kept_lent, lent_in, moved_lent}
+use Rattle.session_swap.proofs.Making.{kept_lent, lent_in, made_for, moved_lent}
 use Rattle.session_swap.proofs.Firsts.{oldest_at, saved_again}
 use Rattle.session_swap.proofs.Renewed.{sent_named}
 use Rattle.session_swap.proofs.sessions.Sessions.renew_by.Goals as goal
@@ -23,13 +23,14 @@ invariant_of-self g c =
     let whole : take c.self.inside.records.len (new ++ drop (length new) records) ≡ new =
     take_at new (drop (length new) records) c.self.inside.records.len (omega arith) in
     kept_lent c.self.inside.numbers records c.deref_mut.result.now new (take c.self.inside.records.len (new ++ drop (length new) records)) c.self.inside.order
-    c.renew_session.new.order c.self.inside.left c.self.inside.held c.self.invariant c.deref_mut.ensures.value whole left.ready.ready.sound left.ready.listed
+    c.renew_session.new.order c.self.inside.left c.self.inside.held c.self.invariant (made_for c.self.view_is c.requires.contexts)
+    c.deref_mut.ensures.value whole left.ready.ready.sound left.ready.listed
     left.swaps.sessions.holders
 
 pub renew_session-requires-clause-ready : goal.renew_session-requires-clause-ready
 renew_session-requires-clause-ready g c =
     lent_in c.self.inside.numbers (g.D.Device.seen c.args.device.now).state c.self.inside.records.items c.deref_mut.result.now c.self.inside.next c.self.inside.held
-    c.self.inside.order c.self.inside.left c.args.self.now c.deref_mut.ensures.value c.self.invariant c.self.view_is c.requires.stand
+    c.self.inside.order c.self.inside.left c.args.self.now c.deref_mut.ensures.value c.self.invariant c.self.view_is c.requires.contexts c.requires.stand
 
 pub renew_session-requires-clause-oldest : goal.renew_session-requires-clause-oldest
 renew_session-requires-clause-oldest g c =
@@ -62,10 +63,10 @@ returns-clause-ok g c =
     ∙ ap full_kept c.self.view_is in
     on_ok_weaker c.renew_session.result
     (λ at.
-    let its = subst (λ (n : ℕ). RenewsAt (seen c.args.device.now) (seen device) (items_of old) (items_of new) n) c.number_of.ensures at.0 in
+    let its = subst (λ (n : ℕ). RenewsAt g.D.Device.CONTEXTS (seen c.args.device.now) (seen device) (items_of old) (items_of new) n) c.number_of.ensures at.0 in
     let sent = sent_named (items_of old) (items_of new) handle (asked_of (seen device)) last names left.swaps.sessions.holders its.sent in (
-      subst (λ (l : List Record). Renews (seen c.args.device.now) (seen device) handle c.args.self.now.items (items_of l)) (sym whole)
-          (subst (λ (items : List (Option Item)). Renews (seen c.args.device.now) (seen device) handle items (items_of new)) before (record {
+      subst (λ (l : List Record). Renews g.D.Device.CONTEXTS (seen c.args.device.now) (seen device) handle c.args.self.now.items (items_of l)) (sym whole)
+          (subst (λ (items : List (Option Item)). Renews g.D.Device.CONTEXTS (seen c.args.device.now) (seen device) handle items (items_of new)) before (record {
             renewed = its.renewed;
             fresh = its.fresh;
             asked = sent.0;
