@@ -13,7 +13,7 @@ use Rattle.tab_spec.specs.Contexts.{is_saved_object}
 use Rattle.tab_spec.specs.Frame.{code_of, is_frame, reported_code, tag_of}
 use Rattle.tab_spec.specs.Session.{is_kind_number, kind_of, kind_octet}
 use Rattle.tab_spec.specs.Shape.{octet_of, number_of_session}
-use Rattle.tab_spec.specs.Values.{Reading, fixed_bytes, number8, number32, sized, then_read}
+use Rattle.tab_spec.specs.Values.{Reading, fixed_bytes, number8, number32, sized, ◌>>=◌}
 use Rattle.effect_spec.specs.Contexts.{Context, context_of}
 
 -- ---- what was asked
@@ -87,8 +87,10 @@ has_response_handle (Some row) = row.response_handle
 
 -- the sessionType of StartAuthSession, after its two handles, nonceCaller and the encrypted salt
 abbrev pub session_type_of : List ℕ → Reading ℕ
-session_type_of params =
-    then_read (sized RC_INSUFFICIENT params) (λ nonce rest. then_read (sized RC_INSUFFICIENT rest) (λ salt rest. number8 RC_INSUFFICIENT rest))
+session_type_of params = do
+  (nonce, rest) ← sized RC_INSUFFICIENT params
+  (salt, rest) ← sized RC_INSUFFICIENT rest
+  number8 RC_INSUFFICIENT rest
 
 -- the handle of a session that started: of the type that was asked for, with a number that a session may have and that neither a client's
 -- nor a left one has
@@ -113,12 +115,13 @@ is_whole (Ok read) = length read.1 == 0
 -- the size of the parameters, that many bytes, and one authorization: nonceTPM, sessionAttributes and hmac (Part 2,
 -- "TPMS_AUTH_RESPONSE")
 abbrev pub answer_area : List ℕ → Reading ℕ
-answer_area bytes =
-    then_read (number32 RC_INSUFFICIENT bytes) (λ size rest.
-    then_read (fixed_bytes size RC_INSUFFICIENT rest) (λ params rest.
-    then_read (sized RC_INSUFFICIENT rest) (λ nonce rest.
-    then_read (number8 RC_INSUFFICIENT rest) (λ attributes rest.
-    then_read (sized RC_INSUFFICIENT rest) (λ hmac rest. Ok (size, rest))))))
+answer_area bytes = do
+  (size, rest) ← number32 RC_INSUFFICIENT bytes
+  (params, rest) ← fixed_bytes size RC_INSUFFICIENT rest
+  (nonce, rest) ← sized RC_INSUFFICIENT rest
+  (attributes, rest) ← number8 RC_INSUFFICIENT rest
+  (hmac, rest) ← sized RC_INSUFFICIENT rest
+  Ok (size, rest)
 
 -- the context of a saved object or session: one whole TPMS_CONTEXT of the size and the savedHandle that it has
 abbrev pub is_context_of : ContextLimits → ℕ → List ℕ → Reading Context → Bool

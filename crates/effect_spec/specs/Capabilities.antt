@@ -6,7 +6,7 @@ use Rattle.std.specs.Int.{w16, w32, to_be_bytes}
 use Rattle.tab_spec.specs.declared.CommandRow.{CommandRow}
 use Rattle.tab_spec.specs.declared.numbers.Numbers.{Numbers}
 use Rattle.tab_spec.specs.declared.TheConstants.{PCRS, MOST_BYTES, ALG_SHA256, RH_OWNER, RH_NULL, RS_PW, HT_NV_INDEX, HT_HMAC_SESSION, HT_POLICY_SESSION, HT_TRANSIENT, HT_PERSISTENT, RC_P, RC_1, RC_VALUE, RC_HANDLE, RC_INSUFFICIENT}
-use Rattle.tab_spec.specs.Values.{Reading, number32, then_read}
+use Rattle.tab_spec.specs.Values.{Reading, number32, ◌>>=◌}
 use Rattle.tab_spec.specs.Parameters.{in_parameter, when_read}
 use Rattle.tab_spec.specs.NvIndex.{NvIndex}
 use Rattle.tab_spec.specs.Persist.{Persist}
@@ -48,11 +48,11 @@ pub record Asked : Type 0 where
   pub count : ℕ
 
 abbrev pub asked_of : List ℕ → Reading Asked
-asked_of params =
-    then_read (in_parameter 1 (number32 RC_INSUFFICIENT params)) (λ capability rest.
-    then_read (in_parameter 2 (number32 RC_INSUFFICIENT rest)) (λ property rest.
-    then_read (in_parameter 3 (number32 RC_INSUFFICIENT rest)) (λ count rest.
-    Ok (record { capability = capability; property = property; count = count }, rest))))
+asked_of params = do
+  (capability, rest) ← in_parameter 1 (number32 RC_INSUFFICIENT params)
+  (property, rest) ← in_parameter 2 (number32 RC_INSUFFICIENT rest)
+  (count, rest) ← in_parameter 3 (number32 RC_INSUFFICIENT rest)
+  Ok (record { capability = capability; property = property; count = count }, rest)
 
 -- ---- lists
 

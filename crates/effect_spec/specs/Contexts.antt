@@ -4,7 +4,7 @@ use Rattle.std.specs.Prelude.{ℕ, codes, ◌==◌, nat_le, Bool, List, [], ◌+
 use Rattle.std.specs.Int.{w32, w64, to_be_bytes}
 use Rattle.tab_spec.specs.declared.TheConstants.{MOST_BLOB_BYTES, RC_SIZE, RC_INSUFFICIENT, RH_OWNER, RH_NULL, TRANSIENT_FIRST}
 use Rattle.tab_spec.specs.Parameters.{in_parameter}
-use Rattle.tab_spec.specs.Values.{Reading, number32, number64, require, sized, then_read, sized_bytes}
+use Rattle.tab_spec.specs.Values.{Reading, number32, number64, require, sized, ◌>>=◌, sized_bytes}
 use Rattle.tab_spec.specs.Hash.{masked, kdfa, hmac}
 use Rattle.tab_spec.specs.Object.{Object, object_bytes, object_of}
 use Rattle.tab_spec.specs.Session.{Session, session_bytes, session_of}
@@ -22,12 +22,12 @@ abbrev pub context_head : ℕ → ℕ → ℕ → List ℕ
 context_head sequence saved_handle hierarchy = to_be_bytes w64 sequence ++ to_be_bytes w32 saved_handle ++ to_be_bytes w32 hierarchy
 
 abbrev pub context_of : List ℕ → Reading Context
-context_of bytes =
-    then_read (number64 RC_INSUFFICIENT bytes) (λ sequence rest.
-    then_read (number32 RC_INSUFFICIENT rest) (λ saved_handle rest.
-    then_read (number32 RC_INSUFFICIENT rest) (λ hierarchy rest.
-    then_read (sized RC_INSUFFICIENT rest) (λ blob rest.
-    Ok (record { sequence = sequence; saved_handle = saved_handle; hierarchy = hierarchy; blob = blob }, rest)))))
+context_of bytes = do
+  (sequence, rest) ← number64 RC_INSUFFICIENT bytes
+  (saved_handle, rest) ← number32 RC_INSUFFICIENT rest
+  (hierarchy, rest) ← number32 RC_INSUFFICIENT rest
+  (blob, rest) ← sized RC_INSUFFICIENT rest
+  Ok (record { sequence = sequence; saved_handle = saved_handle; hierarchy = hierarchy; blob = blob }, rest)
 
 -- the parameters of ContextLoad (Part 3): a context whose blob isn't too long
 abbrev pub blob_fits : Context → Bool

@@ -4,7 +4,7 @@ use Rattle.std.specs.Int.{w64, from_be_bytes, to_be_bytes}
 use Rattle.tab_spec.specs.declared.TheConstants.{HT_NV_INDEX, RH_OWNER, NV_INDEXES, MOST_NV_BYTES, NV_OWNERWRITE, NV_AUTHWRITE, NV_OWNERREAD, NV_AUTHREAD, NV_WRITTEN, RC_1, RC_HANDLE, RC_ATTRIBUTES, RC_SIZE, RC_INSUFFICIENT, RC_NV_RANGE, RC_NV_AUTHORIZATION, RC_NV_UNINITIALIZED, RC_NV_SPACE, RC_NV_DEFINED}
 use Rattle.tab_spec.specs.NvIndex.{NvIndex, index_in, has_bits, is_index, without_index, is_counter, with_bytes, with_index, is_written}
 use Rattle.tab_spec.specs.Shape.{octet_of}
-use Rattle.tab_spec.specs.Values.{NvPublic, Reading, auth_of, enclosed, nv_public_of, then_read, require, nv_public_bytes, sized_bytes, number16, sized}
+use Rattle.tab_spec.specs.Values.{NvPublic, Reading, auth_of, enclosed, nv_public_of, ◌>>=◌, require, nv_public_bytes, sized_bytes, number16, sized}
 use Rattle.tab_spec.specs.Admission.{unless_fault}
 use Rattle.tab_spec.specs.Parameters.{in_parameter, when_read, nothing_of}
 use Rattle.tab_spec.specs.Persist.{Persist}
@@ -43,10 +43,10 @@ when_there (Some item) next = next item
 
 -- NV_DefineSpace: an auth value, and a public area that doesn't say WRITTEN
 abbrev pub definition_of : List ℕ → Reading (List ℕ × NvPublic)
-definition_of params =
-    then_read (in_parameter 1 (auth_of RC_INSUFFICIENT params)) (λ auth rest.
-    then_read (in_parameter 2 (require (λ public. bit_and NV_WRITTEN public.attributes == 0) RC_ATTRIBUTES (enclosed nv_public_of RC_INSUFFICIENT rest))) (λ public rest.
-    Ok ((auth, public), rest)))
+definition_of params = do
+  (auth, rest) ← in_parameter 1 (auth_of RC_INSUFFICIENT params)
+  (public, rest) ← in_parameter 2 (require (λ public. bit_and NV_WRITTEN public.attributes == 0) RC_ATTRIBUTES (enclosed nv_public_of RC_INSUFFICIENT rest))
+  Ok ((auth, public), rest)
 
 abbrev pub defined : Persist → List ℕ × NvPublic → Result Persist ℕ
 defined persist given =
@@ -72,10 +72,10 @@ nv_read_public_row persist index params =
 
 -- NV_Write: bytes and an offset
 abbrev pub writing_of : List ℕ → Reading (List ℕ × ℕ)
-writing_of params =
-    then_read (in_parameter 1 (require (λ bytes. nat_le (length bytes) MOST_NV_BYTES) RC_SIZE (sized RC_INSUFFICIENT params))) (λ bytes rest.
-    then_read (in_parameter 2 (number16 RC_INSUFFICIENT rest)) (λ offset rest.
-    Ok ((bytes, offset), rest)))
+writing_of params = do
+  (bytes, rest) ← in_parameter 1 (require (λ bytes. nat_le (length bytes) MOST_NV_BYTES) RC_SIZE (sized RC_INSUFFICIENT params))
+  (offset, rest) ← in_parameter 2 (number16 RC_INSUFFICIENT rest)
+  Ok ((bytes, offset), rest)
 
 abbrev pub written : ℕ → List ℕ × ℕ → NvIndex → Result NvIndex ℕ
 written by given item =
@@ -110,10 +110,10 @@ nv_increment_row persist by index params =
 
 -- NV_Read: a size and an offset
 abbrev pub part_of : List ℕ → Reading (ℕ × ℕ)
-part_of params =
-    then_read (in_parameter 1 (number16 RC_INSUFFICIENT params)) (λ size rest.
-    then_read (in_parameter 2 (number16 RC_INSUFFICIENT rest)) (λ offset rest.
-    Ok ((size, offset), rest)))
+part_of params = do
+  (size, rest) ← in_parameter 1 (number16 RC_INSUFFICIENT params)
+  (offset, rest) ← in_parameter 2 (number16 RC_INSUFFICIENT rest)
+  Ok ((size, offset), rest)
 
 abbrev pub read_part : ℕ → ℕ × ℕ → NvIndex → Result (List ℕ) ℕ
 read_part by part item =

@@ -4,7 +4,7 @@ use Rattle.std.specs.Prelude.{ℕ, codes, ◌+◌, ◌*◌, ◌==◌, not, nat_l
 use Rattle.std.specs.Int.{w16, w32, to_be_bytes}
 use Rattle.sha2.specs.Sha256.{sha256}
 use Rattle.tab_spec.specs.declared.TheConstants.{ALG_NULL, ALG_SHA256, ALG_SYMCIPHER, RC_TYPE, RC_ATTRIBUTES, RC_KEY, RC_INTEGRITY, RC_VALUE, RC_SIZE, RC_INSUFFICIENT, RC_P, RC_1, RH_OWNER}
-use Rattle.tab_spec.specs.Values.{Public, public_bytes, PcrSelection, Sensitive, Reading, enclosed, public_of, selection_of, sensitive_of, sized, then_read, require, makes_secret, selection_bytes, sized_bytes, sized_exactly, sized_within, without_zeros, signs, number16}
+use Rattle.tab_spec.specs.Values.{Public, public_bytes, PcrSelection, Sensitive, Reading, enclosed, public_of, selection_of, sensitive_of, sized, ◌>>=◌, require, makes_secret, selection_bytes, sized_bytes, sized_exactly, sized_within, without_zeros, signs, number16}
 use Rattle.tab_spec.specs.Hash.{name_of, kdfa, hmac, masked}
 use Rattle.tab_spec.specs.Object.{Object}
 use Rattle.tab_spec.specs.Parameters.{in_parameter, when_read, nothing_of}
@@ -42,12 +42,12 @@ pub record Template : Type 0 where
   pub selection : PcrSelection
 
 abbrev pub template_of : List ℕ → Reading Template
-template_of params =
-    then_read (in_parameter 1 (enclosed sensitive_of RC_INSUFFICIENT params)) (λ sensitive rest.
-    then_read (in_parameter 2 (enclosed public_of RC_INSUFFICIENT rest)) (λ public rest.
-    then_read (in_parameter 3 (require (λ outside. nat_le (length outside) 64) RC_SIZE (sized RC_INSUFFICIENT rest))) (λ outside rest.
-    then_read (in_parameter 4 (selection_of rest)) (λ selection rest.
-    Ok (record { sensitive = sensitive; public = public; outside = outside; selection = selection }, rest)))))
+template_of params = do
+  (sensitive, rest) ← in_parameter 1 (enclosed sensitive_of RC_INSUFFICIENT params)
+  (public, rest) ← in_parameter 2 (enclosed public_of RC_INSUFFICIENT rest)
+  (outside, rest) ← in_parameter 3 (require (λ outside. nat_le (length outside) 64) RC_SIZE (sized RC_INSUFFICIENT rest))
+  (selection, rest) ← in_parameter 4 (selection_of rest)
+  Ok (record { sensitive = sensitive; public = public; outside = outside; selection = selection }, rest)
 
 -- data is given exactly where the device doesn't make the secret
 abbrev pub data_fits : Template → Bool
@@ -159,10 +159,11 @@ create_row persist parent params =
 
 -- the private part that was hidden: an auth value, a seed and a secret, and nothing else
 abbrev pub plain_of : List ℕ → Reading (List ℕ × List ℕ × List ℕ)
-plain_of bytes =
-    then_read (sized_within 32 bytes) (λ auth rest.
-    then_read (sized_exactly 32 rest) (λ seed rest.
-    then_read (sized_within 128 rest) (λ secret rest. Ok ((without_zeros auth, seed, secret), rest))))
+plain_of bytes = do
+  (auth, rest) ← sized_within 32 bytes
+  (seed, rest) ← sized_exactly 32 rest
+  (secret, rest) ← sized_within 128 rest
+  Ok ((without_zeros auth, seed, secret), rest)
 
 abbrev pub loaded_with : {X : Type 0} → Reading X → (X → Object) → Result (Object × List ℕ) ℕ
 loaded_with (Err code) made = Err (RC_INTEGRITY + RC_P + RC_1)
@@ -179,9 +180,10 @@ loaded_by parent public (Ok private) =
     else Err (RC_INTEGRITY + RC_P + RC_1)
 
 abbrev pub loading_of : List ℕ → Reading (List ℕ × Public)
-loading_of params =
-    then_read (in_parameter 1 (require (λ private. nat_le (length private) 512) RC_SIZE (sized RC_INSUFFICIENT params))) (λ private rest.
-    then_read (in_parameter 2 (enclosed public_of RC_INSUFFICIENT rest)) (λ public rest. Ok ((private, public), rest)))
+loading_of params = do
+  (private, rest) ← in_parameter 1 (require (λ private. nat_le (length private) 512) RC_SIZE (sized RC_INSUFFICIENT params))
+  (public, rest) ← in_parameter 2 (enclosed public_of RC_INSUFFICIENT rest)
+  Ok ((private, public), rest)
 
 -- the object, and its Name as the response parameter
 abbrev pub load_row : Object → List ℕ → Result (Object × List ℕ) ℕ
@@ -196,9 +198,10 @@ unseal_row item params =
     else when_read (nothing_of params) (λ none. Ok (sized_bytes item.secret))
 
 abbrev pub hmac_of_params : List ℕ → Reading (List ℕ × ℕ)
-hmac_of_params params =
-    then_read (in_parameter 1 (require (λ bytes. nat_le (length bytes) 1024) RC_SIZE (sized RC_INSUFFICIENT params))) (λ bytes rest.
-    then_read (in_parameter 2 (number16 RC_INSUFFICIENT rest)) (λ hash rest. Ok ((bytes, hash), rest)))
+hmac_of_params params = do
+  (bytes, rest) ← in_parameter 1 (require (λ bytes. nat_le (length bytes) 1024) RC_SIZE (sized RC_INSUFFICIENT params))
+  (hash, rest) ← in_parameter 2 (number16 RC_INSUFFICIENT rest)
+  Ok ((bytes, hash), rest)
 
 abbrev pub hmac_row : Object → List ℕ → Result (List ℕ) ℕ
 hmac_row item params =

@@ -3,7 +3,7 @@ use Rattle.std.specs.Prelude.{ℕ, ◌/◌, ◌%◌, ◌^◌, ◌==◌, nat_le, 
 use Rattle.std.specs.Int.{w32, to_be_bytes}
 use Rattle.sha2.specs.Sha256.{sha256}
 use Rattle.tab_spec.specs.declared.TheConstants.{PCRS, MOST_PCRS_READ, ALG_SHA256, RC_HASH, RC_SIZE, RC_INSUFFICIENT}
-use Rattle.tab_spec.specs.Values.{selected_below, PcrSelection, sized_bytes, selection_bytes, selection_of, Reading, number16, fixed_bytes, then_read, require, number32}
+use Rattle.tab_spec.specs.Values.{selected_below, PcrSelection, sized_bytes, selection_bytes, selection_of, Reading, number16, fixed_bytes, ◌>>=◌, then_read, require, number32}
 use Rattle.tab_spec.specs.Persist.{Persist, with_pcr}
 use Rattle.tab_spec.specs.Parameters.{in_parameter, when_read}
 
@@ -47,8 +47,10 @@ pcr_read_row persist params = when_read (in_parameter 1 (selection_of params)) (
 abbrev pub digest_with : ℕ → List ℕ → Reading (Option (List ℕ))
 digest_with count bytes =
     if count == 0 then Ok (None, bytes)
-    else then_read (require (λ hash. hash == ALG_SHA256) RC_HASH (number16 RC_INSUFFICIENT bytes)) (λ hash rest.
-    then_read (fixed_bytes 32 RC_INSUFFICIENT rest) (λ digest rest. Ok (Some digest, rest)))
+    else do
+      (hash, rest) ← require (λ hash. hash == ALG_SHA256) RC_HASH (number16 RC_INSUFFICIENT bytes)
+      (digest, rest) ← fixed_bytes 32 RC_INSUFFICIENT rest
+      Ok (Some digest, rest)
 
 -- a list of at most one digest (Part 2, "TPML_DIGEST_VALUES")
 abbrev pub digest_of : List ℕ → Reading (Option (List ℕ))

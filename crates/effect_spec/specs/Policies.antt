@@ -10,7 +10,7 @@ use Rattle.tab_spec.specs.declared.SessionKind.TheVariants as kinds
 use Rattle.tab_spec.specs.declared.AuthNeeded.{AuthNeeded}
 use Rattle.tab_spec.specs.Session.{Session, is_set_to_another, restarted}
 use Rattle.tab_spec.specs.Parameters.{nothing_of, when_read, in_parameter}
-use Rattle.tab_spec.specs.Values.{sized_bytes, number32, PcrSelection, Reading, is_policy, selection_of, sized, then_read, require, selection_bytes}
+use Rattle.tab_spec.specs.Values.{sized_bytes, number32, PcrSelection, Reading, is_policy, selection_of, sized, ◌>>=◌, require, selection_bytes}
 use Rattle.tab_spec.specs.Persist.{Persist, selected_digest}
 
 -- ---- what they share
@@ -57,9 +57,10 @@ policy_command_code_row s params =
 -- ---- PolicyPCR
 
 abbrev pub pcr_policy_of : List ℕ → Reading (List ℕ × PcrSelection)
-pcr_policy_of params =
-    then_read (in_parameter 1 (require is_policy RC_SIZE (sized RC_INSUFFICIENT params))) (λ digest rest.
-    then_read (in_parameter 2 (selection_of rest)) (λ selection rest. Ok ((digest, selection), rest)))
+pcr_policy_of params = do
+  (digest, rest) ← in_parameter 1 (require is_policy RC_SIZE (sized RC_INSUFFICIENT params))
+  (selection, rest) ← in_parameter 2 (selection_of rest)
+  Ok ((digest, selection), rest)
 
 abbrev pub with_pcrs : Persist → Session → PcrSelection → List ℕ → Session
 with_pcrs persist s selection digest = record s {
@@ -85,13 +86,15 @@ policy_pcr_row persist s params =
 -- so many digests, one after the other
 abbrev pub digests_of : ℕ → List ℕ → Reading (List (List ℕ))
 digests_of zero bytes = Ok ([], bytes)
-digests_of (suc more) bytes =
-    then_read (require (λ digest. length digest == 32) RC_SIZE (sized RC_INSUFFICIENT bytes)) (λ digest rest.
-    then_read (digests_of more rest) (λ digests rest. Ok (digest ∷ digests, rest)))
+digests_of (suc more) bytes = do
+  (digest, rest) ← require (λ digest. length digest == 32) RC_SIZE (sized RC_INSUFFICIENT bytes)
+  (digests, rest) ← digests_of more rest
+  Ok (digest ∷ digests, rest)
 
 abbrev pub branches_of : List ℕ → Reading (List (List ℕ))
-branches_of bytes =
-    then_read (require (λ count. nat_le 2 count && nat_le count 8) RC_SIZE (number32 RC_INSUFFICIENT bytes)) (λ count rest. digests_of count rest)
+branches_of bytes = do
+  (count, rest) ← require (λ count. nat_le 2 count && nat_le count 8) RC_SIZE (number32 RC_INSUFFICIENT bytes)
+  digests_of count rest
 
 abbrev pub joined : List (List ℕ) → List ℕ
 joined [] = []
@@ -113,12 +116,12 @@ pub record SecretPolicy : Type 0 where
   pub expiration : ℕ
 
 abbrev pub secret_policy_of : List ℕ → Reading SecretPolicy
-secret_policy_of params =
-    then_read (in_parameter 1 (require (λ nonce. nat_le (length nonce) 32) RC_SIZE (sized RC_INSUFFICIENT params))) (λ nonce rest.
-    then_read (in_parameter 2 (require (λ hash. nat_le (length hash) 32) RC_SIZE (sized RC_INSUFFICIENT rest))) (λ cp_hash rest.
-    then_read (in_parameter 3 (require (λ ref. nat_le (length ref) 64) RC_SIZE (sized RC_INSUFFICIENT rest))) (λ policy_ref rest.
-    then_read (in_parameter 4 (number32 RC_INSUFFICIENT rest)) (λ expiration rest.
-    Ok (record { nonce = nonce; cp_hash = cp_hash; policy_ref = policy_ref; expiration = expiration }, rest)))))
+secret_policy_of params = do
+  (nonce, rest) ← in_parameter 1 (require (λ nonce. nat_le (length nonce) 32) RC_SIZE (sized RC_INSUFFICIENT params))
+  (cp_hash, rest) ← in_parameter 2 (require (λ hash. nat_le (length hash) 32) RC_SIZE (sized RC_INSUFFICIENT rest))
+  (policy_ref, rest) ← in_parameter 3 (require (λ ref. nat_le (length ref) 64) RC_SIZE (sized RC_INSUFFICIENT rest))
+  (expiration, rest) ← in_parameter 4 (number32 RC_INSUFFICIENT rest)
+  Ok (record { nonce = nonce; cp_hash = cp_hash; policy_ref = policy_ref; expiration = expiration }, rest)
 
 abbrev pub secret_fault : Session → SecretPolicy → Option ℕ
 secret_fault s given =

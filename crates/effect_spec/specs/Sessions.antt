@@ -4,7 +4,7 @@ use Rattle.std.specs.Prelude.{ℕ, ◌+◌, ◌*◌, ◌==◌, not, nat_le, List
 use Rattle.tab_spec.specs.declared.TheConstants.{ALG_NULL, ALG_SHA256, RC_SIZE, RC_VALUE, RC_HASH, RC_INSUFFICIENT, RC_P, RC_1}
 use Rattle.tab_spec.specs.declared.SessionKind.{SessionKind}
 use Rattle.tab_spec.specs.declared.AuthNeeded.TheVariants as needs
-use Rattle.tab_spec.specs.Values.{Reading, number16, number8, sized, sized_bytes, then_read, require}
+use Rattle.tab_spec.specs.Values.{Reading, number16, number8, sized, sized_bytes, ◌>>=◌, require}
 use Rattle.tab_spec.specs.Parameters.{in_parameter, when_read}
 use Rattle.tab_spec.specs.Admission.{unless_fault}
 use Rattle.tab_spec.specs.Session.{is_kind_number, is_nonce, kind_of, Session}
@@ -21,13 +21,13 @@ pub record StartParameters : Type 0 where
   pub hash : ℕ
 
 abbrev pub start_parameters_of : List ℕ → Reading StartParameters
-start_parameters_of params =
-    then_read (in_parameter 1 (require (λ nonce. nat_le (length nonce) 64) RC_SIZE (sized RC_INSUFFICIENT params))) (λ nonce rest.
-    then_read (in_parameter 2 (require (λ salt. nat_le (length salt) 256) RC_SIZE (sized RC_INSUFFICIENT rest))) (λ salt rest.
-    then_read (in_parameter 3 (number8 RC_INSUFFICIENT rest)) (λ kind rest.
-    then_read (in_parameter 4 (number16 RC_INSUFFICIENT rest)) (λ symmetric rest.
-    then_read (in_parameter 5 (number16 RC_INSUFFICIENT rest)) (λ hash rest.
-    Ok (record { nonce = nonce; salt = salt; kind = kind; symmetric = symmetric; hash = hash }, rest))))))
+start_parameters_of params = do
+  (nonce, rest) ← in_parameter 1 (require (λ nonce. nat_le (length nonce) 64) RC_SIZE (sized RC_INSUFFICIENT params))
+  (salt, rest) ← in_parameter 2 (require (λ salt. nat_le (length salt) 256) RC_SIZE (sized RC_INSUFFICIENT rest))
+  (kind, rest) ← in_parameter 3 (number8 RC_INSUFFICIENT rest)
+  (symmetric, rest) ← in_parameter 4 (number16 RC_INSUFFICIENT rest)
+  (hash, rest) ← in_parameter 5 (number16 RC_INSUFFICIENT rest)
+  Ok (record { nonce = nonce; salt = salt; kind = kind; symmetric = symmetric; hash = hash }, rest)
 
 -- the first fault of these
 abbrev pub start_parameters_fault : StartParameters → Option ℕ

@@ -7,7 +7,7 @@ use Rattle.tab_spec.specs.declared.TheConstants.{HT_HMAC_SESSION, HT_POLICY_SESS
 use Rattle.std.specs.Int.{w32, to_be_bytes}
 use Rattle.tab_spec.specs.declared.SessionKind.TheVariants as kinds
 use Rattle.tab_spec.specs.declared.AuthNeeded.TheVariants as needs
-use Rattle.tab_spec.specs.Values.{sized_bytes, Reading, number32, number8, fixed_bytes, sized, then_read, require}
+use Rattle.tab_spec.specs.Values.{sized_bytes, Reading, number32, number8, fixed_bytes, sized, ◌>>=◌, require}
 
 -- a session as a device holds it (Part 1, "Session-Based Authorizations")
 pub record Session : Type 0 where
@@ -83,24 +83,24 @@ abbrev pub updates_fit : ℕ → ℕ → Bool
 updates_fit flags updates = bit_and 4 flags == 4 || updates == 0
 
 abbrev pub session_of : List ℕ → Reading Session
-session_of bytes =
-    then_read (require is_kind_number RC_SIZE (number8 RC_SIZE bytes)) (λ kind rest.
-    then_read (require is_nonce RC_SIZE (sized RC_SIZE rest)) (λ nonce rest.
-    then_read (fixed_bytes 32 RC_SIZE rest) (λ digest rest.
-    then_read (number32 RC_SIZE rest) (λ code rest.
-    then_read (require are_flags RC_SIZE (number8 RC_SIZE rest)) (λ flags rest.
-    then_read (require (updates_fit flags) RC_SIZE (number32 RC_SIZE rest)) (λ updates rest.
-    Ok (
-      record {
-        kind = kind_of kind;
-        nonce = nonce;
-        digest = digest;
-        command_code = unless_0 code;
-        needed = needed_of flags;
-        pcr_updates = if bit_and 4 flags == 4 then Some updates else None;
-      },
-      rest,
-    )))))))
+session_of bytes = do
+  (kind, rest) ← require is_kind_number RC_SIZE (number8 RC_SIZE bytes)
+  (nonce, rest) ← require is_nonce RC_SIZE (sized RC_SIZE rest)
+  (digest, rest) ← fixed_bytes 32 RC_SIZE rest
+  (code, rest) ← number32 RC_SIZE rest
+  (flags, rest) ← require are_flags RC_SIZE (number8 RC_SIZE rest)
+  (updates, rest) ← require (updates_fit flags) RC_SIZE (number32 RC_SIZE rest)
+  Ok (
+    record {
+      kind = kind_of kind;
+      nonce = nonce;
+      digest = digest;
+      command_code = unless_0 code;
+      needed = needed_of flags;
+      pcr_updates = if bit_and 4 flags == 4 then Some updates else None;
+    },
+    rest,
+  )
 
 -- a session that a device of this profile may hold
 pub record IsSession (s : Session) : Type 0 where

@@ -21,6 +21,11 @@ abbrev pub then_read : {X Y : Type 0} → Reading X → (X → List ℕ → Read
 then_read (Err code) next = Err code
 then_read (Ok read) next = next read.0 read.1
 
+-- in `do`, `(x, rest) ← reading` names what was read and the bytes after it
+infixl 10 ◌>>=◌
+abbrev pub ◌>>=◌ : {X Y : Type 0} → Reading X → (X × List ℕ → Reading Y) → Reading Y
+reading >>= next = then_read reading (λ x rest. next (x, rest))
+
 -- what was read, where it passes a test
 abbrev pub require : {X : Type 0} → (X → Bool) → ℕ → Reading X → Reading X
 require test code (Err fault) = Err fault
@@ -65,7 +70,9 @@ sized_within most bytes = require (λ read. nat_le (length read) most) RC_SIZE (
 -- these words, one after the other
 abbrev pub words : List ℕ → List ℕ → Reading (List ℕ)
 words [] bytes = Ok ([], bytes)
-words (word ∷ more) bytes = then_read (require (λ read. read == word) RC_VALUE (number16 RC_SIZE bytes)) (λ read rest. words more rest)
+words (word ∷ more) bytes = do
+  (read, rest) ← require (λ read. read == word) RC_VALUE (number16 RC_SIZE bytes)
+  words more rest
 
 -- ---- writing
 
@@ -124,14 +131,14 @@ abbrev pub is_policy : List ℕ → Bool
 is_policy policy = length policy == 0 || length policy == 32
 
 abbrev pub public_of : List ℕ → Reading Public
-public_of bytes =
-    then_read (require is_form RC_TYPE (number16 RC_SIZE bytes)) (λ form rest.
-    then_read (require (λ hash. hash == ALG_SHA256) RC_HASH (number16 RC_SIZE rest)) (λ hash rest.
-    then_read (require (are_attributes form) RC_ATTRIBUTES (number32 RC_SIZE rest)) (λ attributes rest.
-    then_read (require is_policy RC_SIZE (sized RC_SIZE rest)) (λ policy rest.
-    then_read (words (parameter_words form attributes) rest) (λ read rest.
-    then_read (require (λ unique. nat_le (length unique) 32) RC_SIZE (sized RC_SIZE rest)) (λ unique rest.
-    Ok (record { form = form; attributes = attributes; policy = policy; unique = unique }, rest)))))))
+public_of bytes = do
+  (form, rest) ← require is_form RC_TYPE (number16 RC_SIZE bytes)
+  (hash, rest) ← require (λ hash. hash == ALG_SHA256) RC_HASH (number16 RC_SIZE rest)
+  (attributes, rest) ← require (are_attributes form) RC_ATTRIBUTES (number32 RC_SIZE rest)
+  (policy, rest) ← require is_policy RC_SIZE (sized RC_SIZE rest)
+  (read, rest) ← words (parameter_words form attributes) rest
+  (unique, rest) ← require (λ unique. nat_le (length unique) 32) RC_SIZE (sized RC_SIZE rest)
+  Ok (record { form = form; attributes = attributes; policy = policy; unique = unique }, rest)
 
 abbrev pub public_bytes : Public → List ℕ
 public_bytes p =
@@ -164,13 +171,15 @@ pub record Sensitive : Type 0 where
 
 -- an auth value in a TPM2B; this code for too few bytes
 abbrev pub auth_of : ℕ → List ℕ → Reading (List ℕ)
-auth_of lacking bytes = then_read (require (λ auth. nat_le (length auth) 32) RC_SIZE (sized lacking bytes)) (λ auth rest. Ok (without_zeros auth, rest))
+auth_of lacking bytes = do
+  (auth, rest) ← require (λ auth. nat_le (length auth) 32) RC_SIZE (sized lacking bytes)
+  Ok (without_zeros auth, rest)
 
 abbrev pub sensitive_of : List ℕ → Reading Sensitive
-sensitive_of bytes =
-    then_read (auth_of RC_SIZE bytes) (λ auth rest.
-    then_read (require (λ content. nat_le (length content) 128) RC_SIZE (sized RC_SIZE rest)) (λ content rest.
-    Ok (record { auth = auth; content = content }, rest)))
+sensitive_of bytes = do
+  (auth, rest) ← auth_of RC_SIZE bytes
+  (content, rest) ← require (λ content. nat_le (length content) 128) RC_SIZE (sized RC_SIZE rest)
+  Ok (record { auth = auth; content = content }, rest)
 
 -- ---- NV indexes (Part 2, "TPMS_NV_PUBLIC")
 
@@ -198,13 +207,13 @@ abbrev pub is_nv_size : ℕ → ℕ → Bool
 is_nv_size attributes size = if nv_type attributes == NV_COUNTER then size == 8 else nat_le size MOST_NV_BYTES
 
 abbrev pub nv_public_of : List ℕ → Reading NvPublic
-nv_public_of bytes =
-    then_read (require (λ index. octet_of index == HT_NV_INDEX) RC_VALUE (number32 RC_SIZE bytes)) (λ index rest.
-    then_read (require (λ hash. hash == ALG_SHA256) RC_HASH (number16 RC_SIZE rest)) (λ hash rest.
-    then_read (require are_nv_attributes RC_ATTRIBUTES (number32 RC_SIZE rest)) (λ attributes rest.
-    then_read (require is_policy RC_SIZE (sized RC_SIZE rest)) (λ policy rest.
-    then_read (require (is_nv_size attributes) RC_SIZE (number16 RC_SIZE rest)) (λ size rest.
-    Ok (record { index = index; attributes = attributes; policy = policy; size = size }, rest))))))
+nv_public_of bytes = do
+  (index, rest) ← require (λ index. octet_of index == HT_NV_INDEX) RC_VALUE (number32 RC_SIZE bytes)
+  (hash, rest) ← require (λ hash. hash == ALG_SHA256) RC_HASH (number16 RC_SIZE rest)
+  (attributes, rest) ← require are_nv_attributes RC_ATTRIBUTES (number32 RC_SIZE rest)
+  (policy, rest) ← require is_policy RC_SIZE (sized RC_SIZE rest)
+  (size, rest) ← require (is_nv_size attributes) RC_SIZE (number16 RC_SIZE rest)
+  Ok (record { index = index; attributes = attributes; policy = policy; size = size }, rest)
 
 abbrev pub nv_public_bytes : NvPublic → List ℕ
 nv_public_bytes p =
@@ -229,9 +238,11 @@ pub record PcrSelection : Type 0 where
 abbrev pub selection_with : ℕ → List ℕ → Reading PcrSelection
 selection_with count bytes =
     if count == 0 then Ok (record { bits = None }, bytes)
-    else then_read (require (λ hash. hash == ALG_SHA256) RC_HASH (number16 RC_INSUFFICIENT bytes)) (λ hash rest.
-    then_read (require (λ size. size == 3) RC_VALUE (number8 RC_INSUFFICIENT rest)) (λ size rest.
-    then_read (fixed_bytes 3 RC_INSUFFICIENT rest) (λ bits rest. Ok (record { bits = Some bits }, rest))))
+    else do
+      (hash, rest) ← require (λ hash. hash == ALG_SHA256) RC_HASH (number16 RC_INSUFFICIENT bytes)
+      (size, rest) ← require (λ size. size == 3) RC_VALUE (number8 RC_INSUFFICIENT rest)
+      (bits, rest) ← fixed_bytes 3 RC_INSUFFICIENT rest
+      Ok (record { bits = Some bits }, rest)
 
 abbrev pub selection_of : List ℕ → Reading PcrSelection
 selection_of bytes = then_read (require (λ count. nat_le count 1) RC_SIZE (number32 RC_INSUFFICIENT bytes)) selection_with
