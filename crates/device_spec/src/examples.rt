@@ -182,8 +182,10 @@ fn startup_comes_first_and_once()
         ≡ (new_device, refusal 0x01 0xc4) }
 {}
 
-// An object goes to the least free slot, and stays there until it is flushed.
-fn objects_have_slots()
+// A command that makes an object needs a free slot. It is looked for after the authorizations are
+// read and before a password is compared; a context is read before.
+#[tactic(auto, unfolding(crate::proofs::Computing::steps, crate::proofs::Computing::contexts))]
+fn objects_need_a_free_slot()
     ensures no_room { slot_step (device_holding (Some sealed) (Some sealed) (Some sealed) 0)
         (frame 0x8002 CC_CREATE_PRIMARY
         (u32 RH_OWNER ++ area (password [] 0 []) ++ template no_secret hmac_key [] no_pcrs))
@@ -202,6 +204,11 @@ fn objects_have_slots()
     ensures room_is_not_asked_first { (slot_step (device_holding (Some sealed) (Some sealed)
         (Some sealed) 0) (frame 0x8001 CC_CONTEXT_LOAD (u32 0 ++ u32 0 ++ u32 0x81000000))).1
         ≡ refusal 0x01 0xda }
+{}
+
+// An object is saved from its slot, and stays there until it is flushed.
+#[tactic(auto, unfolding(crate::proofs::Computing::steps, crate::proofs::Computing::contexts))]
+fn objects_are_saved()
     ensures saved { slot_step (device_holding None (Some sealed) None 0) (save 0x80000001) ≡ (
       device_holding None (Some sealed) None 1,
       frame 0x8001 0 (sealed_context 1 (0xdb ∷ [])),
@@ -214,6 +221,11 @@ fn objects_have_slots()
     ensures no_session_is_saved { (slot_step (device_holding (Some sealed) None None 0)
         (save 0x02000000)).1
         ≡ refusal 0x09 0x10 }
+{}
+
+// A context is loaded to the least free slot, if it is one that the device made of an object.
+#[tactic(auto, unfolding(crate::proofs::Computing::steps, crate::proofs::Computing::contexts))]
+fn objects_are_loaded()
     ensures loaded { slot_step (device_holding (Some sealed) None (Some sealed) 5)
         (frame 0x8001 CC_CONTEXT_LOAD (sealed_context 1 (0xdb ∷ [])))
         ≡ (

@@ -32,14 +32,10 @@ ghost use Rattle.tab_spec.specs.Examples.{key_with, policy_session, template, no
 ghost use Rattle.tab_spec.specs.Examples.{hashed, sealed, sealed_private, sealed_context};
 ghost use Rattle.effect_spec.specs.Examples.{storage_primary};
 
-// A counter is defined, and counts from 1; and the faults on the way, in the order in which they
-// are looked for.
+// A counter is defined, and counts from 1 to the last count.
 fn counters_count()
     ensures defined { nv_define_row (with_indexes []) (counter_definition 0x02040014 [])
         ≡ Ok (with_indexes (counter ∷ [])) }
-    ensures unwritten { nv_read_row (with_indexes (counter ∷ [])) 0x01000001
-        0x01000001 (0 ∷ 8 ∷ 0 ∷ 0 ∷ [])
-        ≡ Err 0x14a }
     ensures first { nv_increment_row (with_indexes (counter ∷ [])) 0x01000001 0x01000001 []
         ≡ Ok (with_indexes (counter_at 1 ∷ [])) }
     ensures read { nv_read_row (with_indexes (counter_at 1 ∷ [])) 0x01000001
@@ -48,6 +44,14 @@ fn counters_count()
     ensures last { nv_increment_row (with_indexes (counter_at 0xffffffffffffffff ∷ [])) 0x01000001
         0x01000001 []
         ≡ Err 0x146 }
+{}
+
+// What is refused of a counter: to read it before it counts, past its end or by another index, to
+// count it by the owner, and to write it.
+fn counters_have_faults()
+    ensures unwritten { nv_read_row (with_indexes (counter ∷ [])) 0x01000001
+        0x01000001 (0 ∷ 8 ∷ 0 ∷ 0 ∷ [])
+        ≡ Err 0x14a }
     ensures by_owner { nv_increment_row (with_indexes (counter ∷ [])) RH_OWNER 0x01000001 []
         ≡ Err 0x149 }
     ensures written { nv_write_row (with_indexes (counter ∷ [])) 0x01000001
@@ -60,6 +64,11 @@ fn counters_count()
         (with_indexes (counter ∷ four_bytes 0x00060006 (1 ∷ 2 ∷ 3 ∷ 4 ∷ []) ∷ [])) 0x01000002
         0x01000001 (0 ∷ 8 ∷ 0 ∷ 1 ∷ [])
         ≡ Err 0x149 }
+{}
+
+// The public area of a counter, and its Name.
+#[tactic(auto, unfolding(tab_spec::proofs::Computing::hashes))]
+fn counters_have_names()
     ensures named { nv_read_public_row (with_indexes (counter ∷ [])) 0x01000001 []
         ≡ Ok (0 ∷ 0x0e ∷ 0x01 ∷ 0x00 ∷ 0x00 ∷ 0x01 ∷ 0x00 ∷ 0x0b ∷ 0x02 ∷ 0x04 ∷ 0x00 ∷ 0x14 ∷ 0x00
         ∷ 0x00 ∷ 0x00 ∷ 0x08 ∷ []
@@ -68,9 +77,20 @@ fn counters_count()
         ∷ 0xdb ∷ 0x18 ∷ 0xdd ∷ 0x38 ∷ 0x12 ∷ 0x19 ∷ 0xb2 ∷ 0x66 ∷ 0xab ∷ 0xe9 ∷ []) }
 {}
 
-fn indexes_are_defined_and_undefined()
+// An index is defined once, and 64 of them are defined at most.
+fn indexes_are_defined_once()
     ensures again { nv_define_row (with_indexes (counter ∷ [])) (counter_definition 0x02040014 [])
         ≡ Err 0x14c }
+    ensures too_many { nv_define_row (with_indexes (replicate 64 (four_bytes 0x00060006 [])))
+        (counter_definition 0x02040014 [])
+        ≡ Err 0x14b }
+    ensures there_before_full { nv_define_row (with_indexes (counter
+        ∷ replicate 63 (four_bytes 0x00060006 []))) (counter_definition 0x02040014 []) ≡ Err 0x14c }
+{}
+
+// A definition is refused if its auth value or its public area isn't whole, and if the area says
+// that the index was written.
+fn definitions_are_refused()
     ensures as_written { nv_define_row (with_indexes []) (counter_definition 0x22040014 [])
         ≡ Err 0x2c2 }
     ensures one_byte_within { nv_define_row (with_indexes [])
@@ -79,12 +99,13 @@ fn indexes_are_defined_and_undefined()
     ensures one_byte_behind { nv_define_row (with_indexes [])
         (counter_definition 0x22040014 [] ++ 0 ∷ [])
         ≡ Err 0x2c2 }
-    ensures too_many { nv_define_row (with_indexes (replicate 64 (four_bytes 0x00060006 [])))
-        (counter_definition 0x02040014 [])
-        ≡ Err 0x14b }
     ensures cut { nv_define_row (with_indexes []) (0 ∷ 0 ∷ 0 ∷ 14 ∷ 1 ∷ []) ≡ Err 0x2da }
     ensures no_auth { nv_define_row (with_indexes []) (0 ∷ 33 ∷ 0 ∷ []) ≡ Err 0x1da }
     ensures long_auth { nv_define_row (with_indexes []) (0 ∷ 33 ∷ replicate 33 0) ≡ Err 0x1d5 }
+{}
+
+// An index that is undefined is gone, and one that isn't there is told by its handle's place.
+fn indexes_are_undefined()
     ensures gone { nv_undefine_row (with_indexes (counter ∷ four_bytes 0x00060006 [] ∷ []))
         0x01000002 [] ≡ Ok (with_indexes (counter ∷ [])) }
     ensures missing { undefined_index (counter ∷ []) 1 (RH_OWNER ∷ 0x01000002 ∷ []) ≡ Some 0x28b }
@@ -92,11 +113,10 @@ fn indexes_are_defined_and_undefined()
         ≡ Some 0x18b }
     ensures undefined_twice { nv_undefine_row (with_indexes (counter ∷ [])) 0x01000002 (0 ∷ [])
         ≡ Err 0x28b }
-    ensures there_before_full { nv_define_row (with_indexes (counter
-        ∷ replicate 63 (four_bytes 0x00060006 []))) (counter_definition 0x02040014 []) ≡ Err 0x14c }
     ensures there { undefined_index (counter ∷ []) 1 (0x01000001 ∷ 0x01000001 ∷ []) ≡ None }
 {}
 
+// Bytes are written over a part of an index, up to its end.
 fn parts_of_indexes_are_written()
     ensures inside { nv_write_row
         (with_indexes (counter ∷ four_bytes 0x00060006 (1 ∷ 2 ∷ 3 ∷ 4 ∷ []) ∷ [])) RH_OWNER
@@ -104,10 +124,6 @@ fn parts_of_indexes_are_written()
         ≡ Ok (with_indexes (counter ∷ four_bytes 0x20060006 (1 ∷ 8 ∷ 9 ∷ 4 ∷ []) ∷ [])) }
     ensures past_its_end { nv_write_row (with_indexes (four_bytes 0x00060006 (1 ∷ 2 ∷ 3 ∷ 4 ∷ [])
         ∷ [])) RH_OWNER 0x01000002 (0 ∷ 2 ∷ 8 ∷ 9 ∷ 0 ∷ 3 ∷ []) ≡ Err 0x146 }
-    ensures incremented { nv_increment_row (with_indexes
-        (four_bytes 0x00060006 (1 ∷ 2 ∷ 3 ∷ 4 ∷ []) ∷ [])) RH_OWNER 0x01000002 [] ≡ Err 0x282 }
-    ensures read { nv_read_row (with_indexes (four_bytes 0x20060006 (1 ∷ 2 ∷ 3 ∷ 4 ∷ []) ∷ []))
-        0x01000002 0x01000002 (0 ∷ 2 ∷ 0 ∷ 2 ∷ []) ≡ Ok (0 ∷ 2 ∷ 3 ∷ 4 ∷ []) }
     ensures to_its_end { nv_write_row
         (with_indexes (four_bytes 0x00060006 (1 ∷ 2 ∷ 3 ∷ 4 ∷ []) ∷ [])) RH_OWNER
         0x01000002 (0 ∷ 2 ∷ 8 ∷ 9 ∷ 0 ∷ 2 ∷ [])
@@ -119,6 +135,11 @@ fn parts_of_indexes_are_written()
         ∷ [])) RH_OWNER 0x01000002 (8 ∷ 0 ∷ replicate 2048 7 ++ 0 ∷ 0 ∷ []) ≡ Err 0x146 }
     ensures more_bytes { nv_write_row (with_indexes (four_bytes 0x00060006 (1 ∷ 2 ∷ 3 ∷ 4 ∷ [])
         ∷ [])) RH_OWNER 0x01000002 (8 ∷ 1 ∷ replicate 2049 7 ++ 0 ∷ 0 ∷ []) ≡ Err 0x1d5 }
+{}
+
+// Whether an index is there is looked at before the parameters, and who may use it before what is
+// done.
+fn indexes_are_looked_at_before()
     ensures who_before_what { nv_write_row (with_indexes (counter ∷ [])) RH_OWNER
         0x01000001 (0 ∷ 0 ∷ 0 ∷ 0 ∷ [])
         ≡ Err 0x149 }
@@ -129,12 +150,21 @@ fn parts_of_indexes_are_written()
         ≡ Err 0x18b }
     ensures missing_public { nv_read_public_row (with_indexes (counter ∷ [])) 0x01000002 (0 ∷ [])
         ≡ Err 0x18b }
+{}
+
+// A part of an index is read, if the index lets itself be read. It isn't a counter.
+fn plain_indexes_are_read()
+    ensures incremented { nv_increment_row (with_indexes
+        (four_bytes 0x00060006 (1 ∷ 2 ∷ 3 ∷ 4 ∷ []) ∷ [])) RH_OWNER 0x01000002 [] ≡ Err 0x282 }
+    ensures read { nv_read_row (with_indexes (four_bytes 0x20060006 (1 ∷ 2 ∷ 3 ∷ 4 ∷ []) ∷ []))
+        0x01000002 0x01000002 (0 ∷ 2 ∷ 0 ∷ 2 ∷ []) ≡ Ok (0 ∷ 2 ∷ 3 ∷ 4 ∷ []) }
     ensures not_by_itself { nv_read_row (with_indexes (four_bytes 0x20020002 (1 ∷ 2 ∷ 3 ∷ 4 ∷ [])
         ∷ [])) 0x01000002 0x01000002 (0 ∷ 2 ∷ 0 ∷ 2 ∷ []) ≡ Err 0x149 }
 {}
 
-// An object whose auth value is 5, by its userWithAuth, and what stands for which handle.
-fn operands_stand_for_handles()
+// What authorizes the use of an object, whose auth value is 5, by its userWithAuth, of a PCR, of an
+// index and of the owner.
+fn entities_have_auth_values()
     ensures user_with_auth { entity_of (with_indexes []) (an_object (key_with 0x00040072))
         ≡ record { auth = 5 ∷ []; user_with_auth = true; is_object = true; policy = 6 ∷ [] } }
     ensures by_policy { entity_of (with_indexes []) (an_object (key_with 0x00040032))
@@ -146,21 +176,29 @@ fn operands_stand_for_handles()
         ≡ record { auth = 1 ∷ []; user_with_auth = true; is_object = false; policy = [] } }
     ensures owner { entity_of (record (with_indexes []) { owner_auth = 1 ∷ [] }) (plain RH_OWNER)
         ≡ record { auth = 1 ∷ []; user_with_auth = true; is_object = false; policy = [] } }
+{}
+
+// What stands for which handle: the handle itself, or nothing where there is none.
+fn operands_stand_for_handles()
     ensures index { is_operand Nv 0x01000001 (plain 0x01000001) ≡ true }
     ensures another_index { is_operand Nv 0x01000001 (plain 0x01000002) ≡ false }
     ensures none { is_operand Absent 0 absent ≡ true }
     ensures one_too_many { is_operand Absent 0 (plain 0) ≡ false }
     ensures one_too_few { is_operand Pcr 7 absent ≡ false }
+    ensures plain { plain_operands (record (random_shape 0x8001) {
+      row = command_row CC_PCR_EXTEND Pcr Absent 1 false;
+      handles = 7 ∷ 0 ∷ [];
+    }) ≡ record { handles = plain 7 ∷ absent ∷ []; session = None } }
+{}
+
+// An object stands for the handle of an object, and a session for its own.
+fn objects_and_sessions_stand_for_handles()
     ensures key { is_operand Entity 0x80000000 (an_object (key_with 0x00040072)) ≡ true }
     ensures session { is_operand Policy 0x03000001 (a_session 0x03000001 policy_session) ≡ true }
     ensures another_session { is_operand Policy 0x03000001 (a_session 0x03000002 policy_session)
         ≡ false }
     ensures no_session { is_operand Pcr 7 (a_session 7 policy_session) ≡ false }
     ensures no_key { is_operand Entity RH_OWNER (an_object (key_with 0x00040072)) ≡ false }
-    ensures plain { plain_operands (record (random_shape 0x8001) {
-      row = command_row CC_PCR_EXTEND Pcr Absent 1 false;
-      handles = 7 ∷ 0 ∷ [];
-    }) ≡ record { handles = plain 7 ∷ absent ∷ []; session = None } }
 {}
 
 // The key of a device whose seed is zero. What is expected was computed by another program.
@@ -226,7 +264,10 @@ fn primaries_follow_from_the_seed()
         ≡ Err 0x4da }
 {}
 
-fn children_are_sealed_and_loaded()
+// Sealed bytes and a key under a storage parent, by the hashes of what is told. The seed of each
+// and the secret of a key are drawn.
+#[tactic(auto, unfolding(crate::proofs::Computing::hashed))]
+fn children_are_created()
     ensures sealed { hashed
         (create_row (with_indexes []) storage_primary (template (0 ∷ 1 ∷ 5 ∷ 0 ∷ 3 ∷ 1 ∷ 2 ∷ 3 ∷ [])
         (sealed_bytes []) (9 ∷ []) (u32 1 ++ 0 ∷ 0x0b ∷ 3 ∷ 0x80 ∷ 0 ∷ 0 ∷ [])))
@@ -251,6 +292,11 @@ fn children_are_sealed_and_loaded()
     ensures no_secret_is_left { create_row (record (with_indexes []) { place = 2 ^ 62 - 8 })
         storage_primary (template no_secret hmac_key [] no_pcrs)
         ≡ Err 0x101 }
+{}
+
+// Sealed bytes are loaded under their parent alone, with their own public area.
+#[tactic(auto, unfolding(crate::proofs::Computing::hashed))]
+fn children_are_loaded()
     ensures loaded { load_row storage_primary
         (sized_bytes sealed_private ++ sized_bytes (public_bytes sealed.public))
         ≡ Ok (sealed, sized_bytes (object_name sealed.public)) }
@@ -263,11 +309,18 @@ fn children_are_sealed_and_loaded()
     ensures load_under_a_key { load_row (key_with 0x00040072) [] ≡ Err 0x18a }
 {}
 
-fn objects_give_what_they_hold()
+// Sealed bytes are given. A parent and a key hold none.
+#[tactic(auto, unfolding(crate::proofs::Computing::hashed))]
+fn sealed_bytes_are_unsealed()
     ensures unsealed { unseal_row sealed [] ≡ Ok (0 ∷ 3 ∷ 1 ∷ 2 ∷ 3 ∷ []) }
     ensures one_byte_over { unseal_row sealed (0 ∷ []) ≡ Err 0x95 }
     ensures parent { unseal_row storage_primary (0 ∷ []) ≡ Err 0x18a }
     ensures key { unseal_row (key_with 0x00040072) (0 ∷ []) ≡ Err 0x182 }
+{}
+
+// A key gives the HMAC of a message, by SHA-256 alone.
+#[tactic(auto, unfolding(crate::proofs::Computing::hashed))]
+fn keys_make_hmacs()
     ensures mac { hmac_row (record (key_with 0x00040072) {
       secret = 0xda ∷ 0x41 ∷ 0x59 ∷ 0x7c ∷ 0x51 ∷ 0x57 ∷ 0x48 ∷ 0x8d ∷ 0x77 ∷ 0x24 ∷ 0xe0 ∷ 0x3f
           ∷ 0xb8 ∷ 0xd8 ∷ 0x4a ∷ 0x37 ∷ 0x6a ∷ 0x43 ∷ 0xb8 ∷ 0xf4 ∷ 0x15 ∷ 0x18 ∷ 0xa1 ∷ 0x1c ∷ 0xc3
@@ -279,13 +332,18 @@ fn objects_give_what_they_hold()
     ensures another_hash { hmac_row (key_with 0x00040072) (0 ∷ 0 ∷ 0 ∷ 0x0c ∷ []) ≡ Err 0x2c4 }
     ensures with_a_parent { hmac_row storage_primary [] ≡ Err 0x18a }
     ensures with_sealed_bytes { hmac_row sealed [] ≡ Err 0x19c }
+{}
+
+// The public area of an object, its Name and its qualified name.
+#[tactic(auto, unfolding(crate::proofs::Computing::hashed))]
+fn objects_have_names()
     ensures public { read_public_row sealed []
         ≡ Ok (sized_bytes (public_bytes sealed.public) ++ sized_bytes (object_name sealed.public)
         ++ sized_bytes sealed.qualified_name) }
 {}
 
-// The contexts of sealed bytes, by their hashes, and what opens as them: no other bytes do, and on
-// no other device.
+// The contexts of sealed bytes, by their hashes and lengths.
+#[tactic(auto, unfolding(crate::proofs::Computing::hashed))]
 fn contexts_are_told()
     ensures first { sha256 (object_context (replicate 32 0) 0 sealed)
         ≡ 0x7e ∷ 0xb2 ∷ 0x4b ∷ 0x0e ∷ 0xa3 ∷ 0x58 ∷ 0x85 ∷ 0x94 ∷ 0x30 ∷ 0x85 ∷ 0x60 ∷ 0x16 ∷ 0x51
@@ -297,6 +355,11 @@ fn contexts_are_told()
         ∷ 0x33 ∷ 0xbc ∷ 0x57 ∷ 0xd4 ∷ 0xff ∷ 0x84 ∷ [] }
     ensures bytes { length (object_context (replicate 32 0) 0 sealed) ≡ 178 }
     ensures as_many { length (object_context (replicate 32 0) 1 sealed) ≡ 178 }
+{}
+
+// What opens as the sealed bytes: no other bytes than their context do, and on no other device.
+#[tactic(auto, unfolding(crate::proofs::Computing::hashed))]
+fn contexts_are_opened()
     ensures opened { opened_object (replicate 32 0) (sealed_context 1 (0xdb ∷ [])) ≡ Some sealed }
     ensures flipped { opened_object (replicate 32 0) (sealed_context 1 (0xda ∷ [])) ≡ None }
     ensures one_byte_over { opened_object (replicate 32 0) (sealed_context 1 (0xdb ∷ 0 ∷ []))

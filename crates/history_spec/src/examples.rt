@@ -23,20 +23,29 @@ fn a_history_has_entries_and_bytes()
     ensures kept { kept two_clients ≡ 538 }
 {}
 
-// Only a command without an entry is told that memory lacked, and that only where it makes an
-// object, or the journal's room: that was told after the history up to the client's next entry.
+// A client is told the replies of its entries, in their order.
 fn a_client_is_told_its_entry()
     ensures entry { Told two_clients (limit_of 538) 0 2 (get_random 4) four_reply }
-    ensures no_entry { Told two_clients (limit_of 538) 0 3 load_object memory_reply }
-    ensures makes_none { Told two_clients (limit_of 538) 0 3 (get_random 4) memory_reply → ⊥ }
     ensures other { Told two_clients (limit_of 538) 0 2 (get_random 4) memory_reply → ⊥ }
     ensures in_order { Answers two_clients (limit_of 538) 0 (get_random 8 ∷ get_random 4 ∷ [])
         (eight_reply ++ four_reply) }
-    ensures full { Told two_clients (limit_of 4709) 0 3 (get_random 4) full_reply }
-    ensures not_full { Told two_clients (limit_of 4710) 0 3 (get_random 4) full_reply → ⊥ }
+{}
+
+// Only a command without an entry is told that memory lacked, and that only where it makes an
+// object.
+fn memory_lacks_for_objects_alone()
+    ensures no_entry { Told two_clients (limit_of 538) 0 3 load_object memory_reply }
+    ensures makes_none { Told two_clients (limit_of 538) 0 3 (get_random 4) memory_reply → ⊥ }
     // A context with the handle 0x80000002 makes an object on other TPMs alone.
     ensures no_object { Told two_clients (limit_of 538) 0 3 load_st_clear memory_reply → ⊥ }
     ensures tpm { Told two_clients (tpm_limit_of 538) 0 3 load_st_clear memory_reply }
+{}
+
+// Only a command without an entry is told that the journal lacks room: that was told after the
+// history up to the client's next entry.
+fn a_journal_is_told_to_be_full()
+    ensures full { Told two_clients (limit_of 4709) 0 3 (get_random 4) full_reply }
+    ensures not_full { Told two_clients (limit_of 4710) 0 3 (get_random 4) full_reply → ⊥ }
     ensures full_before { part_before 0 1 two_clients ≡ take 4 two_clients }
 {}
 

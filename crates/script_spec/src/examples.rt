@@ -17,7 +17,9 @@ fn lines_are_items()
     ensures items { (script (codes
         "0 80010000000c0000017b0008\n7 80010000000C0000017B0006\n0 80010000000c0000017b0004")).items
         ≡ piece 0 (get_random 8) ∷ piece 7 (get_random 6) ∷ piece 0 (get_random 4) ∷ [] }
-    ensures ending { (script (codes "0 80010000000c0000017b0008\n7 80010000000C0000017B0006\n0 80010000000c0000017b0004")).ending ≡ end }
+    ensures ending { (script (codes
+        "0 80010000000c0000017b0008\n7 80010000000C0000017B0006\n0 80010000000c0000017b0004"
+        )).ending ≡ end }
     ensures close { (script (codes "0 8001\n0 close\n")).items
         ≡ piece 0 (0x80 ∷ 0x01 ∷ []) ∷ close 0 ∷ [] }
 {}
@@ -70,15 +72,27 @@ fn bad_sizes_and_closes_end_labels()
         ≡ opening 7 ∷ command 7 1 (get_random 6) None ∷ closing 7 ∷ [] }
 {}
 
+// A script ends at its first bad line.
+#[tactic(auto, unfolding(crate::proofs::Computing::lines))]
 fn bad_lines_end_a_script()
     ensures second { (script (codes "0 80010000000c0000017b0008\n0 8\n")).ending ≡ bad_line 2 }
     ensures empty { (script (codes "\n")).ending ≡ bad_line 1 }
+{}
+
+// A label is a number below 2^32 without needless zeros, and one space follows.
+#[tactic(auto, unfolding(crate::proofs::Computing::lines))]
+fn labels_are_numbers()
     ensures two_spaces { item_of (codes "0  80010000000a0000017b") ≡ None }
     ensures no_label { item_of (codes "x 80010000000a0000017b") ≡ None }
     ensures needless_zero { item_of (codes "00 80010000000a0000017b") ≡ None }
     ensures too_large { item_of (codes "4294967296 80010000000a0000017b") ≡ None }
     ensures largest { item_of (codes "4294967295 80010000000c0000017b0008")
         ≡ Some (piece 4294967295 (get_random 8)) }
+{}
+
+// Behind the label stands a close, or bytes.
+#[tactic(auto, unfolding(crate::proofs::Computing::lines))]
+fn labels_have_bytes_or_a_close()
     ensures closes { item_of (codes "0 close") ≡ Some (close 0) }
     ensures another_close { item_of (codes "0 closed") ≡ None }
     ensures no_digits { item_of (codes "0 ") ≡ None }
@@ -93,7 +107,8 @@ fn a_history_and_lines_play_calls()
     ensures whole { Plays two_clients (limit_of 4618) two_labels
         (codes "0 80010000001400000000000876b8e0ada0f13d90\n7 800100000012000000000006405d6ae55386\n0 800100000010000000000004bdd219b8\n") }
     ensures short { Plays two_clients (limit_of 4618) two_labels
-        (codes "0 80010000001400000000000876b8e0ada0f13d90\n7 800100000012000000000006405d6ae55386\n")
+        (codes
+        "0 80010000001400000000000876b8e0ada0f13d90\n7 800100000012000000000006405d6ae55386\n")
         → ⊥ }
 {}
 

@@ -69,7 +69,7 @@ fn keyed_hashes_are_the_standards()
         ∷ 0xb4 ∷ 0x10 ∷ 0xff ∷ 0x61 ∷ 0xf2 ∷ 0x00 ∷ 0x15 ∷ 0xad ∷ [] }
 {}
 
-// The public areas of an HMAC key and of a storage parent, and what refuses others.
+// The public areas of an HMAC key and of a storage parent.
 fn public_areas_are_read()
     ensures key { public_of (public_bytes hmac_key ++ 7 ∷ []) ≡ Ok (hmac_key, 7 ∷ []) }
     ensures key_bytes { public_bytes hmac_key
@@ -78,6 +78,10 @@ fn public_areas_are_read()
         ≡ 0 ∷ 0x25 ∷ 0 ∷ 0x0b ∷ 0 ∷ 3 ∷ 0 ∷ 0x72 ∷ 0 ∷ 0 ∷ 0 ∷ 6 ∷ 0 ∷ 0x80 ∷ 0 ∷ 0x43 ∷ 0 ∷ 0
         ∷ [] }
     ensures parent { public_of (public_bytes storage_parent) ≡ Ok (storage_parent, []) }
+{}
+
+// What refuses other public areas.
+fn public_areas_are_refused()
     ensures of_rsa { public_of (0 ∷ 1 ∷ []) ≡ Err 0x8a }
     ensures of_sha1 { public_of (0 ∷ 8 ∷ 0 ∷ 4 ∷ []) ≡ Err 0x83 }
     ensures cut { public_of (0 ∷ 8 ∷ 0 ∷ 0x0b ∷ 0 ∷ 4 ∷ 0 ∷ []) ≡ Err 0x95 }
@@ -102,6 +106,10 @@ fn attributes_are_told_bit_by_bit()
         ≡ 18 ∷ [] }
     ensures less { filter (λ n. fits_form 0x25 (0x00030032 - 2 ^ n)) (1 ∷ 4 ∷ 5 ∷ 16 ∷ 17 ∷ [])
         ≡ [] }
+{}
+
+// Each bit of an index's attributes by itself, and beside one that lets it be read or written.
+fn nv_attributes_are_told_bit_by_bit()
     ensures nv_known { filter (λ n. has_known_nv_bits (2 ^ n)) (range_with_len 0 32)
         ≡ 1 ∷ 2 ∷ 4 ∷ 5 ∷ 6 ∷ 7 ∷ 17 ∷ 18 ∷ 25 ∷ 29 ∷ [] }
     ensures nv_writers { filter (λ n. are_nv_attributes (0x00020000 + 2 ^ n)) (range_with_len 0 16)
@@ -123,10 +131,18 @@ fn fields_have_their_limits()
     ensures auth { sensitive_of (0 ∷ 32 ∷ replicate 32 1 ++ 0 ∷ 0 ∷ [])
         ≡ Ok (record { auth = replicate 32 1; content = [] }, []) }
     ensures long_auth { sensitive_of (0 ∷ 33 ∷ replicate 33 1 ++ 0 ∷ 0 ∷ []) ≡ Err 0x95 }
-    ensures index { is_nv_size 0x02 2048 ≡ true }
-    ensures long_index { is_nv_size 0x02 2049 ≡ false }
     ensures policies { map (λ size. is_policy (replicate size 7)) (0 ∷ 1 ∷ 31 ∷ 32 ∷ 33 ∷ [])
         ≡ true ∷ false ∷ false ∷ true ∷ false ∷ [] }
+{}
+
+// An index has at most 2,048 bytes.
+fn indexes_have_a_size()
+    ensures index { is_nv_size 0x02 2048 ≡ true }
+    ensures long_index { is_nv_size 0x02 2049 ≡ false }
+{}
+
+// The last words of the random stream.
+fn words_have_a_last_place()
     ensures last_place { is_ok (drawn (record (fresh_persist []) { place = 2 ^ 62 - 2 }) 8) ≡ true }
     ensures past_it { drawn (record (fresh_persist []) { place = 2 ^ 62 - 1 }) 8 ≡ Err 0x101 }
 {}
@@ -176,8 +192,8 @@ fn the_commands_are_these()
         ∷ 0x17a ∷ 0x17b ∷ 0x17e ∷ 0x17f ∷ 0x180 ∷ 0x189 ∷ 0x18c ∷ [] }
 {}
 
-// A command's row, tag, handles and the place after them, or the first fault: each handle is whole
-// before any is of its kind.
+// A command's row, tag, handles and the place after them.
+#[tactic(auto, unfolding(crate::specs::Shape::shape_of))]
 fn shapes_are_told()
     ensures one_handle { shape_of (frame 0x8001 CC_READ_PUBLIC (u32 0x80000000)) ≡ Ok (record {
       row = command_row CC_READ_PUBLIC Object Absent 0 false;
@@ -194,12 +210,6 @@ fn shapes_are_told()
           count = 2;
           rest = 18;
         }) }
-    ensures cut_handle { shape_of (frame 0x8001 CC_READ_PUBLIC (0x80 ∷ 0 ∷ 0 ∷ [])) ≡ Err 0x19a }
-    ensures cut_second_handle { shape_of (frame 0x8002 CC_NV_READ (u32 7 ++ 0x01 ∷ 0 ∷ []))
-        ≡ Err 0x29a }
-    ensures no_index { shape_of (frame 0x8002 CC_NV_READ (u32 RH_OWNER ++ u32 RH_OWNER))
-        ≡ Err 0x284 }
-    ensures no_such_pcr { shape_of (frame 0x8002 CC_PCR_EXTEND (u32 24)) ≡ Err 0x184 }
     ensures last_pcr { shape_of (frame 0x8002 CC_PCR_EXTEND (u32 23)) ≡ Ok (record {
       row = command_row CC_PCR_EXTEND Pcr Absent 1 false;
       tag = 0x8002;
@@ -207,6 +217,17 @@ fn shapes_are_told()
       count = 1;
       rest = 14;
     }) }
+{}
+
+// The first fault of a command's code and handles: each handle is whole before any is of its kind.
+#[tactic(auto, unfolding(crate::specs::Shape::shape_of))]
+fn shapes_are_refused()
+    ensures cut_handle { shape_of (frame 0x8001 CC_READ_PUBLIC (0x80 ∷ 0 ∷ 0 ∷ [])) ≡ Err 0x19a }
+    ensures cut_second_handle { shape_of (frame 0x8002 CC_NV_READ (u32 7 ++ 0x01 ∷ 0 ∷ []))
+        ≡ Err 0x29a }
+    ensures no_index { shape_of (frame 0x8002 CC_NV_READ (u32 RH_OWNER ++ u32 RH_OWNER))
+        ≡ Err 0x284 }
+    ensures no_such_pcr { shape_of (frame 0x8002 CC_PCR_EXTEND (u32 24)) ≡ Err 0x184 }
     ensures persistent_object { shape_of (frame 0x8001 CC_CONTEXT_SAVE (u32 0x81000000))
         ≡ Err 0x18b }
     ensures persistent_entity { shape_of
@@ -218,7 +239,8 @@ fn shapes_are_told()
     ensures later_command { shape_of (frame 0x8001 0x15b []) ≡ Err 0x143 }
 {}
 
-// The places of the authorizations, and what cuts or overfills an area.
+// The places of the authorizations.
+#[tactic(auto, unfolding(crate::specs::Auths::auths_of, crate::specs::Auths::auths_from))]
 fn areas_are_told()
     ensures one { auths_of (frame 0x8002 CC_GET_RANDOM (area (plain_auth RS_PW) ++ 0 ∷ 8 ∷ []))
         (random_shape 0x8002)
@@ -237,6 +259,16 @@ fn areas_are_told()
               ∷ no_auth ∷ no_auth ∷ [];
           params = 26;
         }) }
+    ensures largest_nonce { is_ok (auths_of (frame 0x8002 CC_GET_RANDOM
+        (area (u32 RS_PW ++ 0 ∷ 64 ∷ replicate 64 1 ++ 0 ∷ 0 ∷ 0 ∷ []))) (random_shape 0x8002))
+        ≡ true }
+    ensures none { auths_of (frame 0x8001 CC_GET_RANDOM (0 ∷ 8 ∷ [])) (random_shape 0x8001)
+        ≡ Ok (record { count = 0; auths = no_auth ∷ no_auth ∷ no_auth ∷ []; params = 10 }) }
+{}
+
+// What cuts or overfills an area, and what needs one.
+#[tactic(auto, unfolding(crate::specs::Auths::auths_of, crate::specs::Auths::auths_from))]
+fn areas_are_refused()
     ensures four { auths_of (frame 0x8002 CC_GET_RANDOM
         (area (plain_auth RS_PW ++ plain_auth RS_PW ++ plain_auth RS_PW ++ plain_auth RS_PW)))
         (random_shape 0x8002)
@@ -250,14 +282,9 @@ fn areas_are_told()
     ensures past_the_end { auths_of (frame 0x8002 CC_GET_RANDOM (u32 10 ++ plain_auth RS_PW))
         (random_shape 0x8002)
         ≡ Err 0x144 }
-    ensures largest_nonce { is_ok (auths_of (frame 0x8002 CC_GET_RANDOM
-        (area (u32 RS_PW ++ 0 ∷ 64 ∷ replicate 64 1 ++ 0 ∷ 0 ∷ 0 ∷ []))) (random_shape 0x8002))
-        ≡ true }
     ensures larger_nonce { auths_of (frame 0x8002 CC_GET_RANDOM
         (area (u32 RS_PW ++ 0 ∷ 65 ∷ replicate 65 1 ++ 0 ∷ 0 ∷ 0 ∷ []))) (random_shape 0x8002)
         ≡ Err 0x144 }
-    ensures none { auths_of (frame 0x8001 CC_GET_RANDOM (0 ∷ 8 ∷ [])) (random_shape 0x8001)
-        ≡ Ok (record { count = 0; auths = no_auth ∷ no_auth ∷ no_auth ∷ []; params = 10 }) }
     ensures missing { auths_of (frame 0x8001 CC_PCR_EXTEND (u32 7)) (record {
       row = command_row CC_PCR_EXTEND Pcr Absent 1 false;
       tag = 0x8001;
@@ -267,8 +294,10 @@ fn areas_are_told()
     }) ≡ Err 0x125 }
 {}
 
-// Over tables with the object 80000000 and the policy session 03000001 in use, which are full.
-fn commands_are_admitted_in_order()
+// Over full tables with the object 80000000 and the policy session 03000001 in use: what a
+// command's handles name has to be there, and an object that it makes needs room.
+#[tactic(auto, unfolding(crate::proofs::Computing::admission))]
+fn handles_are_admitted_in_order()
     ensures missing_object { admitted row_of full_tables
         (frame 0x8001 CC_READ_PUBLIC (u32 0x80000001))
         ≡ Err 0x910 }
@@ -278,6 +307,15 @@ fn commands_are_admitted_in_order()
     ensures saved_session { admitted row_of full_tables
         (frame 0x8001 CC_POLICY_GET_DIGEST (u32 0x03000000))
         ≡ Err 0x910 }
+    ensures no_room { admitted row_of full_tables
+        (frame 0x8002 CC_CREATE_PRIMARY (u32 RH_OWNER ++ area (plain_auth RS_PW)))
+        ≡ Err 0x902 }
+{}
+
+// Over the same tables: an authorization is by the password or by a session in use, once, and for a
+// handle that needs one.
+#[tactic(auto, unfolding(crate::proofs::Computing::admission))]
+fn authorizations_are_admitted_in_order()
     ensures no_session { admitted row_of full_tables
         (frame 0x8002 CC_UNSEAL (u32 0x80000000 ++ area (plain_auth RH_OWNER)))
         ≡ Err 0x984 }
@@ -296,9 +334,6 @@ fn commands_are_admitted_in_order()
     ensures for_no_handle { admitted row_of full_tables
         (frame 0x8002 CC_GET_RANDOM (area (plain_auth RS_PW) ++ 0 ∷ 8 ∷ []))
         ≡ Err 0x982 }
-    ensures no_room { admitted row_of full_tables
-        (frame 0x8002 CC_CREATE_PRIMARY (u32 RH_OWNER ++ area (plain_auth RS_PW)))
-        ≡ Err 0x902 }
     ensures passes { is_ok (admitted row_of full_tables
         (frame 0x8002 CC_UNSEAL (u32 0x80000000 ++ area (plain_auth 0x03000001))))
         ≡ true }
@@ -385,6 +420,11 @@ fn sessions_are_told()
     ensures hmac_bytes { session_bytes
         (record policy_session { kind = Hmac; nonce = replicate 16 1 })
         ≡ 0 ∷ 0 ∷ 16 ∷ replicate 16 1 ++ replicate 41 0 }
+{}
+
+// Bytes of another kind, with a nonce of another size, with other flags, with a count that isn't
+// kept, and too few.
+fn bytes_of_no_session_are_refused()
     ensures kind_2 { session_of (2 ∷ 0 ∷ 16 ∷ replicate 16 1 ++ replicate 41 0) ≡ Err 0x95 }
     ensures nonce_of_15 { session_of (0 ∷ 0 ∷ 15 ∷ replicate 15 1 ++ replicate 41 0) ≡ Err 0x95 }
     ensures nonce_of_33 { session_of (0 ∷ 0 ∷ 33 ∷ replicate 33 1 ++ replicate 41 0) ≡ Err 0x95 }

@@ -69,7 +69,7 @@ fn clients_share_the_pcrs()
 {}
 
 // Each client's handle is of its own table.
-#[tactic(auto, unfolding(tab_spec::specs::Auths::auths_of, tab_spec::specs::Admission::admitted, effect_spec::specs::Effect::effect_of, crate::specs::World::client_step))]
+#[tactic(auto, unfolding(crate::proofs::Computing::steps))]
 fn clients_have_tables_of_their_own()
     ensures key { tells_public a_key
         (step_of (Some a_key ∷ Some sealed ∷ []) (read_public 0x80000000))
@@ -88,7 +88,7 @@ fn clients_have_tables_of_their_own()
 {}
 
 // Two clients have one handle for two objects, and what one of them flushes the other keeps.
-#[tactic(auto, unfolding(tab_spec::specs::Auths::auths_of, tab_spec::specs::Admission::admitted, effect_spec::specs::Effect::effect_of, crate::specs::World::client_step, crate::specs::World::plain_step))]
+#[tactic(auto, unfolding(crate::proofs::Computing::steps))]
 fn one_handle_is_two_objects()
     ensures first { world_tells a_key (plain_step two_tables 0 (read_public 0x80000000) Nothing)
         ≡ true }
@@ -103,7 +103,7 @@ fn one_handle_is_two_objects()
 {}
 
 // FlushContext takes an object out of the table, and refuses what isn't there.
-#[tactic(auto, unfolding(tab_spec::specs::Auths::auths_of, tab_spec::specs::Admission::admitted, crate::specs::World::client_step))]
+#[tactic(auto, unfolding(crate::proofs::Computing::steps))]
 fn objects_are_flushed()
     ensures flushed { step_of three_places (flush 0x80000002)
         ≡ left_with
@@ -136,7 +136,7 @@ fn numbers_are_given_again()
 {}
 
 // A client has 4,096 objects at most, and another one is refused.
-#[tactic(auto, unfolding(tab_spec::specs::Auths::auths_of, tab_spec::specs::Auths::auths_from, tab_spec::specs::Admission::admitted, crate::specs::World::client_step))]
+#[tactic(auto, unfolding(crate::proofs::Computing::steps))]
 fn clients_have_a_limit()
     ensures refused { step_of (many_objects 4096) create_key
         ≡ left_with (many_objects 4096) (refusal 0x09 0x02) }

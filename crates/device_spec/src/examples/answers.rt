@@ -17,8 +17,8 @@ ghost use Rattle.device_spec.specs.Examples.{primary_asked, primary_params, prim
 ghost use Rattle.device_spec.specs.Examples.{password_response_auth, codes_taken, handles_taken};
 ghost use Rattle.device_spec.specs.Examples.{lists_taken, starts_taken, saves};
 
-// A response is one frame of 10 to 4,096 bytes. A success has the tag of the command.
-fn frames_are_taken()
+// A success has the tag of the command.
+fn successes_have_the_commands_tag()
     ensures success { takes PROFILE_CONTEXTS true true (get_random 0 4)
         (frame 0x8001 0 (0 ∷ 4 ∷ 0x76 ∷ 0xb8 ∷ 0xe0 ∷ 0xad ∷ []))
         ≡ true }
@@ -29,6 +29,10 @@ fn frames_are_taken()
         ≡ false }
     ensures plain_tag { takes PROFILE_CONTEXTS false false (frame 0x8002 CC_GET_RANDOM [])
         (frame 0x8001 0 []) ≡ false }
+{}
+
+// A response is one frame of 10 to 4,096 bytes, as long as it says.
+fn responses_are_one_frame()
     ensures shortest { takes PROFILE_CONTEXTS true true (frame 0x8001 CC_SELF_TEST (1 ∷ []))
         (refusal 0 0) ≡ true }
     ensures nine_bytes { takes PROFILE_CONTEXTS false false
@@ -44,9 +48,8 @@ fn frames_are_taken()
         ≡ false }
 {}
 
-// CreatePrimary has the handle of an object, and one authorization that fills the response after
-// the parameters.
-fn objects_and_authorizations_are_whole()
+// CreatePrimary has the handle of an object.
+fn new_objects_have_their_handles()
     ensures bytes { primary_reply 0x80000000 217 password_response_auth
         ≡ bytes_of 18 0x8002000000f00000000080000000000000d9 ++ primary_params
         ++ bytes_of 5 0x10000 }
@@ -62,17 +65,17 @@ fn objects_and_authorizations_are_whole()
     ensures persistent { takes PROFILE_CONTEXTS false false primary_asked
         (primary_reply 0x81000000 217 password_response_auth)
         ≡ false }
-    ensures other_tag { takes PROFILE_CONTEXTS false false primary_asked
-        (frame 0x8001 0 (u32 0x80000000 ++ u32 217 ++ primary_params ++ password_response_auth))
-        ≡ false }
+{}
+
+// CreatePrimary's parameters are as long as its response says, and one authorization fills the
+// response after them.
+fn one_authorization_fills_the_response()
     ensures parameters_one_less { takes PROFILE_CONTEXTS false false primary_asked
         (primary_reply 0x80000000 216 password_response_auth)
         ≡ false }
     ensures parameters_one_more { takes PROFILE_CONTEXTS false false primary_asked
         (primary_reply 0x80000000 218 password_response_auth)
         ≡ false }
-    ensures no_authorization { takes PROFILE_CONTEXTS false false primary_asked
-        (primary_reply 0x80000000 217 []) ≡ false }
     ensures cut { takes PROFILE_CONTEXTS false false primary_asked
         (primary_reply 0x80000000 217 (0 ∷ 0 ∷ 1 ∷ 0 ∷ []))
         ≡ false }
@@ -85,6 +88,16 @@ fn objects_and_authorizations_are_whole()
     ensures two_authorizations { takes PROFILE_CONTEXTS false false primary_asked
         (primary_reply 0x80000000 217 (password_response_auth ++ password_response_auth))
         ≡ false }
+{}
+
+// The response to an authorized command has the tag of the command and an authorization, whether it
+// has a handle or none.
+fn no_authorization_is_left_out()
+    ensures other_tag { takes PROFILE_CONTEXTS false false primary_asked
+        (frame 0x8001 0 (u32 0x80000000 ++ u32 217 ++ primary_params ++ password_response_auth))
+        ≡ false }
+    ensures no_authorization { takes PROFILE_CONTEXTS false false primary_asked
+        (primary_reply 0x80000000 217 []) ≡ false }
     ensures without_a_handle { takes PROFILE_CONTEXTS true true
         (extend (plain_auth 0x40000009) (one_digest [])) extend_reply
         ≡ true }
@@ -118,9 +131,8 @@ fn loads_have_their_handles()
         ≡ None }
 {}
 
-// StartAuthSession has the handle of a session of its type, with a number below 64 that no client
-// has.
-fn starts_have_their_handles()
+// StartAuthSession has the handle of a session of its type, with a number below 64.
+fn starts_have_handles_of_their_type()
     ensures hmac { starts_taken 0 (0x02000000 ∷ 0x0200003f ∷ 0x02000040 ∷ 0x02000100 ∷ 0x02010000
         ∷ 0x03000000 ∷ 0x80000000 ∷ [])
         ≡ 0x02000000 ∷ 0x0200003f ∷ [] }
@@ -129,12 +141,6 @@ fn starts_have_their_handles()
     ensures trial { starts_taken 3 (0x02000001 ∷ 0x03000001 ∷ 0x0300003f ∷ 0x03000040 ∷ [])
         ≡ 0x03000001 ∷ 0x0300003f ∷ [] }
     ensures no_type { starts_taken 2 (0x02000000 ∷ 0x03000000 ∷ []) ≡ [] }
-    ensures taken_number { takes PROFILE_CONTEXTS false true (start_session 0)
-        (start_reply 0x02000000 next_32) ≡ false }
-    ensures free_number { takes PROFILE_CONTEXTS true false (start_session 0)
-        (start_reply 0x02000000 next_32) ≡ true }
-    ensures maybe_taken { wrong PROFILE_CONTEXTS (start_session 0) (Some (start_reply 0x02000000
-        next_32)) ≡ true }
     ensures cut_before_the_type { takes PROFILE_CONTEXTS false false (take 54 (start_session 0))
         (start_reply 0x02000000 next_32)
         ≡ false }
@@ -143,9 +149,19 @@ fn starts_have_their_handles()
         ≡ true }
 {}
 
-// ContextSave has one whole context of the handle: of an object as 0x80000000 in at most 512 bytes,
-// of a session under its own handle in at most 256.
-fn saves_have_their_contexts()
+// The number of a session that starts is one that no client has.
+fn starts_have_numbers_of_nobody()
+    ensures taken_number { takes PROFILE_CONTEXTS false true (start_session 0)
+        (start_reply 0x02000000 next_32) ≡ false }
+    ensures free_number { takes PROFILE_CONTEXTS true false (start_session 0)
+        (start_reply 0x02000000 next_32) ≡ true }
+    ensures maybe_taken { wrong PROFILE_CONTEXTS (start_session 0) (Some (start_reply 0x02000000
+        next_32)) ≡ true }
+{}
+
+// ContextSave has a context of what it names: of an object as 0x80000000, of a session under its
+// own handle.
+fn saves_have_contexts_of_their_handles()
     ensures object { saves PROFILE_CONTEXTS 0x80000001 (sealed_context 1 (0xdb ∷ [])) ≡ true }
     ensures object_of_a_session { saves PROFILE_CONTEXTS 0x80000000 (first_context 0xca) ≡ false }
     ensures slot_handle { saves PROFILE_CONTEXTS 0x80000001 (context_with 0x80000001 0) ≡ false }
@@ -154,6 +170,10 @@ fn saves_have_their_contexts()
     ensures other_octet { saves PROFILE_CONTEXTS 0x03000000 (first_context 0xca) ≡ false }
     ensures session_of_an_object { saves PROFILE_CONTEXTS 0x02000000 (sealed_context 1 (0xdb ∷ []))
         ≡ false }
+{}
+
+// The context of an object has at most 512 bytes, and that of a session at most 256.
+fn saved_contexts_have_limits()
     ensures lengths { length (context_with 0x80000000 494) ≡ 512 }
     ensures longest_object { saves PROFILE_CONTEXTS 0x80000000 (context_with 0x80000000 494)
         ≡ true }
@@ -164,6 +184,10 @@ fn saves_have_their_contexts()
     ensures longer_session { saves PROFILE_CONTEXTS 0x03000007 (context_with 0x03000007 239)
         ≡ false }
     ensures shortest { saves PROFILE_CONTEXTS 0x03000007 (context_with 0x03000007 0) ≡ true }
+{}
+
+// ContextSave has one whole context, with no byte behind it, and no error in its place.
+fn saves_have_one_whole_context()
     ensures a_byte_over { saves PROFILE_CONTEXTS 0x02000000 (first_context 0xca ++ 0 ∷ []) ≡ false }
     ensures a_byte_cut { saves PROFILE_CONTEXTS 0x02000000 (take 127 (first_context 0xca)) ≡ false }
     ensures no_context { saves PROFILE_CONTEXTS 0x02000000 [] ≡ false }
@@ -171,9 +195,8 @@ fn saves_have_their_contexts()
         ≡ [] }
 {}
 
-// Of a TPM that isn't the profile's an object is saved as 0x80000002 too, in at most 2,048 bytes,
-// and a session in at most 1,024.
-fn other_tpms_have_larger_contexts()
+// A TPM that isn't the profile's saves an object as 0x80000002 too.
+fn other_tpms_save_under_more_handles()
     ensures object { saves TPM_CONTEXTS 0x80000001 (sealed_context 1 (0xdb ∷ [])) ≡ true }
     ensures st_clear { saves TPM_CONTEXTS 0x80000001 (context_with 0x80000002 0) ≡ true }
     ensures sequence_object { saves TPM_CONTEXTS 0x80000001 (context_with 0x80000001 0) ≡ false }
@@ -183,11 +206,21 @@ fn other_tpms_have_larger_contexts()
     ensures object_of_a_session { saves TPM_CONTEXTS 0x80000000 (first_context 0xca) ≡ false }
     ensures session_of_an_object { saves TPM_CONTEXTS 0x02000000 (context_with 0x80000002 0)
         ≡ false }
+{}
+
+// On a TPM that isn't the profile's the context of an object has at most 2,048 bytes, and that of a
+// session at most 1,024.
+fn other_tpms_have_larger_contexts()
     ensures lengths { length (context_with 0x80000002 2030) ≡ 2048 }
     ensures longest_object { saves TPM_CONTEXTS 0x80000000 (context_with 0x80000002 2030) ≡ true }
     ensures longer_object { saves TPM_CONTEXTS 0x80000000 (context_with 0x80000002 2031) ≡ false }
     ensures longest_session { saves TPM_CONTEXTS 0x03000007 (context_with 0x03000007 1006) ≡ true }
     ensures longer_session { saves TPM_CONTEXTS 0x03000007 (context_with 0x03000007 1007) ≡ false }
+{}
+
+// A TPM that isn't the profile's loads each context of an object that the broker keeps. What has
+// nothing to do with contexts is taken as of the profile.
+fn other_tpms_load_what_a_broker_keeps()
     ensures kept_object { takes TPM_CONTEXTS true true (load_context (context_with 0x80000002 0))
         (refusal 0x01 0xdf)
         ≡ false }
@@ -205,8 +238,8 @@ fn other_tpms_have_larger_contexts()
         ≡ true }
 {}
 
-// An error is ten bytes with the tag 0x8001, and has no code that a broker hides.
-fn errors_are_taken()
+// An error is ten bytes with the tag 0x8001, also of a command with authorizations.
+fn errors_are_ten_bytes()
     ensures taken { takes PROFILE_CONTEXTS true true (get_random 0 4) (refusal 0x01 0xda) ≡ true }
     ensures other_tag { takes PROFILE_CONTEXTS false false (get_random 0 4) (frame 0x8002 0x1da [])
         ≡ false }
@@ -218,6 +251,10 @@ fn errors_are_taken()
         ≡ true }
     ensures with_its_tag { takes PROFILE_CONTEXTS false false primary_asked (frame 0x8002 0x9a2 [])
         ≡ false }
+{}
+
+// An error has no code that a broker hides. Where no response came, none is wrong.
+fn errors_have_codes_for_clients()
     ensures usual { codes_taken false
         (get_random 0 4) (0x1e ∷ 0x101 ∷ 0x143 ∷ 0x2da ∷ 0x905 ∷ 0x921 ∷ 0x922 ∷ 0x98e ∷ [])
         ≡ 0x1e ∷ 0x101 ∷ 0x143 ∷ 0x2da ∷ 0x905 ∷ 0x921 ∷ 0x922 ∷ 0x98e ∷ [] }
@@ -259,11 +296,17 @@ fn own_commands_succeed()
 {}
 
 // What GetCapability asks of a client's tables is the broker's own.
-fn capabilities_have_errors()
+fn lists_of_tables_have_no_errors()
     ensures objects { codes_taken false (ask 1 0x80000000 1) (0x1c4 ∷ 0x101 ∷ []) ≡ [] }
     ensures loaded { codes_taken false (ask 1 0x02000000 1) (0x1c4 ∷ 0x101 ∷ []) ≡ [] }
     ensures saved { codes_taken false (ask 1 0x03000000 1) (0x1c4 ∷ 0x101 ∷ []) ≡ [] }
     ensures properties { codes_taken false (ask 6 0x100 1) (0x1c4 ∷ 0x101 ∷ []) ≡ [] }
+    ensures told { takes PROFILE_CONTEXTS true true (ask 1 0x80000000 1) (answer 0 1 (u32 0))
+        ≡ true }
+{}
+
+// What else GetCapability asks for may be refused, and so may a command that is cut.
+fn other_capabilities_have_errors()
     ensures indexes { codes_taken false (ask 1 0x01000000 1) (0x1c4 ∷ 0x101 ∷ 0x100 ∷ [])
         ≡ 0x1c4 ∷ 0x101 ∷ [] }
     ensures persistent { codes_taken false (ask 1 0x81000000 1) (0x1c4 ∷ 0x101 ∷ 0x100 ∷ [])
@@ -273,29 +316,28 @@ fn capabilities_have_errors()
     ensures pcrs { codes_taken false (ask 5 0 1) (0x1c4 ∷ 0x101 ∷ 0x100 ∷ []) ≡ 0x1c4 ∷ 0x101 ∷ [] }
     ensures cut { codes_taken false (take 17 (ask 1 0x80000000 1)) (0x2da ∷ 0x100 ∷ [])
         ≡ 0x2da ∷ [] }
-    ensures told { takes PROFILE_CONTEXTS true true (ask 1 0x80000000 1) (answer 0 1 (u32 0))
-        ≡ true }
 {}
 
-// A list of handles says that none is left over, counts them, and has no others behind them.
-// Objects stand in the list of objects, sessions of either type in the two others.
-fn handles_are_listed_whole()
+// Objects alone stand in the list of objects.
+fn objects_are_listed_by_themselves()
     ensures objects { lists_taken 0x80000000 (0x80000000 ∷ 0x80fffffe ∷ []) ≡ true }
+    ensures session_as_object { lists_taken 0x80000000 (0x80000000 ∷ 0x02000000 ∷ []) ≡ false }
+    ensures persistent { lists_taken 0x80000000 (0x81000000 ∷ []) ≡ false }
+{}
+
+// Sessions of either type, and nothing else, stand in the two lists of sessions.
+fn sessions_are_listed_by_themselves()
     ensures none { lists_taken 0x03000000 [] ≡ true }
     ensures loaded { lists_taken 0x02000000 (0x02000000 ∷ 0x0300003f ∷ []) ≡ true }
     ensures saved { lists_taken 0x03000000 (0x03000001 ∷ 0x02000040 ∷ []) ≡ true }
-    ensures session_as_object { lists_taken 0x80000000 (0x80000000 ∷ 0x02000000 ∷ []) ≡ false }
     ensures object_as_session { lists_taken 0x02000000 (0x80000000 ∷ []) ≡ false }
-    ensures persistent { lists_taken 0x80000000 (0x81000000 ∷ []) ≡ false }
     ensures persistent_as_session { lists_taken 0x02000000 (0x81000000 ∷ []) ≡ false }
     ensures object_as_saved { lists_taken 0x03000000 (0x80000000 ∷ []) ≡ false }
     ensures permanent_as_saved { lists_taken 0x03000000 (0x40000007 ∷ []) ≡ false }
-    ensures neither_yes_nor_no { takes PROFILE_CONTEXTS true true (ask 1 0x80000000 254) (answer 2 1
-        (u32 0)) ≡ false }
-    ensures more { takes PROFILE_CONTEXTS true true (ask 1 0x80000000 254) (answer 1 1 (u32 0))
-        ≡ false }
-    ensures other_capability { takes PROFILE_CONTEXTS true true (ask 1 0x80000000 254) (answer 0 6
-        (u32 0)) ≡ false }
+{}
+
+// A list of handles counts them, and has no others behind them.
+fn lists_of_handles_count_them()
     ensures one_too_few { takes PROFILE_CONTEXTS true true (ask 1 0x80000000 254) (answer 0 1
         (u32 1)) ≡ false }
     ensures one_too_many { takes PROFILE_CONTEXTS true true
@@ -307,6 +349,17 @@ fn handles_are_listed_whole()
         0 ∷ [])) ≡ false }
     ensures nothing { takes PROFILE_CONTEXTS true true (ask 1 0x80000000 254) (refusal 0 0)
         ≡ false }
+{}
+
+// A list of handles says that none is left over, whatever count was asked for. That of NV indexes
+// may say that some are.
+fn lists_of_handles_leave_none_over()
+    ensures neither_yes_nor_no { takes PROFILE_CONTEXTS true true (ask 1 0x80000000 254) (answer 2 1
+        (u32 0)) ≡ false }
+    ensures more { takes PROFILE_CONTEXTS true true (ask 1 0x80000000 254) (answer 1 1 (u32 0))
+        ≡ false }
+    ensures other_capability { takes PROFILE_CONTEXTS true true (ask 1 0x80000000 254) (answer 0 6
+        (u32 0)) ≡ false }
     ensures any_count { takes PROFILE_CONTEXTS true true (ask 1 0x03000000 1) (answer 1 1 (u32 1 ++
         u32 0x03000000)) ≡ false }
     ensures of_others { takes PROFILE_CONTEXTS true true (ask 1 0x01000000 1) (answer 1 1 (u32 9))

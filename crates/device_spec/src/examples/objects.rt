@@ -11,9 +11,8 @@ ghost use Rattle.device_spec.specs.Slots.{new_slots, context_load, context_save}
 ghost use Rattle.tab_spec.specs.Examples.{with_indexes, context_with, sealed};
 ghost use Rattle.device_spec.specs.Examples.{device_holding};
 
-// A blob of at most 2,048 bytes, and the parts of a context; the last number that a context has;
-// and the slots of a device.
-fn contexts_have_limits()
+// A blob of at most 2,048 bytes, and the parts of a context.
+fn loaded_contexts_have_limits()
     ensures cut { filter (λ size. is_ok (context_of (take size (context_with 0x80000000 2))))
         (range_with_len 0 21)
         ≡ 20 ∷ [] }
@@ -27,15 +26,23 @@ fn contexts_have_limits()
         ≡ Err 0x95 }
     ensures sequences { context_load (device_holding None None None 0) (context_with 0x80000001 0)
         ≡ Err 0x1c4 }
+{}
+
+// The last number that a context of an object has.
+fn contexts_have_a_last_number()
     ensures last_number { is_ok
         (context_save (device_holding (Some sealed) None None (2 ^ 62 - 1)) 0x80000000 [])
         ≡ true }
     ensures past_it { context_save (device_holding (Some sealed) None None (2 ^ 62)) 0x80000000 []
         ≡ Err 0x101 }
-    ensures slots { (new_slots profile_numbers (with_indexes [])).slots ≡ None ∷ None ∷ None ∷ [] }
     ensures a_byte_after { context_save (device_holding (Some sealed) None None (2 ^ 62)) 0x80000000
         (0 ∷ [])
         ≡ Err 0x95 }
+{}
+
+// The slots of the profile's device.
+fn slots_are_empty_at_first()
+    ensures slots { (new_slots profile_numbers (with_indexes [])).slots ≡ None ∷ None ∷ None ∷ [] }
 {}
 
 // The bytes of the commands by which a broker moves objects and sessions.

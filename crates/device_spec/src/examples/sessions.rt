@@ -33,7 +33,7 @@ ghost use Rattle.device_spec.specs.Examples.{left_behind, left_by, reading_devic
 ghost use Rattle.device_spec.specs.Examples.{unsealing_device};
 
 // A session gets the least unused number, and a nonceTPM from the random stream.
-#[tactic(auto, unfolding(tab_spec::specs::Auths::auths_of, tab_spec::specs::Auths::auths_from, effect_spec::specs::Effect::effect_of, crate::specs::Slots::slot_step, tab_spec::specs::Persist::stream_bytes, rand_core::specs::Steps::u32_at, rand_chacha::specs::Block::quarter_round, rand_chacha::specs::Block::column_round, rand_chacha::specs::Block::diagonal_round, rand_chacha::specs::Block::double_rounds, rand_chacha::specs::Block::block_word))]
+#[tactic(auto, unfolding(crate::proofs::Computing::steps, tab_spec::proofs::Computing::draws))]
 fn sessions_start()
     ensures hmac { slot_step (device_at 0) (start_session 0)
         ≡ (device_after 8 (first_in ∷ []) 0, start_reply 0x02000000 next_32) }
@@ -52,9 +52,7 @@ fn sessions_start()
         ≡ start_reply 0x0200003f next_32 }
 {}
 
-// At most 64 sessions are active and three are loaded. The numbers are looked at before the places,
-// and the parameters before both.
-#[tactic(auto, unfolding(tab_spec::specs::Auths::auths_of, tab_spec::specs::Auths::auths_from, effect_spec::specs::Effect::effect_of, crate::specs::Slots::slot_step))]
+// At most 64 sessions are active and three are loaded. The numbers are looked at before the places.
 fn sessions_have_room()
     ensures two_loaded { no_room 2 0 ≡ None }
     ensures three_loaded { no_room 3 0 ≡ Some 0x903 }
@@ -65,6 +63,11 @@ fn sessions_have_room()
     ensures neither { no_room 3 61 ≡ Some 0x905 }
     ensures another_command { room_for (crowded 3 61) CC_GET_RANDOM
         (start_parameter_bytes usual_start_parameters) ≡ None }
+{}
+
+// A session without a number or a place is refused, after its parameters.
+#[tactic(auto, unfolding(crate::proofs::Computing::steps))]
+fn starts_need_room()
     ensures no_number { slot_step (crowded 3 61) (start_session 0)
         ≡ (crowded 3 61, refusal 0x09 0x05) }
     ensures no_place { slot_step (crowded 3 60) (start_session 0)
@@ -117,19 +120,27 @@ fn sessions_are_counted()
     ensures none { held (device_at 0) ≡ 0 }
 {}
 
-// A handle names the loaded session with its number and its octet.
-fn sessions_are_named()
+// A handle names a loaded session by the octet of its type.
+fn sessions_are_named_by_their_octets()
     ensures hmac { named_on three_sessions 0x02000000 ≡ Some (0x02000000, first_session) }
     ensures policy { named_on three_sessions 0x03000001 ≡ Some (0x03000001, second_session) }
     ensures other_octet { named_on three_sessions 0x03000000 ≡ None }
-    ensures away { named_on three_sessions 0x03000002 ≡ None }
-    ensures nobodys { named_on three_sessions 0x02000003 ≡ None }
     ensures password { named_on three_sessions RS_PW ≡ None }
     ensures no_octet { named_on three_sessions 0x40000000 ≡ None }
+{}
+
+// A handle names a loaded session by its number, which is below 64 and takes the other three bytes.
+fn sessions_are_named_by_their_numbers()
+    ensures away { named_on three_sessions 0x03000002 ≡ None }
+    ensures nobodys { named_on three_sessions 0x02000003 ≡ None }
     ensures number_63 { named_on (last_place first_in) 0x0200003f
         ≡ Some (0x0200003f, first_session) }
     ensures number_64 { named_on (last_place first_in) 0x02000040 ≡ None }
     ensures all_three_bytes { named_on three_sessions 0x02010000 ≡ None }
+{}
+
+// What stands for a handle that may name a session, and for all of a command.
+fn sessions_are_operands()
     ensures operand { operand_on three_sessions Saved 0x02000000
         ≡ a_session 0x02000000 first_session }
     ensures operand_away { operand_on three_sessions Policy 0x03000002 ≡ plain 0x03000002 }
@@ -140,26 +151,40 @@ fn sessions_are_named()
     } }
 {}
 
-// A session isn't saved where the next number is 255 or more above the oldest, or 2^62.
-#[tactic(auto, unfolding(tab_spec::specs::Auths::auths_of, tab_spec::specs::Auths::auths_from, effect_spec::specs::Effect::effect_of, crate::specs::Slots::slot_step))]
-fn saves_have_limits()
+// How far the next number is above the oldest one that is saved.
+fn gaps_are_counted()
     ensures oldest { oldest_saved (saved_from_5 9).sessions ≡ Some 5 }
     ensures no_oldest { oldest_saved (crowded 3 0).sessions ≡ None }
     ensures gap { gap_of (saved_from_5 259) ≡ 254 }
     ensures no_gap { gap_of (device_in (many 3 0) 300) ≡ 0 }
+{}
+
+// A session isn't saved where the next number is 255 or more above the oldest.
+fn saves_have_a_gap()
     ensures near { is_ok (context_save (saved_from_5 259) 0x02000000 []) ≡ true }
     ensures far { context_save (saved_from_5 260) 0x02000000 [] ≡ Err 0x901 }
     ensures none_away { is_ok (context_save (device_in (many 3 0) 300) 0x02000000 []) ≡ true }
+    ensures a_byte_after { context_save (saved_from_5 260) 0x02000000 (0 ∷ []) ≡ Err 0x95 }
+{}
+
+// A session isn't saved where the next number is 2^62. Objects and sessions have numbers of their
+// own.
+fn saves_have_a_last_number()
     ensures last_number { is_ok (context_save (device_in (many 3 0) (2 ^ 62 - 1)) 0x02000000 [])
         ≡ true }
     ensures past_it { context_save (device_in (many 3 0) (2 ^ 62)) 0x02000000 [] ≡ Err 0x101 }
     ensures past_it_and_far { context_save (saved_from_5 (2 ^ 62)) 0x02000000 [] ≡ Err 0x101 }
-    ensures a_byte_after { context_save (saved_from_5 260) 0x02000000 (0 ∷ []) ≡ Err 0x95 }
     ensures objects_have_their_own { is_ok (context_save
         (record (device_holding (Some sealed) None None 0) { counter = 2 ^ 62 })
         0x80000000 []) ≡ true }
     ensures sessions_have_their_own { is_ok (context_save
         (record (crowded 1 0) { object_counter = 2 ^ 62 }) 0x02000000 []) ≡ true }
+{}
+
+// Whole commands that save no session: beyond the gap, and of one that is saved or has another
+// octet.
+#[tactic(auto, unfolding(crate::proofs::Computing::steps))]
+fn saves_are_refused()
     ensures refused { slot_step (saved_from_5 260) (save 0x02000000)
         ≡ (saved_from_5 260, refusal 0x09 0x01) }
     ensures away { slot_step three_sessions (save 0x03000002)
@@ -167,32 +192,40 @@ fn saves_have_limits()
     ensures other_octet { (slot_step three_sessions (save 0x03000000)).1 ≡ refusal 0x09 0x10 }
 {}
 
-// Only the last context of a saved session is loaded, under its own handle, where there is room.
-fn loads_have_limits()
+// A session that is loaded is in its place again, and the response tells its handle.
+fn loads_put_sessions_back()
     ensures last { load_under (device_in (saved 0x02 5 ∷ many 2 0) 6) 0x02000000 5
         ≡ Ok (device_in (many 3 0) 6, frame 0x8001 0 (u32 0x02000000)) }
-    ensures three_loaded { load_under (device_in (saved 0x02 5 ∷ many 3 0) 6) 0x02000000 5
-        ≡ Err 0x903 }
+    ensures number_63 { load_under (last_place (saved 0x02 5)) 0x0200003f 5
+        ≡ Ok (last_place (loaded 0x02 hmac_session), frame 0x8001 0 (u32 0x0200003f)) }
+    ensures policy { session_loaded (one_saved 0x03 5)
+        (context_under 0x03000000 5) (Some second_session)
+        ≡ Ok (device_in (second_in ∷ []) 6, frame 0x8001 0 (u32 0x03000000)) }
+{}
+
+// Only the last context of a saved session is loaded, and only under its own handle.
+fn last_contexts_are_loaded()
     ensures older { load_under (one_saved 0x02 5) 0x02000000 4 ≡ Err 0x1cb }
     ensures newer { load_under (one_saved 0x02 5) 0x02000000 6 ≡ Err 0x1cb }
     ensures other_octet { load_under (one_saved 0x02 5) 0x03000000 5 ≡ Err 0x1cb }
     ensures other_number { load_under (one_saved 0x02 5) 0x02000001 5 ≡ Err 0x1cb }
     ensures in_use { load_under (crowded 1 0) 0x02000000 0 ≡ Err 0x1cb }
+    ensures number_64 { load_under (last_place (saved 0x02 5)) 0x02000040 5 ≡ Err 0x1cb }
+{}
+
+// A session is loaded where there is room, which is looked at last.
+fn loads_need_room()
+    ensures three_loaded { load_under (device_in (saved 0x02 5 ∷ many 3 0) 6) 0x02000000 5
+        ≡ Err 0x903 }
     ensures older_and_no_room { load_under (device_in (saved 0x02 5 ∷ many 3 0) 6) 0x02000000 4
         ≡ Err 0x1cb }
-    ensures number_63 { load_under (last_place (saved 0x02 5)) 0x0200003f 5
-        ≡ Ok (last_place (loaded 0x02 hmac_session), frame 0x8001 0 (u32 0x0200003f)) }
-    ensures number_64 { load_under (last_place (saved 0x02 5)) 0x02000040 5 ≡ Err 0x1cb }
-    ensures policy { session_loaded (one_saved 0x03 5)
-        (context_under 0x03000000 5) (Some second_session)
-        ≡ Ok (device_in (second_in ∷ []) 6, frame 0x8001 0 (u32 0x03000000)) }
     ensures not_authentic { session_loaded (device_in (saved 0x02 5 ∷ many 3 0) 6)
         (context_under 0x02000000 4) None
         ≡ Err 0x1df }
 {}
 
 // Two sessions are saved, and one is loaded again, once.
-#[tactic(auto, unfolding(tab_spec::specs::Auths::auths_of, tab_spec::specs::Auths::auths_from, effect_spec::specs::Effect::effect_of, crate::specs::Slots::slot_step, sha2::specs::Sha256::first_words, sha2::specs::Sha256::schedule, sha2::specs::Sha256::rounds, sha2::specs::Sha256::compress, sha2::specs::Sha256::hash_after, sha2::specs::Sha256::digest_bytes, sha2::specs::Sha256::sha256, tab_spec::specs::Hash::kdfa_blocks, effect_spec::specs::Contexts::opened_session))]
+#[tactic(auto, unfolding(crate::proofs::Computing::steps, crate::proofs::Computing::contexts))]
 fn sessions_are_saved_and_loaded()
     ensures first { slot_step (device_in (first_in ∷ second_in ∷ []) 0) (save 0x02000000)
         ≡ (device_in (saved 0x02 0 ∷ second_in ∷ []) 1, frame 0x8001 0 (first_context 0xca)) }
@@ -207,12 +240,18 @@ fn sessions_are_saved_and_loaded()
         ≡ refusal 0x01 0xdf }
 {}
 
-// It is in its place, or in the context that ContextLoad would take.
-#[tactic(auto, unfolding(sha2::specs::Sha256::first_words, sha2::specs::Sha256::schedule, sha2::specs::Sha256::rounds, sha2::specs::Sha256::compress, sha2::specs::Sha256::hash_after, sha2::specs::Sha256::digest_bytes, sha2::specs::Sha256::sha256, tab_spec::specs::Hash::kdfa_blocks, effect_spec::specs::Contexts::opened_session))]
-fn sessions_are_somewhere()
+// A loaded session is in its place, whatever context there is.
+#[tactic(auto, unfolding(crate::proofs::Computing::contexts))]
+fn loaded_sessions_are_in_their_places()
     ensures in_use { session_at three_sessions 0x02000000 None ≡ Some first_session }
     ensures in_use_and_a_context { found (crowded 1 0) 0x02000000 0xca ≡ Some hmac_session }
     ensures other_octet { session_at three_sessions 0x03000000 None ≡ None }
+    ensures nobodys { found (device_at 0) 0x02000000 0xca ≡ None }
+{}
+
+// A saved session is in the context that ContextLoad would take.
+#[tactic(auto, unfolding(crate::proofs::Computing::contexts))]
+fn saved_sessions_are_in_their_contexts()
     ensures away { found (one_saved 0x02 0) 0x02000000 0xca ≡ Some first_session }
     ensures no_context { session_at (one_saved 0x02 0) 0x02000000 None ≡ None }
     ensures away_with_other_octet { found (one_saved 0x03 0) 0x02000000 0xca ≡ None }
@@ -221,11 +260,10 @@ fn sessions_are_somewhere()
     ensures flipped { found (one_saved 0x02 0) 0x02000000 0xcb ≡ None }
     ensures one_byte_over { session_at (one_saved 0x02 0) 0x02000000
         (Some (first_context 0xca ++ 0 ∷ [])) ≡ None }
-    ensures nobodys { found (device_at 0) 0x02000000 0xca ≡ None }
 {}
 
 // A session ends, loaded or saved.
-#[tactic(auto, unfolding(tab_spec::specs::Auths::auths_of, tab_spec::specs::Auths::auths_from, effect_spec::specs::Effect::effect_of, crate::specs::Slots::slot_step))]
+#[tactic(auto, unfolding(crate::proofs::Computing::steps))]
 fn sessions_are_flushed()
     ensures in_use { slot_step three_sessions (flush 0x02000000)
         ≡ (device_in (inactive ∷ second_in ∷ saved 0x03 0 ∷ []) 1, frame 0x8001 0 []) }
@@ -243,21 +281,26 @@ fn sessions_are_flushed()
     ensures permanent { (slot_step three_sessions (flush 0x40000000)).1 ≡ refusal 0x01 0xc4 }
 {}
 
-// Loaded sessions and saved ones by their own handles, and how many there are.
-#[tactic(auto, unfolding(tab_spec::specs::Auths::auths_of, tab_spec::specs::Auths::auths_from, effect_spec::specs::Effect::effect_of, crate::specs::Slots::slot_step, effect_spec::specs::Capabilities::from_number, effect_spec::specs::Capabilities::property_items, effect_spec::specs::Capabilities::command_items))]
+// Loaded sessions and saved ones by their own handles.
+#[tactic(auto, unfolding(crate::proofs::Computing::steps, effect_spec::proofs::Computing::lists))]
 fn sessions_are_listed()
     ensures in_use { slot_step three_sessions (ask 1 0x02000000 64)
         ≡ (three_sessions, answer 0 1 (u32 2 ++ u32 0x02000000 ++ u32 0x03000001)) }
     ensures away { (slot_step three_sessions (ask 1 0x03000000 64)).1
         ≡ answer 0 1 (u32 1 ++ u32 0x03000002) }
-    ensures of_another { (slot_step (of_another (crowded 0 16)) (ask 6 0x111 1)).1
-        ≡ answer 1 6 (u32 1 ++ u32 0x111 ++ u32 16) }
     ensures from_a_number { (slot_step three_sessions (ask 1 0x02000001 64)).1
         ≡ answer 0 1 (u32 1 ++ u32 0x03000001) }
     ensures one_alone { (slot_step three_sessions (ask 1 0x02000000 1)).1
         ≡ answer 1 1 (u32 1 ++ u32 0x02000000) }
     ensures last_number { (slot_step (last_place (saved 0x02 5)) (ask 1 0x0300003f 64)).1
         ≡ answer 0 1 (u32 1 ++ u32 0x0200003f) }
+{}
+
+// How many sessions there may be, and how many there are.
+#[tactic(auto, unfolding(crate::proofs::Computing::steps, effect_spec::proofs::Computing::lists))]
+fn properties_count_sessions()
+    ensures of_another { (slot_step (of_another (crowded 0 16)) (ask 6 0x111 1)).1
+        ≡ answer 1 6 (u32 1 ++ u32 0x111 ++ u32 16) }
     ensures limits { (slot_step three_sessions (ask 6 0x110 2)).1
         ≡ answer 1 6 (u32 2 ++ u32 0x110 ++ u32 3 ++ u32 0x111 ++ u32 64) }
     ensures gap { (slot_step three_sessions (ask 6 0x113 1)).1
@@ -283,7 +326,7 @@ fn sessions_are_left()
 {}
 
 // Whole commands that a session authorizes: an HMAC session ends, and a policy session goes on.
-#[tactic(auto, unfolding(tab_spec::specs::Auths::auths_of, tab_spec::specs::Auths::auths_from, effect_spec::specs::Effect::effect_of, crate::specs::Slots::slot_step, tab_spec::specs::Persist::stream_bytes, rand_core::specs::Steps::u32_at, rand_chacha::specs::Block::quarter_round, rand_chacha::specs::Block::column_round, rand_chacha::specs::Block::diagonal_round, rand_chacha::specs::Block::double_rounds, rand_chacha::specs::Block::block_word, sha2::specs::Sha256::first_words, sha2::specs::Sha256::schedule, sha2::specs::Sha256::rounds, sha2::specs::Sha256::compress, sha2::specs::Sha256::hash_after, sha2::specs::Sha256::digest_bytes, sha2::specs::Sha256::sha256, tab_spec::specs::Hash::kdfa_blocks, effect_spec::specs::Contexts::opened_session))]
+#[tactic(auto, unfolding(crate::proofs::Computing::commands))]
 fn sessions_authorize()
     ensures read { slot_step (reading_device 104 (loaded 0x02 read_by_session.session))
         read_by_session.bytes ≡ (
@@ -309,7 +352,7 @@ fn sessions_authorize()
 
 // What a device holds is found by three lists: objects, loaded sessions and saved ones. Each handle
 // is the one under which it is flushed, and then the next is the first.
-#[tactic(auto, unfolding(tab_spec::specs::Auths::auths_of, tab_spec::specs::Auths::auths_from, crate::specs::Slots::slot_step, effect_spec::specs::Capabilities::from_number))]
+#[tactic(auto, unfolding(crate::proofs::Computing::steps, effect_spec::proofs::Computing::lists))]
 fn remains_are_listed_and_flushed()
     ensures command { handles_command 0x80000000
         ≡ bytes_of 22 0x8001000000160000017a0000000180000000000000fe }

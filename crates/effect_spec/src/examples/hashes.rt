@@ -1,5 +1,5 @@
 //! Worked examples in which hashes are computed. What is expected was computed by another program.
-#![tactic(auto, unfolding(sha2::specs::Sha256::first_words, sha2::specs::Sha256::schedule, sha2::specs::Sha256::rounds, sha2::specs::Sha256::compress, sha2::specs::Sha256::hash_after, sha2::specs::Sha256::digest_bytes, sha2::specs::Sha256::sha256, tab_spec::specs::Hash::kdfa_blocks, crate::specs::Contexts::opened_object, tab_spec::specs::Persist::stream_bytes, rand_core::specs::Steps::u32_at, rand_chacha::specs::Block::quarter_round, rand_chacha::specs::Block::column_round, rand_chacha::specs::Block::diagonal_round, rand_chacha::specs::Block::double_rounds, rand_chacha::specs::Block::block_word))]
+#![tactic(auto, unfolding(crate::proofs::Computing::hashed))]
 
 ghost use Rattle.std.specs.Prelude.{◌≡◌, ◌∷◌, ◌++◌, [], replicate, false, Ok, Err, Some, None};
 ghost use Rattle.tab_spec.specs.declared.AuthNeeded.TheVariants.{Nothing, AuthValue, Password};
@@ -25,8 +25,8 @@ ghost use Rattle.effect_spec.specs.SessionExamples.{unseal_response, command_fau
 ghost use Rattle.effect_spec.specs.SessionExamples.{command_response, read_by_session};
 ghost use Rattle.effect_spec.specs.SessionExamples.{unsealed_by_policy};
 
-// The digests of policies; that of PolicyPCR is compared with what the PCRs are.
-fn policies_are_hashed()
+// The digests of PolicyAuthValue, PolicyPassword and PolicyCommandCode.
+fn values_and_codes_are_hashed()
     ensures auth_value { policy_needs_row AuthValue policy_session []
         ≡ Ok (record policy_session { digest = value_digest; needed = AuthValue }) }
     ensures both { and_then (policy_needs_row AuthValue policy_session [])
@@ -34,6 +34,10 @@ fn policies_are_hashed()
         ≡ Ok (record policy_session { digest = two_values_digest; needed = Password }) }
     ensures code { policy_command_code_row policy_session (u32 0x155)
         ≡ Ok (record policy_session { digest = code_digest; command_code = Some 0x155 }) }
+{}
+
+// The digest of PolicyPCR, which is compared with what the PCRs are.
+fn pcrs_are_hashed()
     ensures pcr { policy_pcr_row (updated 5) policy_session (pcr_0 zero_pcr)
         ≡ Ok (record policy_session { digest = pcr_0_digest; pcr_updates = Some 5 }) }
     ensures present_pcr { policy_pcr_row (updated 5) policy_session (pcr_0 [])
@@ -51,6 +55,10 @@ fn policies_are_hashed()
           needed = AuthValue;
           pcr_updates = Some 5;
         }) }
+{}
+
+// The digests of PolicyOR and PolicySecret.
+fn branches_and_secrets_are_hashed()
     ensures two_branches { policy_or_row policy_session (branches (0 ∷ 2 ∷ []))
         ≡ Ok (record policy_session {
           digest = bytes_of 32 0x59fe212951ffa86c85ccbc7f7c21998593a6c50d03c7985ea5ae3c1edd810d73;
@@ -75,9 +83,9 @@ fn policies_are_hashed()
         ) }
 {}
 
-// The key is the auth value, or for a policy that doesn't ask for it the empty key. Of an HMAC
-// session the HMAC alone is looked at, also where a password would be needed.
-fn hmacs_are_compared()
+// The key of an HMAC session is the auth value. The HMAC alone is looked at, also where a password
+// would be needed.
+fn hmacs_of_hmac_sessions_are_compared()
     ensures right { unseal_fault guarded hmac_session caller 1 keyed_hmac ≡ None }
     ensures last_bit { unseal_fault guarded hmac_session caller 1
         (bytes_of 32 0x0fa5d2e8d8690c04078c77030f5cfd4be5ab7517a7a4dc361f9003b51f2e93ba)
@@ -94,6 +102,11 @@ fn hmacs_are_compared()
     ensures password_of_no_policy { unseal_fault guarded (record hmac_session { needed = Password })
         caller 1 keyed_hmac
         ≡ None }
+{}
+
+// The key of a policy session is the auth value, or the empty key if its policy doesn't ask for
+// that.
+fn hmacs_of_policies_are_compared()
     ensures policy { unseal_fault guarded policy_session caller 1 unkeyed_hmac ≡ None }
     ensures policy_and_another_key { unseal_fault guarded policy_session caller 1 keyed_hmac
         ≡ Some 0x9a2 }

@@ -48,12 +48,18 @@ fn authorizations_have_limits()
         ≡ Some 0x98f }
 {}
 
-// The update count of PCRs begins again after 2^32 - 1; a PCR changes by itself.
-fn pcrs_have_limits()
+// The update count of PCRs begins again after 2^32 - 1.
+fn update_counts_begin_again()
     ensures last_count { (extended (updated 0xfffffffe) 7 (Some (replicate 32 5))).updates
         ≡ 0xffffffff }
     ensures past_it { (extended (updated 0xffffffff) 7 (Some (replicate 32 5))).updates ≡ 0 }
     ensures by_nothing { extended (updated 0xffffffff) 7 None ≡ updated 0xffffffff }
+    ensures count { pcr_values (updated 0xfffffffe) (record { bits = None })
+        ≡ u32 0xfffffffe ++ u32 0 ++ u32 0 }
+{}
+
+// The first and the last PCR change by themselves, by at most one digest.
+fn pcrs_change_by_themselves()
     ensures last { pcr_extend_row (updated 0xffffffff) 23 (one_digest (replicate 32 5))
         ≡ Ok (record (updated 0) {
           pcrs = replicate 23 (replicate 32 0) ++ sha256 (replicate 32 0 ++ replicate 32 5) ∷ [];
@@ -66,8 +72,10 @@ fn pcrs_have_limits()
         (λ count. is_ok (pcr_extend_row (updated 0) 7 (u32 count ++ 0 ∷ 0x0b ∷ replicate 32 5)))
         (0 ∷ 1 ∷ 2 ∷ [])
         ≡ false ∷ true ∷ false ∷ [] }
-    ensures count { pcr_values (updated 0xfffffffe) (record { bits = None })
-        ≡ u32 0xfffffffe ++ u32 0 ++ u32 0 }
+{}
+
+// A selection has three bytes. The first eight PCRs of it are answered, and all are hashed.
+fn selections_have_limits()
     ensures selected { selected_below (0x81 ∷ 0x81 ∷ 0x81 ∷ []) 24 ≡ 0 ∷ 7 ∷ 8 ∷ 15 ∷ 16 ∷ 23 ∷ [] }
     ensures eight { answered_pcrs (Some (0x7f ∷ 0 ∷ 0x80 ∷ []))
         ≡ 0 ∷ 1 ∷ 2 ∷ 3 ∷ 4 ∷ 5 ∷ 6 ∷ 23 ∷ [] }
@@ -83,9 +91,7 @@ fn pcrs_have_limits()
         ≡ sha256 [] }
 {}
 
-// At most 254 items; the capabilities and octets that there are; all properties, for a client and
-// of the device, where there is an object, a session in use and a saved one.
-#[tactic(auto, unfolding(crate::specs::Capabilities::from_number, crate::specs::Capabilities::command_items, crate::specs::Capabilities::property_items))]
+// A list has at most 254 items, and tells whether more are left over.
 fn lists_have_limits()
     ensures most { take 9
         (listed (record { capability = 1; property = 0; count = 300 }) (replicate 254 (u32 7)))
@@ -98,6 +104,11 @@ fn lists_have_limits()
         ≡ 0 ∷ u32 1 ++ u32 2 ++ u32 7 ++ u32 7 }
     ensures none { listed (record { capability = 1; property = 0; count = 0 }) (replicate 2 (u32 7))
         ≡ 1 ∷ u32 1 ++ u32 0 }
+{}
+
+// The capabilities and octets that there are, and the lists that are always the same.
+#[tactic(auto, unfolding(crate::proofs::Computing::lists))]
+fn capabilities_have_limits()
     ensures capabilities { filter (λ n. is_ok (empty_capability (u32 n ++ u32 0 ++ u32 0)))
         (range_with_len 0 16)
         ≡ 1 ∷ 2 ∷ 5 ∷ 6 ∷ [] }
@@ -113,6 +124,11 @@ fn lists_have_limits()
     ensures one_byte_over { empty_capability (u32 3 ++ u32 0 ++ u32 0 ++ 0 ∷ []) ≡ Err 0x95 }
     ensures pcrs { empty_capability (u32 5 ++ u32 9 ++ u32 0)
         ≡ Ok (0 ∷ 0 ∷ 0 ∷ 0 ∷ 5 ∷ 0 ∷ 0 ∷ 0 ∷ 1 ∷ 0 ∷ 0x0b ∷ 3 ∷ 255 ∷ 255 ∷ 255 ∷ []) }
+{}
+
+// All properties, for a client and of the device, where there is an object, a session in use and a
+// saved one.
+fn properties_have_values()
     ensures of_a_client { property_pairs (client_limits 64) (0x80000000 ∷ []) two_sessions 5
         ≡ (0x10e, 4096) ∷ (0x110, 64) ∷ (0x111, 64) ∷ (0x112, 24) ∷ (0x114, 0xffffffff)
         ∷ (0x11e, 4096) ∷ (0x11f, 4096) ∷ (0x203, 1) ∷ (0x204, 59) ∷ (0x205, 2) ∷ (0x206, 59)

@@ -12,7 +12,7 @@ ghost use Rattle.tab_spec.specs.NvIndex.{is_counter, is_written, with_bytes};
 ghost use Rattle.tab_spec.specs.Examples.{u32, with_indexes, counter, four_bytes, plain_definition};
 ghost use Rattle.tab_spec.specs.Examples.{plain_index, zeros_kept, four_kept, counter_kept};
 
-// Each bit of the attributes by itself.
+// Who may write and read, by each bit of the attributes.
 fn bits_allow_what_they_say()
     ensures owner_writes { filter
         (λ n. may_write RH_OWNER (four_bytes (2 ^ n) [])) (range_with_len 0 32)
@@ -28,6 +28,10 @@ fn bits_allow_what_they_say()
         ≡ 18 ∷ [] }
     ensures another_writes { may_write 0x01000001 (four_bytes 0xffffffff []) ≡ false }
     ensures another_reads { may_read 0x01000001 (four_bytes 0xffffffff []) ≡ false }
+{}
+
+// Whether an index counts, and whether it was written, by each bit of the attributes.
+fn bits_tell_what_an_index_is()
     ensures counts { filter (λ n. is_counter (four_bytes (16 * n) [])) (range_with_len 0 16)
         ≡ 1 ∷ [] }
     ensures written { filter (λ n. is_written (four_bytes (2 ^ n) [])) (range_with_len 0 32)
@@ -38,6 +42,8 @@ fn bits_allow_what_they_say()
         ≡ four_bytes 0x22060006 (2 ∷ []) }
 {}
 
+// An auth value of at most 32 bytes, a policy of none or 32, and at most 2,048 bytes, of which a
+// counter has eight.
 fn definitions_have_limits()
     ensures least { nv_define_row (with_indexes []) (plain_definition [] [] 0)
         ≡ Ok (with_indexes (plain_index [] [] [] ∷ [])) }
@@ -58,6 +64,10 @@ fn definitions_have_limits()
     ensures policy { nv_define_row (with_indexes []) (plain_definition [] (replicate 33 6) 1)
         ≡ Err 0x2d5 }
     ensures counters { filter (λ size. is_nv_size 0x14 size) (range_with_len 0 64) ≡ 8 ∷ [] }
+{}
+
+// The handle is that of an index, and the hash SHA-256.
+fn definitions_have_handles_and_hashes()
     ensures octets { map (λ index.
         is_ok (nv_public_of (u32 index ++ 0 ∷ 0x0b ∷ u32 0x00060006 ++ 0 ∷ 0 ∷ 0 ∷ 1 ∷ [])))
         (0x00ffffff ∷ 0x01000000 ∷ 0x01ffffff ∷ 0x02000000 ∷ [])
@@ -65,6 +75,10 @@ fn definitions_have_limits()
     ensures hash { nv_define_row (with_indexes []) (0 ∷ 0 ∷ 0 ∷ 6 ∷ u32 0x01000002 ++ 0 ∷ 4 ∷ [])
         ≡ Err 0x2c3 }
     ensures octet { nv_define_row (with_indexes []) (0 ∷ 0 ∷ 0 ∷ 4 ∷ u32 0x02000002) ≡ Err 0x2c4 }
+{}
+
+// There are at most 64 indexes. One that is undefined leaves the others.
+fn indexes_have_a_limit()
     ensures last { nv_define_row (with_indexes (replicate 63 counter)) (plain_definition [] [] 1)
         ≡ Ok (with_indexes (replicate 63 counter ++ plain_index [] [] (0 ∷ []) ∷ [])) }
     ensures past_it { nv_define_row (with_indexes (replicate 64 counter)) (plain_definition [] [] 1)
@@ -72,6 +86,10 @@ fn definitions_have_limits()
     ensures undefined { nv_undefine_row
         (with_indexes (counter ∷ plain_index [] [] [] ∷ counter ∷ [])) 0x01000002 []
         ≡ Ok (with_indexes (counter ∷ counter ∷ [])) }
+{}
+
+// Undefining an index and reading its public area take no parameters.
+fn handles_alone_are_taken()
     ensures one_byte_over { nv_undefine_row (with_indexes (counter ∷ [])) 0x01000001 (0 ∷ [])
         ≡ Err 0x95 }
     ensures a_byte_after { nv_read_public_row (with_indexes (counter ∷ [])) 0x01000001 (0 ∷ [])
@@ -107,6 +125,7 @@ fn writes_have_limits()
         ≡ Err 0x282 }
 {}
 
+// What is read is within the index, also where it is nothing.
 fn reads_have_limits()
     ensures whole { nv_read_row four_kept RH_OWNER 0x01000002 (0 ∷ 4 ∷ 0 ∷ 0 ∷ [])
         ≡ Ok (0 ∷ 4 ∷ 1 ∷ 2 ∷ 3 ∷ 4 ∷ []) }
@@ -116,6 +135,10 @@ fn reads_have_limits()
     ensures none_past_it { nv_read_row four_kept RH_OWNER 0x01000002 (0 ∷ 0 ∷ 0 ∷ 5 ∷ [])
         ≡ Err 0x146 }
     ensures far { nv_read_row four_kept RH_OWNER 0x01000002 (0 ∷ 5 ∷ 255 ∷ 255 ∷ []) ≡ Err 0x146 }
+{}
+
+// The parameters are looked at first, then who reads, whether the index was written, and the range.
+fn reads_have_faults_in_order()
     ensures cut { map (λ front. nv_read_row (with_indexes (counter ∷ [])) RH_OWNER 0x01000001 front)
         ((0 ∷ []) ∷ (0 ∷ 5 ∷ 0 ∷ []) ∷ [])
         ≡ Err 0x1da ∷ Err 0x2da ∷ [] }

@@ -46,13 +46,17 @@ fn objects_are_spelled()
     ensures a_zero_after { object_of
         (object_parts (5 ∷ 0 ∷ []) (replicate 32 1) [] (replicate 34 0))
         ≡ Err 0x95 }
+{}
+
+// What is within a context is an object if its bytes are one, and no more.
+fn objects_within_are_whole()
     ensures whole { object_within (Some (object_bytes sealed)) ≡ Some sealed }
     ensures one_byte_over { object_within (Some (object_bytes sealed ++ 0 ∷ [])) ≡ None }
     ensures not_bare { object_within (Some (object_bytes (record sealed { auth = 5 ∷ 0 ∷ [] })))
         ≡ None }
 {}
 
-// The parameters of a public area, word by word, and who makes a secret of how many bytes.
+// The parameters of a public area, word by word.
 fn public_areas_have_limits()
     ensures sealed { public_bytes (sealed_bytes [])
         ≡ 0 ∷ 8 ∷ 0 ∷ 0x0b ∷ 0 ∷ 0 ∷ 0 ∷ 0x52 ∷ 0 ∷ 0 ∷ 0 ∷ 0x10 ∷ 0 ∷ 0 ∷ [] }
@@ -76,6 +80,10 @@ fn public_areas_have_limits()
         (λ size. is_ok (public_of (public_bytes (record hmac_key { policy = replicate size 6 }))))
         (range_with_len 0 40)
         ≡ 0 ∷ 32 ∷ [] }
+{}
+
+// Who makes a secret of how many bytes.
+fn secrets_are_made()
     ensures secret_is_made { filter (λ n. makes_secret (record hmac_key { attributes = 2 ^ n }))
         (range_with_len 0 32)
         ≡ 5 ∷ [] }
@@ -83,7 +91,8 @@ fn public_areas_have_limits()
     ensures secret_of_a_parent { secret_size storage_parent ≡ 16 }
 {}
 
-// The parameters of Create and CreatePrimary; nothing of what is refused is hashed.
+// The longest parameters of Create and CreatePrimary, and those of one byte more. Nothing of what
+// is refused is hashed.
 fn templates_have_limits()
     ensures longest { template_of (template (0 ∷ 32 ∷ replicate 32 5 ++ 0 ∷ 128 ∷ replicate 128 7)
         hmac_key (replicate 64 9) no_pcrs)
@@ -108,6 +117,13 @@ fn templates_have_limits()
     ensures long_unique { create_primary_row (with_indexes [])
         (template no_secret (record hmac_key { unique = replicate 33 1 }) [] no_pcrs)
         ≡ Err 0x2d5 }
+    ensures one_byte_over { create_primary_row (with_indexes [])
+        (template no_secret (sealed_bytes []) [] no_pcrs ++ 0 ∷ [])
+        ≡ Err 0x95 }
+{}
+
+// Which kinds, attributes and selections Create and CreatePrimary refuse, and which parent.
+fn templates_have_kinds()
     ensures kinds { map (λ form. create_primary_row (with_indexes [])
         (template no_secret (record hmac_key { form = form }) [] no_pcrs)) (1 ∷ 7 ∷ 0x24 ∷ [])
         ≡ Err 0x2ca ∷ Err 0x2ca ∷ Err 0x2ca ∷ [] }
@@ -119,13 +135,10 @@ fn templates_have_limits()
         (u32 2 ∷ (u32 1 ++ 0 ∷ 4 ∷ []) ∷ (u32 1 ++ 0 ∷ 0x0b ∷ 2 ∷ [])
         ∷ (u32 1 ++ 0 ∷ 0x0b ∷ 3 ∷ 0 ∷ 0 ∷ []) ∷ [])
         ≡ Err 0x4d5 ∷ Err 0x4c3 ∷ Err 0x4c4 ∷ Err 0x4da ∷ [] }
-    ensures one_byte_over { create_primary_row (with_indexes [])
-        (template no_secret (sealed_bytes []) [] no_pcrs ++ 0 ∷ [])
-        ≡ Err 0x95 }
     ensures under_sealed { create_row (with_indexes []) sealed [] ≡ Err 0x18a }
 {}
 
-// A private area of at most 512 bytes, and what it has to hide.
+// The parameters of Load: a private area of at most 512 bytes, and a public one.
 fn loads_have_limits()
     ensures sizes { map (λ size. load_row loaded_parent
         (sized_bytes (replicate size 255) ++ sized_bytes (public_bytes hmac_key)))
@@ -139,6 +152,10 @@ fn loads_have_limits()
         (0 ∷ 0 ∷ sized_bytes (public_bytes hmac_key) ++ 0 ∷ [])
         ≡ Err 0x95 }
     ensures under_sealed { load_row sealed [] ≡ Err 0x18a }
+{}
+
+// What a private area has to hide.
+fn private_areas_have_limits()
     ensures longest { plain_of
         (plain_parts (replicate 32 5) (replicate 32 1) (replicate 128 7) ++ 9 ∷ [])
         ≡ Ok ((replicate 32 5, replicate 32 1, replicate 128 7), 9 ∷ []) }
@@ -162,7 +179,7 @@ fn loads_have_limits()
         ≡ Err 0x1df }
 {}
 
-// A message of at most 1,024 bytes; which objects give what.
+// A message of at most 1,024 bytes, and its hash.
 fn messages_have_limits()
     ensures longest { hmac_row (key_with 0x00040072) (4 ∷ 0 ∷ replicate 1024 1 ++ 0 ∷ 0x0b ∷ [])
         ≡ Ok (sized_bytes (hmac (7 ∷ []) (replicate 1024 1))) }
@@ -179,6 +196,10 @@ fn messages_have_limits()
         ((0 ∷ 1 ∷ []) ∷ (0 ∷ 1 ∷ 7 ∷ 0 ∷ []) ∷ [])
         ≡ Err 0x1da ∷ Err 0x2da ∷ [] }
     ensures one_byte_over { hmac_row (key_with 0x00040072) (0 ∷ 0 ∷ 0 ∷ 0x0c ∷ 0 ∷ []) ≡ Err 0x95 }
+{}
+
+// Which objects give what.
+fn objects_give_by_their_kinds()
     ensures kinds { map
         (λ item. hmac_row item []) (loaded_parent ∷ sealed ∷ key_with 0x00040072 ∷ [])
         ≡ Err 0x18a ∷ Err 0x19c ∷ Err 0x1da ∷ [] }

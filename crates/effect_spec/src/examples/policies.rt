@@ -30,9 +30,9 @@ fn policies_begin_again()
     ensures digest_and_a_byte { policy_get_digest_row used_session (0 ∷ []) ≡ Err 0x95 }
 {}
 
-// The one takes the other's place, with the same digest; else for one code, which isn't 0, for the
-// same again, but for no other.
-fn policies_ask_for_values_and_codes()
+// A policy asks for the auth value or for a password. The one takes the other's place, with the
+// same digest.
+fn policies_ask_for_values()
     ensures auth_value { policy_needs_row AuthValue used_session [] ≡ Ok (record used_session {
       digest = sha256 (replicate 32 2 ++ u32 0x16b);
       needed = AuthValue;
@@ -40,6 +40,10 @@ fn policies_ask_for_values_and_codes()
     ensures password { policy_needs_row Password (record used_session { needed = AuthValue }) []
         ≡ Ok (record used_session { digest = sha256 (replicate 32 2 ++ u32 0x16b) }) }
     ensures value_and_a_byte { policy_needs_row AuthValue policy_session (0 ∷ []) ≡ Err 0x95 }
+{}
+
+// A policy is for one code, for the same again, but for no other.
+fn policies_are_for_one_code()
     ensures again { policy_command_code_row used_session (u32 0x15e)
         ≡ Ok (record used_session { digest = sha256 (replicate 32 2 ++ u32 0x16c ++ u32 0x15e) }) }
     ensures another { policy_command_code_row used_session (u32 0x15f) ≡ Err 0x1c4 }
@@ -50,6 +54,10 @@ fn policies_ask_for_values_and_codes()
         }) }
     ensures another_of_a_trial { policy_command_code_row
         (record trial_session { command_code = Some 0x15e }) (u32 0x155) ≡ Err 0x1c4 }
+{}
+
+// The code of a policy isn't 0.
+fn codes_have_limits()
     ensures zero { policy_command_code_row policy_session (u32 0) ≡ Err 0x1c4 }
     ensures zero_of_a_trial { policy_command_code_row trial_session (u32 0) ≡ Err 0x1c4 }
     ensures least { policy_command_code_row policy_session (u32 1) ≡ Ok (record policy_session {
@@ -65,8 +73,8 @@ fn policies_ask_for_values_and_codes()
     ensures code_and_a_byte { policy_command_code_row policy_session (u32 0 ++ 0 ∷ []) ≡ Err 0x95 }
 {}
 
-// An empty digest stands for that of the PCRs, and a trial session takes any. The faults are in
-// their order. A kept update count has to be the present one; a trial session keeps none.
+// An empty digest stands for that of the PCRs, and a trial session takes any. A kept update count
+// has to be the present one; a trial session keeps none.
 fn policies_name_pcrs()
     ensures empty { policy_pcr_row (updated 7) used_session (pcr_0 []) ≡ Ok (record used_session {
       digest = sha256 (replicate 32 2 ++ u32 0x17f ++ u32 1 ++ 0 ∷ 0x0b ∷ 3 ∷ 0x01 ∷ 0 ∷ 0
@@ -82,6 +90,19 @@ fn policies_name_pcrs()
           digest = sha256 (replicate 32 0 ++ u32 0x17f ++ u32 1 ++ 0 ∷ 0x0b ∷ 3 ∷ 0x01 ∷ 0 ∷ 0
               ∷ replicate 32 1);
         }) }
+    ensures last_count { policy_pcr_row (updated 0xffffffff)
+        (record policy_session { pcr_updates = Some 0xffffffff }) (0 ∷ 0 ∷ u32 0)
+        ≡ Ok (record policy_session {
+          digest = sha256 (replicate 32 0 ++ u32 0x17f ++ u32 0 ++ sha256 []);
+          pcr_updates = Some 0xffffffff;
+        }) }
+    ensures past_it { policy_pcr_row (updated 0)
+        (record policy_session { pcr_updates = Some 0xffffffff }) (0 ∷ 0 ∷ u32 0)
+        ≡ Err 0x128 }
+{}
+
+// What PolicyPCR refuses of its parameters, in the order of the faults.
+fn digests_and_selections_have_faults()
     ensures sizes { map (λ size. policy_pcr_row (updated 8) used_session (pcr_0 (replicate size 1)))
         (0 ∷ 1 ∷ 31 ∷ 32 ∷ 33 ∷ [])
         ≡ Err 0x128 ∷ Err 0x1d5 ∷ Err 0x1d5 ∷ Err 0x128 ∷ Err 0x1d5 ∷ [] }
@@ -99,18 +120,9 @@ fn policies_name_pcrs()
         ≡ Err 0x2da }
     ensures one_byte_over { policy_pcr_row (updated 8) used_session (pcr_0 [] ++ 0 ∷ [])
         ≡ Err 0x95 }
-    ensures last_count { policy_pcr_row (updated 0xffffffff)
-        (record policy_session { pcr_updates = Some 0xffffffff }) (0 ∷ 0 ∷ u32 0)
-        ≡ Ok (record policy_session {
-          digest = sha256 (replicate 32 0 ++ u32 0x17f ++ u32 0 ++ sha256 []);
-          pcr_updates = Some 0xffffffff;
-        }) }
-    ensures past_it { policy_pcr_row (updated 0)
-        (record policy_session { pcr_updates = Some 0xffffffff }) (0 ∷ 0 ∷ u32 0)
-        ≡ Err 0x128 }
 {}
 
-// Two to eight digests, of which the session's has to be one, and which alone make the new one.
+// The session's digest has to be one of the branches, which alone make the new one.
 fn policies_have_branches()
     ensures two { policy_or_row used_session (branches (2 ∷ 1 ∷ [])) ≡ Ok (record used_session {
       digest = sha256 (replicate 32 0 ++ u32 0x171 ++ replicate 32 2 ++ replicate 32 1);
@@ -121,6 +133,15 @@ fn policies_have_branches()
               ++ replicate 32 3 ++ replicate 32 4 ++ replicate 32 5
               ++ replicate 32 6 ++ replicate 32 7 ++ replicate 32 2);
         }) }
+    ensures others { policy_or_row policy_session (branches (1 ∷ 2 ∷ [])) ≡ Err 0x1c4 }
+    ensures others_for_a_trial { policy_or_row trial_session (branches (1 ∷ 2 ∷ []))
+        ≡ Ok (record trial_session {
+          digest = sha256 (replicate 32 0 ++ u32 0x171 ++ replicate 32 1 ++ replicate 32 2);
+        }) }
+{}
+
+// There are two to eight branches, of 32 bytes each.
+fn branches_have_limits()
     ensures nine { policy_or_row policy_session (branches (1 ∷ 2 ∷ 3 ∷ 4 ∷ 5 ∷ 6 ∷ 7 ∷ 8 ∷ 0 ∷ []))
         ≡ Err 0x1d5 }
     ensures nine_of_a_trial { policy_or_row trial_session
@@ -135,15 +156,10 @@ fn policies_have_branches()
         ≡ Err 0x1d5 ∷ Err 0x1da ∷ Err 0x1d5 ∷ [] }
     ensures one_byte_over { policy_or_row policy_session (branches (1 ∷ 2 ∷ []) ++ 0 ∷ [])
         ≡ Err 0x95 }
-    ensures others { policy_or_row policy_session (branches (1 ∷ 2 ∷ [])) ≡ Err 0x1c4 }
-    ensures others_for_a_trial { policy_or_row trial_session (branches (1 ∷ 2 ∷ []))
-        ≡ Ok (record trial_session {
-          digest = sha256 (replicate 32 0 ++ u32 0x171 ++ replicate 32 1 ++ replicate 32 2);
-        }) }
 {}
 
-// The nonce is empty or the session's, cpHash is empty, and the expiration 0; the faults in their
-// order. The digest is hashed twice, with the Name of what has the secret, and with the policyRef.
+// The nonce is empty or the session's. The digest is hashed twice, with the Name of what has the
+// secret, and with the policyRef.
 fn policies_show_secrets()
     ensures shown { policy_secret_row used_session (0 ∷ 0x0b ∷ replicate 32 3)
         (secret (replicate 32 1) [] (replicate 64 4) 0)
@@ -164,6 +180,10 @@ fn policies_show_secrets()
     ensures another_of_a_trial { policy_secret_row trial_session (u32 RH_OWNER)
         (secret (replicate 31 1 ++ 2 ∷ []) [] [] 0)
         ≡ Err 0x1cf }
+{}
+
+// cpHash is empty, and the expiration 0; the faults in their order.
+fn secrets_have_limits()
     ensures nonces { map (λ size. owner_secret (secret (replicate size 1) [] [] 1))
         (0 ∷ 1 ∷ 31 ∷ 32 ∷ 33 ∷ [])
         ≡ Err 0x4c4 ∷ Err 0x1cf ∷ Err 0x1cf ∷ Err 0x4c4 ∷ Err 0x1d5 ∷ [] }

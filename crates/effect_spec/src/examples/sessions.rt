@@ -36,8 +36,8 @@ fn start_parameters_are_read()
     ensures no_kind { start_parameters_of (u32 0) ≡ Err 0x3da }
 {}
 
-// What refuses parameters of StartAuthSession, in its order; and a session that was started.
-fn sessions_begin()
+// What refuses parameters of StartAuthSession.
+fn start_parameters_are_refused()
     ensures nonces { map (λ size.
         start_parameters_fault (record usual_start_parameters { nonce = replicate size 1 }))
         (0 ∷ 15 ∷ 16 ∷ 32 ∷ 33 ∷ 64 ∷ [])
@@ -56,6 +56,10 @@ fn sessions_begin()
         (λ hash. start_parameters_fault (record usual_start_parameters { hash = hash }))
         (4 ∷ 0x0a ∷ 0x0c ∷ 0x10 ∷ [])
         ≡ Some 0x5c3 ∷ Some 0x5c3 ∷ Some 0x5c3 ∷ Some 0x5c3 ∷ [] }
+{}
+
+// Of several wrong parameters of StartAuthSession the first one's fault is told.
+fn start_parameters_have_an_order()
     ensures nonce_first { start_parameters_fault
         (record { nonce = []; salt = 1 ∷ []; kind = 2; symmetric = 6; hash = 4 })
         ≡ Some 0x1d5 }
@@ -68,6 +72,10 @@ fn sessions_begin()
     ensures then_cipher { start_parameters_fault
         (record usual_start_parameters { symmetric = 6; hash = 4 })
         ≡ Some 0x4c4 }
+{}
+
+// A session that was started. Its nonce has to be left in the random stream.
+fn sessions_begin()
     ensures initial_session { initial_session_with Trial (Ok (replicate 32 1, with_indexes []))
         ≡ Ok (trial_session, with_indexes []) }
     ensures no_nonce_is_left { initial_session_with Hmac
@@ -115,7 +123,7 @@ fn hmac_sessions_are_judged()
 {}
 
 // A policy session stands for an object by its digest and by what its policy asks for beside, also
-// where the auth value may not be used. The faults are in their order; the update count is 7.
+// where the auth value may not be used. The update count is 7.
 fn policy_sessions_are_judged()
     ensures nothing { unseal_fault (record guarded { user_with_auth = false }) policy_session caller
         1 []
@@ -130,6 +138,10 @@ fn policy_sessions_are_judged()
     ensures same_command_and_count { unseal_fault guarded
         (record policy_session { command_code = Some 0x15e; pcr_updates = Some 7 }) [] 1 []
         ≡ None }
+{}
+
+// What refuses a policy session, in the order of the faults. The update count is 7.
+fn policy_sessions_are_refused()
     ensures trial { unseal_fault (record guarded { is_object = false }) trial_session [] 1 []
         ≡ Some 0x982 }
     ensures no_object { unseal_fault (record guarded { is_object = false; policy = [] })

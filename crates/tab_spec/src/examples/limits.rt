@@ -10,9 +10,13 @@ ghost use Rattle.tab_spec.specs.Shape.{is_of_kind, kind_code};
 ghost use Rattle.tab_spec.specs.Persist.{drawn, words_for};
 ghost use Rattle.tab_spec.specs.Examples.{with_indexes};
 
-// Each octet of a handle by itself, and the first and the last handle of a kind.
-fn handles_are_of_their_kinds()
+// A frame of 10 to 4,096 bytes.
+fn frames_have_limits()
     ensures sizes { filter is_size (0 ∷ 9 ∷ 10 ∷ 4096 ∷ 4097 ∷ 0xffffffff ∷ []) ≡ 10 ∷ 4096 ∷ [] }
+{}
+
+// The first and the last handle of a kind: of the owner, of null, of PCRs and of indexes.
+fn handles_are_of_their_kinds()
     ensures owner { filter (is_of_kind Owner)
         (0x40000000 ∷ 0x40000001 ∷ 0x40000007 ∷ 0x40000009 ∷ 0x4000000c ∷ [])
         ≡ 0x40000001 ∷ [] }
@@ -25,6 +29,11 @@ fn handles_are_of_their_kinds()
     ensures index_or_owner { filter (is_of_kind NvAuth)
         (0x00ffffff ∷ 0x01000000 ∷ 0x01ffffff ∷ 0x02000000 ∷ 0x40000001 ∷ 0x40000007 ∷ [])
         ≡ 0x01000000 ∷ 0x01ffffff ∷ 0x40000001 ∷ [] }
+{}
+
+// Each octet of a handle by itself: of objects, of policy sessions, of what is saved and of what
+// has an auth value. A persistent handle is of no kind.
+fn octets_are_of_their_kinds()
     ensures object { filter
         (λ octet. is_of_kind Object (octet * 2 ^ 24 + 255)) (range_with_len 0 256)
         ≡ 0x80 ∷ [] }

@@ -10,8 +10,8 @@ ghost use Rattle.world_spec.specs.Examples.{three_places, told_list, world_hande
 ghost use Rattle.world_spec.specs.Examples.{of_16_sessions, world_of_sessions};
 
 // A session's context is the device's own, under the sequence that is picked, which wasn't picked
-// before. A saved session can't be used, and its client may flush it.
-#[tactic(auto, unfolding(tab_spec::specs::Auths::auths_of, tab_spec::specs::Admission::admitted, crate::specs::World::client_step, crate::specs::World::plain_step))]
+// before.
+#[tactic(auto, unfolding(crate::proofs::Computing::steps))]
 fn sessions_are_saved()
     ensures saved { plain_step (world_handed 3 None) 0 (save 0x02000000) (Sequence 4)
         ≡ Some (world_handed 5 (Some (context_under 4)), frame 0x8001 0 (context_under 4)) }
@@ -20,6 +20,14 @@ fn sessions_are_saved()
     ensures handed_out { plain_step (world_handed 5 None) 0 (save 0x02000000) (Sequence 4) ≡ None }
     ensures too_high { plain_step (world_handed 5 None) 0 (save 0x02000000) (Sequence (2 ^ 62))
         ≡ None }
+    ensures longer { plain_step (world_handed 0 None) 0
+        (0x80 ∷ 0x01 ∷ 0 ∷ 0 ∷ 0 ∷ 15 ∷ 0 ∷ 0 ∷ 1 ∷ 0x62 ∷ 2 ∷ 0 ∷ 0 ∷ 0 ∷ 0 ∷ []) Nothing
+        ≡ Some (world_handed 0 None, refusal 0x00 0x95) }
+{}
+
+// A saved session can't be used, nor another client's, and its client may flush it.
+#[tactic(auto, unfolding(crate::proofs::Computing::steps))]
+fn saved_sessions_are_not_used()
     ensures twice { plain_step (world_handed 1 (Some first_context)) 0 (save 0x02000000) Nothing
         ≡ Some (world_handed 1 (Some first_context), refusal 0x09 0x10) }
     ensures anothers { plain_step (world_handed 0 None) 1 (save 0x02000000) Nothing
@@ -29,14 +37,11 @@ fn sessions_are_saved()
           record (world_of_sessions 0 no_sessions) { session_sequence = 1 },
           0x80 ∷ 0x01 ∷ 0 ∷ 0 ∷ 0 ∷ 0x0a ∷ 0 ∷ 0 ∷ 0 ∷ 0 ∷ [],
         ) }
-    ensures longer { plain_step (world_handed 0 None) 0
-        (0x80 ∷ 0x01 ∷ 0 ∷ 0 ∷ 0 ∷ 15 ∷ 0 ∷ 0 ∷ 1 ∷ 0x62 ∷ 2 ∷ 0 ∷ 0 ∷ 0 ∷ 0 ∷ []) Nothing
-        ≡ Some (world_handed 0 None, refusal 0x00 0x95) }
 {}
 
 // A saved session is in use again by the very bytes that were handed out for it, once, and for its
 // own client.
-#[tactic(auto, unfolding(tab_spec::specs::Auths::auths_of, tab_spec::specs::Admission::admitted, effect_spec::specs::Contexts::opened_object, crate::specs::World::client_step, crate::specs::World::plain_step))]
+#[tactic(auto, unfolding(crate::proofs::Computing::steps, crate::proofs::Computing::contexts))]
 fn sessions_are_taken_back()
     ensures taken { plain_step (world_handed 1 (Some first_context)) 0 (load first_context) Nothing
         ≡ Some (world_handed 1 None, handle_reply 0x02000000) }
@@ -64,7 +69,7 @@ fn sessions_are_taken_back()
 
 // What a client is told of: its own objects and sessions, and how many sessions clients have or
 // left.
-#[tactic(auto, unfolding(tab_spec::specs::Auths::auths_of, tab_spec::specs::Admission::admitted, effect_spec::specs::Capabilities::from_number, effect_spec::specs::Capabilities::property_items, crate::specs::World::client_step, crate::specs::World::plain_step))]
+#[tactic(auto, unfolding(crate::proofs::Computing::steps, effect_spec::proofs::Computing::lists))]
 fn clients_are_told_of_their_own()
     ensures objects { client_step 0 (state_with three_places) (ask 1 0x80000000 8) Nothing
         ≡ left_with three_places (told_list 0 1 2 (u32 0x80000000 ++ u32 0x80000002)) }

@@ -16,7 +16,7 @@ ghost use Rattle.world_spec.specs.Examples.{world_of_sessions};
 
 // A client saves a session and closes. Another one takes it by the bytes that were handed out, and
 // has it in use; a third one comes too late.
-#[tactic(auto, unfolding(tab_spec::specs::Auths::auths_of, tab_spec::specs::Admission::admitted, effect_spec::specs::Contexts::opened_object, crate::specs::World::client_step, crate::specs::World::plain_step))]
+#[tactic(auto, unfolding(crate::proofs::Computing::steps, crate::proofs::Computing::contexts))]
 fn left_sessions_are_taken_by_others()
     ensures saved { plain_step (world_among three_clients 0 (first_session 0 None)) 0
         (save 0x02000000) (Sequence 0)
@@ -44,7 +44,7 @@ fn left_sessions_are_taken_by_others()
 
 // Nobody may use, save or flush a left session before it is loaded, and it is in nobody's list; but
 // it is active, and its number isn't given to another one.
-#[tactic(auto, unfolding(tab_spec::specs::Auths::auths_of, tab_spec::specs::Admission::admitted, effect_spec::specs::Capabilities::from_number, effect_spec::specs::Capabilities::property_items, effect_spec::specs::Effect::effect_of, crate::specs::World::client_step, crate::specs::World::plain_step))]
+#[tactic(auto, unfolding(crate::proofs::Computing::steps, effect_spec::proofs::Computing::lists))]
 fn left_sessions_are_nobodys()
     ensures saved { plain_step world_left 1 (save 0x02000000) Nothing
         ≡ Some (world_left, refusal 0x09 0x10) }
@@ -80,7 +80,7 @@ fn the_longest_left_goes()
 {}
 
 // Of nine contexts that of the number 0 alone is refused.
-#[tactic(auto, unfolding(tab_spec::specs::Auths::auths_of, tab_spec::specs::Admission::admitted, effect_spec::specs::Contexts::opened_object, crate::specs::World::client_step, crate::specs::World::plain_step))]
+#[tactic(auto, unfolding(crate::proofs::Computing::steps, crate::proofs::Computing::contexts))]
 fn eight_of_nine_are_taken()
     ensures { map (λ (n : ℕ). reply_in (plain_step nine_left 1 (load (short_context n)) Nothing))
         (range_with_len 0 9)
@@ -88,7 +88,7 @@ fn eight_of_nine_are_taken()
 {}
 
 // The context of the examples above is the one that is handed out first.
-#[tactic(auto, unfolding(sha2::specs::Sha256::first_words, sha2::specs::Sha256::schedule, sha2::specs::Sha256::rounds, sha2::specs::Sha256::compress, sha2::specs::Sha256::hash_after, sha2::specs::Sha256::digest_bytes, sha2::specs::Sha256::sha256, tab_spec::specs::Hash::kdfa_blocks, tab_spec::specs::Persist::stream_bytes, rand_core::specs::Steps::u32_at, rand_chacha::specs::Block::quarter_round, rand_chacha::specs::Block::column_round, rand_chacha::specs::Block::diagonal_round, rand_chacha::specs::Block::double_rounds, rand_chacha::specs::Block::block_word))]
+#[tactic(auto, unfolding(tab_spec::proofs::Computing::hashes, tab_spec::proofs::Computing::draws))]
 fn the_first_context_has_these_bytes()
     ensures { context_under 0 ≡ first_context }
 {}

@@ -13,8 +13,8 @@ ghost use Rattle.history_spec.specs.Examples.{get_random, memory_reply, plain_en
 ghost use Rattle.world_spec.specs.Examples.{a_key, ask, first_context, handle_reply, state_with};
 ghost use Rattle.world_spec.specs.Examples.{told_list, world_handed};
 
-// Nothing is entered of a client that isn't open: it wasn't opened yet, or it is closed.
-fn only_open_clients_have_entries()
+// No command is entered of a client that isn't open: it wasn't opened yet, or it is closed.
+fn only_open_clients_have_commands()
     ensures command { Legal (zero_persist 0) 64
         (plain_entry 0 1 (get_random 8) eight_reply ∷ []) → ⊥ }
     ensures another { Legal (zero_persist 0) 64
@@ -27,6 +27,10 @@ fn only_open_clients_have_entries()
     ensures fault { Legal (zero_persist 0) 64 (failed_entry 1 1 ∷ []) → ⊥ }
     ensures fault_closed { Legal (zero_persist 0) 64
         (open_entry 0 ∷ close_entry 0 ∷ failed_entry 1 1 ∷ []) → ⊥ }
+{}
+
+// A client is opened once, and then closed once.
+fn only_open_clients_are_closed()
     ensures close { Legal (zero_persist 0) 64 (close_entry 0 ∷ []) → ⊥ }
     ensures twice { Legal (zero_persist 0) 64
         (open_entry 0 ∷ close_entry 0 ∷ close_entry 0 ∷ []) → ⊥ }
@@ -87,7 +91,7 @@ fn loaded_objects_get_a_number()
 {}
 
 // Sessions in use are listed under one octet, and saved ones under the other.
-#[tactic(auto, unfolding(tab_spec::specs::Auths::auths_of, tab_spec::specs::Admission::admitted, crate::specs::World::client_step, crate::specs::World::plain_step))]
+#[tactic(auto, unfolding(crate::proofs::Computing::steps))]
 fn saved_sessions_are_not_in_use()
     ensures in_use { plain_step (world_handed 1 None) 0 (ask 1 0x02000000 8) Nothing
         ≡ Some (world_handed 1 None, told_list 0 1 1 (0x02 ∷ 0 ∷ 0 ∷ 0 ∷ [])) }

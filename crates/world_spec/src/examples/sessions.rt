@@ -42,7 +42,7 @@ fn sessions_get_a_number()
 
 // The 65th session is refused, after its parameters were read and tested; over a device of 16
 // sessions the 17th is, whatever numbers these have.
-#[tactic(auto, unfolding(tab_spec::specs::Auths::auths_of, tab_spec::specs::Admission::admitted, effect_spec::specs::Effect::effect_of, crate::specs::World::client_step, crate::specs::World::plain_step))]
+#[tactic(auto, unfolding(crate::proofs::Computing::steps))]
 fn sessions_are_bounded()
     ensures too_many { plain_step (world_of_sessions 0 (taken_numbers 64)) 0
         (start_session 1) Nothing
@@ -61,7 +61,7 @@ fn sessions_are_bounded()
 {}
 
 // A client names its own sessions, by the handle that it was told.
-#[tactic(auto, unfolding(tab_spec::specs::Auths::auths_of, tab_spec::specs::Admission::admitted, effect_spec::specs::Effect::effect_of, crate::specs::World::client_step, crate::specs::World::plain_step))]
+#[tactic(auto, unfolding(crate::proofs::Computing::steps))]
 fn clients_name_their_own_sessions()
     ensures own { plain_step (world_of_sessions 0 (taken_numbers 1)) 1
         (get_digest 0x03000000) Nothing

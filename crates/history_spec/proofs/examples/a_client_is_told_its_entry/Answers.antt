@@ -1,26 +1,9 @@
-use Rattle.std.proofs.Common.{◌≡◌, [], refl, inl, inr, arith}
-use Rattle.std.specs.Prelude.{◌⊎◌, true}
-use Rattle.tab_spec.specs.Shape.{makes_object, shape_of}
-use Rattle.tab_spec.specs.declared.contexts.TheConstants.{PROFILE_CONTEXTS}
-use Rattle.history_spec.specs.Told.{IsToldFull, IsToldMemory}
-use Rattle.history_spec.specs.Examples.{eight_reply, four_reply, full_reply, get_random, memory_reply, two_clients, load_st_clear}
-use Rattle.history_spec.specs.Entry.{part_before}
+use Rattle.std.proofs.Common.{◌≡◌, [], refl}
+use Rattle.history_spec.specs.Examples.{eight_reply, four_reply, memory_reply}
 use Rattle.history_spec.proofs.examples.a_client_is_told_its_entry.Goals as goal
 
 pub returns-clause-entry : goal.returns-clause-entry
 returns-clause-entry c = record { command_is = refl; reply_is = refl }
-
-pub returns-clause-no_entry : goal.returns-clause-no_entry
-unfolding shape_of
-returns-clause-no_entry c = inl (record { reply_is = refl; makes = refl })
-
-told_no_memory : IsToldMemory PROFILE_CONTEXTS (get_random 4) memory_reply ⊎ IsToldFull 538 (part_before 0 3 two_clients) (get_random 4) memory_reply → ⊥
-unfolding shape_of
-told_no_memory (inl memory) = let makes : makes_object PROFILE_CONTEXTS (get_random 4) ≡ true = memory.makes in absurd (cc makes)
-told_no_memory (inr full) = let same : memory_reply ≡ full_reply = full.reply_is in absurd (cc same)
-
-pub returns-clause-makes_none : goal.returns-clause-makes_none
-returns-clause-makes_none c = told_no_memory
 
 pub returns-clause-other : goal.returns-clause-other
 returns-clause-other c = λ told. let same : four_reply ≡ memory_reply = told.reply_is in absurd (cc same)
@@ -28,28 +11,3 @@ returns-clause-other c = λ told. let same : four_reply ≡ memory_reply = told.
 pub returns-clause-in_order : goal.returns-clause-in_order
 returns-clause-in_order c =
     (eight_reply, four_reply, refl, record { command_is = refl; reply_is = refl }, (four_reply, [], refl, record { command_is = refl; reply_is = refl }, refl))
-
-pub returns-clause-full : goal.returns-clause-full
-returns-clause-full c = inr (record { reply_is = refl; lacks = omega arith })
-
-not_full : IsToldMemory PROFILE_CONTEXTS (get_random 4) full_reply ⊎ IsToldFull 4710 (part_before 0 3 two_clients) (get_random 4) full_reply → ⊥
-not_full (inl memory) = let same : full_reply ≡ memory_reply = memory.reply_is in absurd (cc same)
-not_full (inr told) = absurd (omega (arith, told.lacks))
-
-pub returns-clause-not_full : goal.returns-clause-not_full
-returns-clause-not_full c = not_full
-
-pub returns-clause-full_before : goal.returns-clause-full_before
-returns-clause-full_before c = refl
-
-no_object : IsToldMemory PROFILE_CONTEXTS load_st_clear memory_reply ⊎ IsToldFull 538 (part_before 0 3 two_clients) load_st_clear memory_reply → ⊥
-unfolding shape_of
-no_object (inl memory) = let makes : makes_object PROFILE_CONTEXTS load_st_clear ≡ true = memory.makes in absurd (cc makes)
-no_object (inr full) = let same : memory_reply ≡ full_reply = full.reply_is in absurd (cc same)
-
-pub returns-clause-no_object : goal.returns-clause-no_object
-returns-clause-no_object c = no_object
-
-pub returns-clause-tpm : goal.returns-clause-tpm
-unfolding shape_of
-returns-clause-tpm c = inl (record { reply_is = refl; makes = refl })
