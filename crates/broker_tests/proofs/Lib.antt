@@ -1,4 +1,5 @@
 mod AtBase
+pub mod Computing
 mod Driving
 mod Full
 mod Saved

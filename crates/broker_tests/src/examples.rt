@@ -96,9 +96,9 @@ fn contexts_are_given_back()
         (Some (record handed_session { handed = None })) }
 {}
 
-// A session that its client left is nobody's, and no orphan: it counts as active. Whoever gives back
-// its context gets it, and has it in use.
-#[tactic(auto, unfolding(client_machine::specs::Listing::sessions_had, effect_spec::specs::Capabilities::from_number, effect_spec::specs::Capabilities::property_items))]
+// A session that its client left is nobody's, and no orphan: it counts as active. Whoever gives
+// back its context gets it, and has it in use.
+#[tactic(auto, unfolding(crate::proofs::Computing::lists))]
 fn left_sessions_are_taken_up()
     ensures held { owned_handles left_sessions
         ≡ Some (None, 0x02000000, Some first_context) ∷ None ∷ [] }
@@ -122,7 +122,7 @@ fn left_sessions_are_taken_up()
 
 // The lists of GetCapability, with the bytes of Part 2, "TPML_HANDLE" and
 // "TPML_TAGGED_TPM_PROPERTY".
-#[tactic(auto, unfolding(client_machine::specs::Listing::sessions_had, effect_spec::specs::Capabilities::from_number, effect_spec::specs::Capabilities::property_items))]
+#[tactic(auto, unfolding(crate::proofs::Computing::lists))]
 fn a_client_is_told_what_it_has()
     ensures objects { own_capability (zero_persist 0) 0 first_table
         (held_with [] two_sessions).sessions (asked 1 0x80000000 8)

@@ -33,12 +33,12 @@ const NO_POLICY: [u8; 44] = [
 const DIGESTS: u16 = 4800;
 
 // The digests, counted from 1, for which an old context is renewed. Five sessions on three places:
-// the fourth start saves the first session as number 0, and the fifth start the second one as number
-// 1. From then on each digest saves one session and loads another. So the third digest saves the
-// fifth session as number 4, where it stays, and behind the digest N the next number is N + 2. It is
-// 392 above 4 behind digest 394. A renewed context is the second one that is made for its digest:
-// behind digest 395 it has number 397, and the next one is 398. From there it takes 391 digests until
-// the next number is 392 above it.
+// the fourth start saves the first session as number 0, and the fifth start the second one as
+// number 1. From then on each digest saves one session and loads another. So the third digest saves
+// the fifth session as number 4, where it stays, and behind the digest N the next number is N + 2.
+// It is 392 above 4 behind digest 394. A renewed context is the second one that is made for its
+// digest: behind digest 395 it has number 397, and the next one is 398. From there it takes 391
+// digests until the next number is 392 above it.
 const RENEWALS: [u16; 12] = [
     395, 787, 1179, 1571, 1963, 2355, 2747, 3139, 3531, 3923, 4315, 4707,
 ];
@@ -55,8 +55,8 @@ fn starts_five(pair: &mut Pair) -> bool {
 }
 
 // Whether the first four sessions are asked for their digests in turn. For each digest one session
-// is saved, another one loaded, and the command sent. If a renewal is due, one session is saved, the
-// fifth loaded and saved again, the one that is asked loaded, and the command sent.
+// is saved, another one loaded, and the command sent. If a renewal is due, one session is saved,
+// the fifth loaded and saved again, the one that is asked loaded, and the command sent.
 fn asks_in_turn(pair: &mut Pair) -> bool {
     for digest in 1..=DIGESTS {
         let count = if RENEWALS.contains(&digest) { 5 } else { 3 };

@@ -2,11 +2,11 @@
 //! it waiting, and a helper in a thread of its own, which does it where something may. Over a
 //! socket and with an open gate the reader does all, and no helper is made.
 //!
-//! No message is left lying. The reader counts a message before it sends it, and it is taken off the
-//! count once its reply is written. If the reader counted others before it and hasn't the duty, the
-//! helper is still at work and takes this one too. If it counted none, the duty is home or on its
-//! way, and the reader waits for it. A helper that finds the line empty looks again: the reader has
-//! counted and not sent yet. The helper brings the duty home when it takes off the last one.
+//! No message is left lying. The reader counts a message before it sends it, and it is taken off
+//! the count once its reply is written. If the reader counted others before it and hasn't the duty,
+//! the helper is still at work and takes this one too. If it counted none, the duty is home or on
+//! its way, and the reader waits for it. A helper that finds the line empty looks again: the reader
+//! has counted and not sent yet. The helper brings the duty home when it takes off the last one.
 ghost use Rattle.std.specs.Prelude.{◌≡◌, ◌<◌, length, IfOk};
 ghost use Rattle.tab_spec.specs.Count.{largest_count};
 ghost use Rattle.crossbeam_channel.specs.Claims.{view};

@@ -1,7 +1,7 @@
 //! Which responses a broker takes as the answer to a command that it sent.
 
-ghost use Rattle.std.specs.Prelude.{◌==◌, ◌||◌, ◌+◌, ◌*◌, not, if◌then◌else◌, ◌≡◌, ◌≤◌, drop, IsTrue};
-ghost use Rattle.std.specs.Prelude.{true, length};
+ghost use Rattle.std.specs.Prelude.{◌==◌, ◌||◌, ◌+◌, ◌*◌, not, if◌then◌else◌, ◌≡◌, ◌≤◌, drop};
+ghost use Rattle.std.specs.Prelude.{IsTrue, true, length};
 ghost use Rattle.std.specs.Prelude.{false, Ok, Err, MatchResult, MatchOption};
 ghost use Rattle.std.specs.List.{list_all};
 ghost use Rattle.tab_spec.specs.declared.TheConstants.{CC_CONTEXT_SAVE, ST_SESSIONS};
@@ -67,8 +67,8 @@ pub fn word_at(bytes: &[u8], at: usize) -> Option<u32>
 // Where savedHandle stands in ContextLoad (Part 2, "TPMS_CONTEXT").
 const SAVED_HANDLE_PLACE: usize = HEADER_BYTES as usize + 8;
 
-// Where the count of a list of handles stands in a response, behind moreData and the capability, and
-// where the first handle does.
+// Where the count of a list of handles stands in a response, behind moreData and the capability,
+// and where the first handle does.
 const COUNT_PLACE: usize = HEADER_BYTES as usize + 5;
 
 const LIST_PLACE: usize = HEADER_BYTES as usize + 9;

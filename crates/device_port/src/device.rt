@@ -25,7 +25,8 @@ pub trait Device {
     const CONTEXTS: ContextLimits;
 
     /// Sends one whole command, and writes the response over whatever `reply` holds. `DeviceFailed`
-    /// comes only where the fault count rose. Then `reply` is empty, and a state that is shown stays.
+    /// comes only where the fault count rose. Then `reply` is empty, and a state that is shown
+    /// stays.
     fn transmit(&mut self, command: &[u8], reply: &mut Buffer) -> Result<(), DeviceFailed>
         requires { IsTrue (is_frame command.now) }
         ensures { Transmits (seen self.old) command.now result reply.new (seen self.new) };

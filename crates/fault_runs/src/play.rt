@@ -58,8 +58,8 @@ pub fn play<W: Write>(alloc: Global, script: &Script, output: &mut W) -> anyhow:
     }
 }
 
-// A device of this seed and these numbers, which fails at these transmissions. A broker may begin on
-// it.
+// A device of this seed and these numbers, which fails at these transmissions. A broker may begin
+// on it.
 fn device_of(
     alloc: Global,
     seed: [u8; 32],

@@ -59,8 +59,8 @@ pub fn capability<H: Holdings>(
 }
 
 /// Answers GetCapability for a client from what it has: its objects, its sessions and its
-/// properties. `active` is how many sessions clients have or left, and `most` how many of both there
-/// may be. Any other list is the same for all, and the device's.
+/// properties. `active` is how many sessions clients have or left, and `most` how many of both
+/// there may be. Any other list is the same for all, and the device's.
 pub fn client_capability<H: Holdings>(
     held: &H,
     active: u32,

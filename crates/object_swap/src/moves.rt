@@ -31,7 +31,8 @@ pub fn save<D: Device>(
     ensures kept { OnOk result (IsContext D.CONTEXTS context.new.items
         × IsLastContext (last_of (D.seen device.new)) context.new.items) }
     ensures room { D.CONTEXTS.object_bytes ≤ vec_capacity context.new }
-    ensures asks { Asks D.CONTEXTS D.seen device.old device.new (context_save_command handle) result }
+    ensures asks { Asks D.CONTEXTS D.seen device.old device.new (context_save_command handle)
+        result }
 {
     let command = command_of(CC_CONTEXT_SAVE, &handle.to_be_bytes());
     ask(device, command.as_slice(), scratch)?;

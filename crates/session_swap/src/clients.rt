@@ -42,7 +42,8 @@ pub fn save_for_client<D: Device>(
         → Ready D.CONTEXTS (D.seen device.old).state numbers records.old next.old others
         → Ready D.CONTEXTS (D.seen device.new).state numbers records.new next.new others }
     ensures keeps { KeepsRest D.seen device.old device.new × HasGapRoom (D.seen device.new).state }
-    ensures asks { Asks D.CONTEXTS D.seen device.old device.new (context_save_command handle) result }
+    ensures asks { Asks D.CONTEXTS D.seen device.old device.new (context_save_command handle)
+        result }
 {
     let number = number_of(handle);
     put_out(records, next, number, device, reply)?;

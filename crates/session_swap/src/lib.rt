@@ -1,7 +1,7 @@
 //! The sessions of all clients: more of them than a device has places for loaded ones. Each is
 //! loaded, or saved in a context that the device made of it (Part 1, "Session Context Management").
-//! A client may save one of its own, and use it again once it gives the context back. Such a session
-//! may outlive its client: it is left then, and whoever gives the context back gets it.
+//! A client may save one of its own, and use it again once it gives the context back. Such a
+//! session may outlive its client: it is left then, and whoever gives the context back gets it.
 #![tactic(auto)]
 
 mod clients;

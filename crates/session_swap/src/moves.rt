@@ -37,7 +37,8 @@ pub fn save<D: Device>(
     ensures saved { IfOk result (λ number. SavesIn D.CONTEXTS
         (D.seen device.old) (D.seen device.new) handle number context.new.items scratch.new) }
     ensures room { D.CONTEXTS.session_bytes ≤ vec_capacity context.new }
-    ensures asks { Asks D.CONTEXTS D.seen device.old device.new (context_save_command handle) result }
+    ensures asks { Asks D.CONTEXTS D.seen device.old device.new (context_save_command handle)
+        result }
 {
     let command = command_of(CC_CONTEXT_SAVE, &handle.to_be_bytes());
     ask(device, command.as_slice(), scratch)?;

@@ -49,8 +49,8 @@ pub struct Ran<D: Device, A: Acceptor> {
 /// acceptor, this gate, this input and this output. Words of `serve` use the acceptor and the gate,
 /// and those of `run` the input. For `serve` one broker with one journal stands behind all
 /// connections, of which at most 256 are served at once, each by a thread of its own where one can
-/// be made. In the end all clients are closed, and of what they had the device holds nothing but the
-/// sessions that they saved and left, at most eight, and what couldn't be flushed.
+/// be made. In the end all clients are closed, and of what they had the device holds nothing but
+/// the sessions that they saved and left, at most eight, and what couldn't be flushed.
 pub fn tabrmd<
     D: Device + Send,
     A: Acceptor + Send,

@@ -5,3 +5,4 @@ pub mod CommandBytes
 pub mod GoodLines
 pub mod Telling
 pub mod Few
+pub mod Row

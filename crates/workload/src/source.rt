@@ -91,7 +91,7 @@ fn next_line(words: &mut ChaCha8Rng) -> SmallBytes<133>
 }
 
 // The line of three words.
-#[tactic(auto, using(std::proofs::lemmas::Fmt::decimal_digit), unfolding(script_spec::specs::Workload::line_of_words))]
+#[tactic(auto, using(std::proofs::lemmas::Fmt::decimal_digit), unfolding(crate::proofs::Row::line))]
 fn line_of(a: u32, b: u32, c: u32) -> SmallBytes<133>
     ensures line { result ≡ line_of_words a b c }
     ensures some { 0 < length result }
