@@ -85,6 +85,8 @@ const REFUSED: &str = "\
     workload|D\n\
     serve|D\n\
     check|D\n\
+    check|--device|tpm:/a\n\
+    check|--device=unix:/a\n\
     D\n\
     D|run\n\
     --device|M|run\n\
