@@ -37,7 +37,7 @@ use Rattle.world_laws.proofs.Histories.{each-weaker}
 use Rattle.history_laws.proofs.Tables.{held_all, mapped}
 use Rattle.client_machine.specs.declared.held.Held.{Held}
 use Rattle.client_machine.specs.Costs.{SendsUpTo, StaysIn, new_bound, places_of, renewal_bound}
-use Rattle.client_machine.specs.Moves.{Adopts, AreTaken, CarriesOut, CountsOnBy, FailsAtLast, GainsNone, HasRoomFor, IsAtHand, IsCalm, IsPrepared, IsSent, IsTaken, KeepsOwners, MayAdopt, MayMove, MayStart, Moves, Prepares, Ran, Serves, StaysAs, StepsAs, UsesNamed, any_client, order_after, order_made, client_reply, first_handle, loads_kept, number_taken, other_than, pick_of, saved_list_after, saved_number, saves_one, saves_session, sessions_held_after, told_handle, SentBefore}
+use Rattle.client_machine.specs.Moves.{Adopts, AreTaken, CarriesOut, CountsOnBy, FailsAtLast, GainsNone, HasRoomFor, IsAtHand, IsCalm, IsPrepared, IsSent, IsTaken, KeepsOwners, MayAdopt, MayMove, MayStart, Moves, Prepares, Ran, Serves, StaysAs, StepsAs, UsesNamed, any_client, order_after, order_made, client_reply, first_handle, loads_kept, number_taken, objects_told, other_than, pick_of, saved_list_after, saved_number, saves_one, saves_session, sessions_held_after, told_handle, SentBefore}
 use Rattle.client_machine.specs.Settled.{AreBelow, Sequences, Settled, call_contexts, orphan_count}
 use Rattle.client_machine.specs.Tables.{AreOpenOwners, IsOpenOwner, IsPlaceOf, IsPlaced, IsTable, OwnedHandle, device_handle, handle_or, is_open, objects_in, owned_handles, place_object, slot_handle, table_with, tables_seen, with_owner}
 use Rattle.client_machine.proofs.Adopting.{adopted_gained, adopted_item, adopted_length, adopted_loads, adopted_new, adopted_others, adopted_table}
@@ -51,7 +51,7 @@ use Rattle.client_machine.proofs.Prepared.{counts_then}
 use Rattle.client_machine.proofs.PreparedSessions.{owner_kept}
 use Rattle.client_machine.proofs.Sending.{taken_more, taken_right}
 use Rattle.client_machine.proofs.Started.{none_told}
-use Rattle.client_machine.proofs.Staying.{KeepsLoaded, KeepsResidents, loaded_after, residents_same, residents_with, stays_over}
+use Rattle.client_machine.proofs.Staying.{KeepsLoaded, KeepsResidents, loaded_after, one_resident_more, residents_same, residents_with, stays_over}
 use Rattle.client_machine.proofs.Keeping.{IsProfile}
 
 some_of : {A : Type 0} (x : Option A) → is_some x ≡ true → (y : A) × (x ≡ Some y)
@@ -747,6 +747,36 @@ ran_steps {seen = seen} {old = old} {between = between} {client = client} {table
           ∙ done.2,
     )
 
+-- where the command needs a slot, one is free
+slot_spare : {contexts : ContextLimits} {D : Type 0} {seen : D → Seen} {old between : D} {held mid : Held}
+    {client : ℕ} {table : List (Option ℕ)} {a : Admitted} {bytes command : List ℕ}
+    → Prepared contexts seen old between held mid client table a bytes command → needs_slot contexts a.shape bytes ≡ true
+    → objects.residents mid.objects.items + length mid.objects.left < mid.objects.slots
+slot_spare p needs = omega (arith, (p.ready.free needs).1, p.ready.nobodys)
+
+told_one : (a : Admitted) (answer : List ℕ) → tells_object a answer ≡ true → objects_told a answer ≡ 1
+told_one a answer tells = ap {B = ℕ} (λ (told : Bool). if told then 1 else 0) tells
+
+-- and without the object that it made there is room for one more
+spare_then : {contexts : ContextLimits} {D : Type 0} {seen : D → Seen} {old between : D} {held mid : Held}
+    {client : ℕ} {table new_table : List (Option ℕ)} {a : Admitted} {bytes command : List ℕ} {new_items : List Item} (reply : List ℕ)
+    → Prepared contexts seen old between held mid client table a bytes command → tells_object a reply ≡ true
+    → Adopts client (told_handle reply) mid.objects.items new_items table new_table → needs_slot contexts a.shape bytes ≡ true
+    → objects.residents new_items + length mid.objects.left < mid.objects.slots + objects_told a reply
+spare_then {mid = mid} {client = client} {a = a} {new_items = new_items} reply p tells adopts needs =
+    omega (
+      arith,
+      slot_spare p needs,
+      told_one a reply tells,
+      one_resident_more mid.objects.items new_items adopts.item (new_item client (told_handle reply - TRANSIENT_FIRST)) adopts.items_are,
+    )
+
+pub spare_else : {contexts : ContextLimits} {D : Type 0} {seen : D → Seen} {old between : D} {held mid : Held}
+    {client : ℕ} {table : List (Option ℕ)} {a : Admitted} {bytes command : List ℕ} (reply : List ℕ)
+    → Prepared contexts seen old between held mid client table a bytes command → needs_slot contexts a.shape bytes ≡ true
+    → objects.residents mid.objects.items + length mid.objects.left < mid.objects.slots + objects_told a reply
+spare_else reply p needs = omega (arith, slot_spare p needs)
+
 pub may_adopt : {contexts : ContextLimits} {D : Type 0} {seen : D → Seen} {old between new : D} {held mid : Held}
     {client : ℕ} {table : List (Option ℕ)} {a : Admitted} {bytes command reply : List ℕ} (spare : ℕ)
     → Prepared contexts seen old between held mid client table a bytes command → IsTaken contexts seen between new mid command reply
@@ -759,7 +789,7 @@ may_adopt {contexts = contexts} {mid = mid} {client = client} {table = table} {a
     (ap (λ (command : List ℕ). takes contexts false is_taken command reply) (sym p.ready.written) ∙ taken_unkept sent) tells in
     record {
       vacant = p.prepares.vacant (room makes).1;
-      slot = omega (arith, (p.ready.free (made_needs contexts a bytes makes)).1, p.ready.nobodys);
+      slot = slot_spare p (made_needs contexts a bytes makes);
       room = (room makes).0;
       few = not_full _ client table mid.sessions.items bytes a p.admitted makes;
       long = told.0;
@@ -815,6 +845,7 @@ ran_then {contexts = contexts} {between = between} {new = new} {held = held} {mi
       item = adopts.item;
       table_is = adopts.table_is ∙ table_told table adopts.item a reply tells;
       object_is = λ told. adopted_new adopts;
+      spare = λ needs. spare_then reply p tells adopts needs;
       taken = subst
           (λ (command : List ℕ). takes contexts (loads_kept new_items command) (number_taken (record held.sessions { items = mid.sessions.items }) reply) command reply ≡ true)
           (sym sent.sent.asked_is)
@@ -855,6 +886,7 @@ ran_else {contexts = contexts} {between = between} {new = new} {held = held} {mi
   item = 0;
   table_is = table_plain table 0 a reply plain;
   object_is = λ told. absurd (true≢false (sym told ∙ plain));
+  spare = λ needs. spare_else reply p needs;
   taken = subst
       (λ (command : List ℕ).
       takes contexts (loads_kept mid.objects.items command) (number_taken (record held.sessions { items = mid.sessions.items }) reply) command reply ≡ true)

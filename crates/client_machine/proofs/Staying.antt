@@ -43,6 +43,11 @@ count_one_less p [] n y = omega arith
 count_one_less p (x ∷ xs) zero y = omega (arith, count_cons p x xs, count_cons p y xs, flag_most (p x))
 count_one_less p (x ∷ xs) (suc n) y = omega (arith, count_cons p x xs, count_cons p x (set xs n y), count_one_less p xs n y)
 
+count_one_more : {X : Type 0} (p : X → Bool) (xs : List X) (n : ℕ) (y : X) → count_by p (set xs n y) ≤ count_by p xs + 1
+count_one_more p [] n y = omega arith
+count_one_more p (x ∷ xs) zero y = omega (arith, count_cons p x xs, count_cons p y xs, flag_most (p y))
+count_one_more p (x ∷ xs) (suc n) y = omega (arith, count_cons p x xs, count_cons p x (set xs n y), count_one_more p xs n y)
+
 -- ---- what is gone
 
 -- one object, or one session
@@ -189,6 +194,10 @@ residents_with items new_items n item are is = record {
       ];
   count = omega (arith, ap residents are, count_no_less is_resident items n item is);
 }
+
+-- and there is no more than one more
+pub one_resident_more : (items new_items : List Item) (n : ℕ) (item : Item) → new_items ≡ set items n item → residents new_items ≤ residents items + 1
+one_resident_more items new_items n item are = omega (arith, ap residents are, count_one_more is_resident items n item)
 
 -- the loaded sessions: each stays so, or is gone, or is the one that was saved for its client. Where no more than so many places were
 -- free, no more than one is

@@ -510,6 +510,10 @@ pub record MakesReady {D A : Type 0} (contexts : ContextLimits) (seen : D → Se
   pub asks : AsksSome contexts seen old new result
   pub before : OnOk result (SentBefore contexts seen nobodys old new)
 
+-- how many objects a response tells: a new one, or none
+abbrev pub objects_told : Admitted → List ℕ → ℕ
+objects_told a answer = if tells_object a answer then 1 else 0
+
 -- The command was the last that was sent, and once, over the slot of its object and the handles of its sessions, which were loaded.
 -- What came back is the reply, and the client has a new object or session where that tells one, or a saved session where that has its
 -- context. What was sent before it are commands of the broker's own: first the flushes of orphans. Each was answered. Whose
@@ -533,6 +537,9 @@ pub record Ran {D : Type 0} (contexts : ContextLimits) (seen : D → Seen) (clie
   -- a new object is in the slot that the response tells
   pub object_is : tells_object a answer ≡ true
       → item_at new_held.objects.items item ≡ new_item client (told_handle answer - TRANSIENT_FIRST)
+  -- where it needs a slot, one was free when it was sent: without what it made there is room for one object more
+  pub spare : needs_slot contexts a.shape bytes ≡ true
+      → objects.residents new_held.objects.items + length new_held.objects.left < new_held.objects.slots + objects_told a answer
   -- the broker takes it, by what it held: whether a context that the command loads is kept, and whether no new session can have the handle
   pub taken : takes contexts (loads_kept new_held.objects.items (asked_of (seen new))) (number_taken (record held.sessions { items = mid }) answer) (asked_of (seen new)) answer ≡ true
   pub sessions_are : new_held.sessions.items ≡ sessions_held_after client a answer mid
