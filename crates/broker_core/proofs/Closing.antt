@@ -124,6 +124,12 @@ list_closed {contexts = contexts} seen {device = device} {new = new} {held = hel
     holds_closed seen client failed h none opened
     (subst (λ (l : ℕ). Drops contexts seen client device new held new_held (set held.objects.owners l None) failed) is drops) empty unowned
 
+-- no more are left than may be
+pub still_few : {contexts : ContextLimits} {began : ℕ} {seen : Seen} {history : Entries} {limit : ℕ} {tables : List (List (Option ℕ))} {lists : List ℕ}
+    {held : Held} {present : ℕ} {wrong_code : Option ℕ} → Holds contexts began seen history limit tables lists held present wrong_code
+    → is_some wrong_code ≡ false → length held.sessions.left ≤ leave_limit held.sessions.numbers.active
+still_few {wrong_code = wrong_code} h none = (h.objects (none_is wrong_code none)).left_few
+
 -- to whose flush a wrong answer came
 pub holds_closed_wrong : {contexts : ContextLimits} {began : ℕ} {seen new_seen : Seen} {history : Entries} {limit : ℕ}
     {tables : List (List (Option ℕ))} {lists : List ℕ} {held new_held : Held} {present : ℕ} {wrong_code : Option ℕ} (client code : ℕ)

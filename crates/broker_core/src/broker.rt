@@ -9,7 +9,7 @@ ghost use Rattle.device_spec.specs.Answers.{IsWrongAnswer};
 ghost use Rattle.device_port.specs.Device.{asked_of, last_of, sent_of};
 ghost use Rattle.device_start.specs.Start.{ClearedIf, HoldsNoMoreIf, IsStarted};
 ghost use Rattle.session_swap.specs.Items.{no_items};
-ghost use Rattle.client_machine.specs.Dropping.{AreLeftByFaults, KeepsOthers, SendsFlushes};
+ghost use Rattle.client_machine.specs.Dropping.{AreLeftByFaults, SendsFlushes};
 ghost use Rattle.client_machine.specs.Settled.{orphan_count};
 ghost use Rattle.history_spec.specs.declared.TheConstants.{ENTRY_BYTES, SILENT_LIMIT};
 ghost use Rattle.history_spec.specs.Entry.{open_entry, close_entry, canceled_entry, command_entry};
@@ -22,8 +22,8 @@ ghost use Rattle.broker_lock.specs.declared.calls.OpenClientError.TheVariants as
 ghost use Rattle.broker_lock.specs.declared.calls.Told.TheVariants as tolds;
 ghost use Rattle.broker_lock.specs.declared.calls.Closed.TheVariants as closes;
 ghost use Rattle.broker_core.specs.Broker.{AnswersHold, AreWhole, Costs, FaultsCounted};
-ghost use Rattle.broker_core.specs.Broker.{HasCause, HoldsLeft, IsAtBase, IsReadyFor, StandsFor};
-ghost use Rattle.broker_core.specs.Broker.{Tells, TellsCanceled, TellsLeft, TellsNoRoom};
+ghost use Rattle.broker_core.specs.Broker.{HasCause, HoldsLeft, IsAtBase, IsReadyFor, LeavesSessions};
+ghost use Rattle.broker_core.specs.Broker.{StandsFor, Tells, TellsCanceled, TellsLeft, TellsNoRoom};
 ghost use Rattle.broker_core.specs.Tables.{AddsList, with_owners};
 ghost use Rattle.client_machine.specs.Costs.{SendsUpTo, close_bound, own_objects};
 ghost use Rattle.client_machine.specs.Moves as moves;
@@ -510,9 +510,8 @@ impl<D: Device> Broker<D> {
         // No more orphans are added than transmissions failed.
         ensures more { AreLeftByFaults (orphan_count self.old.held) (D.seen self.old.device).faults
             (orphan_count self.new.held) (D.seen self.new.device).faults }
-        // The sessions of other clients stay where they are.
-        ensures others { KeepsOthers client self.old.held.sessions.items
-            self.new.held.sessions.items }
+        // The sessions of other clients stay where they are, and those that it saved are left.
+        ensures sessions { LeavesSessions client result self.old.held self.new.held }
         ensures keeps { Keeps D.seen self.old.device self.new.device }
         ensures costs { SendsUpTo D.seen (close_bound client self.old.held)
             self.old.device self.new.device }
@@ -541,9 +540,8 @@ impl<D: Device> Broker<D> {
         // No more orphans are added than transmissions failed.
         ensures more { AreLeftByFaults (orphan_count self.old.held) (D.seen self.old.device).faults
             (orphan_count self.new.held) (D.seen self.new.device).faults }
-        // The sessions of other clients stay where they are.
-        ensures others { KeepsOthers client self.old.held.sessions.items
-            self.new.held.sessions.items }
+        // The sessions of other clients stay where they are, and those that it saved are left.
+        ensures sessions { LeavesSessions client result self.old.held self.new.held }
         ensures keeps { Keeps D.seen self.old.device self.new.device
             × (self.new.began ≡ self.old.began) × (self.new.limit ≡ self.old.limit)
             × (self.new.held.sessions.numbers ≡ self.old.held.sessions.numbers) }
@@ -637,9 +635,8 @@ impl<D: Device> Broker<D> {
         // No more orphans are added than transmissions failed.
         ensures more { AreLeftByFaults (orphan_count self.old.held) (D.seen self.old.device).faults
             (orphan_count self.new.held) (D.seen self.new.device).faults }
-        // The sessions of other clients stay where they are.
-        ensures others { KeepsOthers client self.old.held.sessions.items
-            self.new.held.sessions.items }
+        // The sessions of other clients stay where they are, and those that it saved are left.
+        ensures sessions { LeavesSessions client result self.old.held self.new.held }
         ensures keeps { Keeps D.seen self.old.device self.new.device
             × (self.new.began ≡ self.old.began) × (self.new.limit ≡ self.old.limit)
             × (self.new.held.sessions.numbers ≡ self.old.held.sessions.numbers) }

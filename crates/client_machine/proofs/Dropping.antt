@@ -339,6 +339,7 @@ dropped {contexts = contexts} seen client old new held new_view item d at settle
           (subst (λ (l : List Item). objects_of (seen new).state l ≡ without_object item (objects_of (seen old).state items)) d.items_are d.objects));
       lists = d.owners;
       closes = sessions_unmoved client (seen old).state (seen new).state held.sessions d.rest.rest;
+      leaves = refl;
       few_left = λ few. few;
       owners = λ present owners. owners;
       persist = persist_over_objects (seen old).state (seen new).state d.rest.rest;
@@ -390,6 +391,7 @@ left {contexts = contexts} seen client old new held new_view item slot view_is s
           (left_others (seen old).state (seen new).state items client item at.own same);
       lists = ap (λ (v : ObjectsView). v.owners) view_is;
       closes = sessions_unmoved client (seen old).state (seen new).state held.sessions rest.rest;
+      leaves = refl;
       few_left = λ few. few;
       owners = λ present owners. owners;
       persist = persist_over_objects (seen old).state (seen new).state rest.rest;
@@ -416,6 +418,7 @@ drops_none seen client old held settled = record {
   other_objects = objects_same (other_than client) (seen old).state held.objects.items;
   lists = refl;
   closes = closes_same client held.sessions.numbers.active (seen old).state held.sessions.items held.sessions.left;
+  leaves = refl;
   few_left = λ few. few;
   owners = λ present owners. owners;
   persist = persist_same (seen old).state;
@@ -450,6 +453,7 @@ drops_then {contexts = contexts} {D = D} seen client old middle new held between
   closes = closes_then client held.sessions.numbers.active between.sessions.numbers.active (seen old).state (seen middle).state (seen new).state
       held.sessions.items between.sessions.items new_held.sessions.items held.sessions.left between.sessions.left new_held.sessions.left
       first.keeps.tells (ap (λ (n : Numbers). n.active) first.numbers) first.closes second.closes;
+  leaves = second.leaves ∙ first.leaves;
   few_left = λ few. few_then (ap (λ (n : Numbers). n.active) first.numbers) (first.few_left few) second.few_left;
   owners = λ present owners. second.owners present (first.owners present owners);
   persist = persist_then (seen old).state (seen middle).state (seen new).state first.keeps.tells first.persist second.persist;
@@ -485,6 +489,7 @@ drops_ended {contexts = contexts} seen client old new held new_held view list n 
       other_objects = drops.other_objects;
       lists = ap (λ (owners : List (Option ℕ)). set owners list None) drops.lists;
       closes = drops.closes;
+      leaves = drops.leaves;
       few_left = drops.few_left;
       owners = drops.owners;
       persist = drops.persist;

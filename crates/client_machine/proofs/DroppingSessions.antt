@@ -17,7 +17,7 @@ use Rattle.session_swap.proofs.Among.{named_inside, named_some}
 use Rattle.session_swap.proofs.Counts.{count_set, flag_false, flag_most}
 use Rattle.session_swap.proofs.Standing.{stands_behind, stands_disowned}
 use Rattle.client_machine.specs.declared.held.Held.{Held}
-use Rattle.client_machine.specs.Dropping.{AreLeftByFaults, Disowns, Drops, IsDropped}
+use Rattle.client_machine.specs.Dropping.{AreLeftByFaults, Disowns, Drops, IsDropped, left_after}
 use Rattle.client_machine.specs.Moves.{other_than}
 use Rattle.client_machine.specs.Settled.{Settled, orphan_count, sessions_in}
 use Rattle.client_machine.specs.Tables.{AreOpenOwners}
@@ -25,7 +25,8 @@ use Rattle.world_spec.specs.World.{Owned, closed_sessions}
 use Rattle.client_machine.proofs.Disowning.{behind_owners, ended_in, ended_owners, orphaned_in, orphaned_owners, orphans_more, orphans_same}
 use Rattle.client_machine.proofs.Dropping.{leaves_same}
 use Rattle.client_machine.proofs.Keeping.{Forgets, counted_once, owners_same, right_none, right_of}
-use Rattle.client_machine.proofs.Leaving.{IsGoing, IsLeaving, behind_held, left_closes, one_fewer, owned_held, saved_owner, shorter}
+use Rattle.client_machine.proofs.Leaving.{IsGoing, IsLeaving, behind_held, left_closes, one_fewer, left_leaves, owned_held, saved_owner, shorter}
+use Rattle.client_machine.proofs.LeftOnes.{disowned_unsaved, left_of}
 use Rattle.client_machine.proofs.Prepared.{counts_same}
 use Rattle.client_machine.proofs.Settling.{keeps_over_sessions, object_counter_over_sessions, objects_over_sessions, persist_over_sessions, settled_at, settled_over_sessions}
 
@@ -98,6 +99,7 @@ ended {contexts = contexts} seen client old new held new_view n e going settled 
           ∙ ap (λ (l : List (Option Owned)). closed_sessions client active l (without_one n held.sessions.left))
           (ended_in (seen old).state (seen new).state items n slots after same is_old is_new)
           ∙ going.closes slots;
+      leaves = (λ i. left_of client (e.numbers i).active (e.items_are i) (e.left_is i)) ∙ going.leaves None refl;
       few_left = λ few. omega (arith, few, f.left);
       owners = f.owners;
       persist = f.persist;
@@ -152,6 +154,7 @@ orphaned {contexts = contexts} seen client old new held new_view handle view_is 
           ∙ ap (λ (l : List (Option Owned)). closed_sessions client active l (without_one n held.sessions.left))
           (orphaned_in (seen old).state (seen new).state items n slots after same is_old is_new)
           ∙ going.closes slots;
+      leaves = ap (left_after client) view_is ∙ going.leaves (disowned (item_at items n)) (disowned_unsaved client (item_at items n));
       few_left = λ few. omega (arith, few, ap length left_is, shorter n held.sessions.left);
       owners = λ present owners. subst (λ (l : Items). AreOpenOwners present l) (sym items_are) (orphaned_owners present items n owners);
       persist = persist_over_sessions (seen old).state (seen new).state rest.rest;
@@ -214,6 +217,7 @@ leaves_then {contexts = contexts} seen client old new held view new_held n faile
       closes = λ slots after is_old is_new.
           d.closes slots after is_old is_new
           ∙ left_closes client held.sessions n slots leaving (settled_at (seen old).state slots held settled is_old).sessions;
+      leaves = d.leaves ∙ left_leaves client held.sessions n leaving;
       few_left = few;
       owners = λ present owners. d.owners present (behind_owners present items n owners);
       persist = d.persist;

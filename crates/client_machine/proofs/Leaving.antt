@@ -15,8 +15,9 @@ use Rattle.session_swap.proofs.Among.{named_inside, named_is}
 use Rattle.session_swap.proofs.Counts.{count_cons, flag_false, is_true}
 use Rattle.history_laws.proofs.Tables.{get_or_mapped}
 use Rattle.world_spec.specs.World.{Owned, closed_sessions, is_saved_by, left_place, saved_numbers, without_places}
-use Rattle.client_machine.specs.Dropping.{IsDropped, is_used}
+use Rattle.client_machine.specs.Dropping.{IsDropped, IsLeastOf, is_saved_of, is_used, left_after}
 use Rattle.client_machine.specs.Settled.{owned_by_client, owned_in, sessions_in}
+use Rattle.client_machine.proofs.LeftOnes.{behind_unsaved, first_leaves, kept_leaves, kept_saved, left_of, others_unsaved, used_leaves, used_unsaved, without_first_one}
 use Rattle.client_machine.proofs.Settling.{some_same}
 
 abbrev place_of : List (Option Owned) → ℕ → Option Owned
@@ -95,9 +96,6 @@ past_goes : (most first : ℕ) (all : List ℕ) (sessions : List (Option Owned))
 past_goes most first all sessions many =
     let more : suc (length all - most) ≡ length (first ∷ all) - most = omega (arith, many) in
     λ i. (without_places (take (more i) (first ∷ all)) sessions, drop (more i) (first ∷ all))
-
-without_first_one : (n one : ℕ) (more : List ℕ) → one ≡ n → without_one n (one ∷ more) ≡ more
-without_first_one n one more is = ap (λ (here : Bool). if here then more else one ∷ without_one n more) (eq-eqb one n is)
 
 first_goes : (client most n : ℕ) (sessions : List (Option Owned)) (left : List ℕ) → leave_limit most < length left → slice_get left 0 ≡ Some n
     → is_saved_by client (place_of sessions n) ≡ false
@@ -324,6 +322,9 @@ pub record IsGoing (client : ℕ) (view : SessionsView) (n : ℕ) : Type 0 where
   pub closes : (slots : SlotState)
       → closed_sessions client view.numbers.active (set (sessions_in slots view.items) n None) (without_one n view.left)
       ≡ closed_sessions client view.numbers.active (sessions_in slots view.items) view.left
+  -- whatever has its number then that the client didn't save
+  pub leaves : (item : Option Item) → is_saved_of client item ≡ false
+      → left_of client view.numbers.active (set view.items n item) (without_one n view.left) ≡ left_after client view
 
 used_going : (client : ℕ) (view : SessionsView) (n : ℕ) → n < length view.items → ListsThose is_left view.left view.items
     → is_owner client (owner_of_item (item_at view.items n)) ≡ true → is_used (owner_of_item (item_at view.items n)) ≡ true → IsGoing client view n
@@ -340,6 +341,9 @@ used_going client view n inside listed own used =
           (unleft view.items view.left n listed (owned_unleft client (item_at view.items n) own))
           ∙ used_goes client active n sessions view.left (ap (is_saved_by client) here ∙ is.unsaved)
           (ap (left_place client) here ∙ is.goes);
+      leaves = λ item none.
+          ap (left_of client active (set view.items n item)) (unleft view.items view.left n listed (owned_unleft client (item_at view.items n) own))
+          ∙ used_leaves client active n view.items view.left item (used_unsaved client (item_at view.items n) used) none;
     }
 
 first_going : (client : ℕ) (view : SessionsView) (n : ℕ) → n < length view.items → ListsThose is_left view.left view.items
@@ -353,6 +357,9 @@ first_going client view n inside listed many first =
           let is = others_at client slots (item_at view.items n) (left_unowned client (item_at view.items n) left) in
           first_goes client view.numbers.active n (sessions_in slots view.items) view.left many first
           (ap (is_saved_by client) (place_in slots view.items n) ∙ is.unsaved);
+      leaves = λ item none.
+          first_leaves client view.numbers.active n view.items view.left item many first
+          (others_unsaved client (item_at view.items n) (left_unowned client (item_at view.items n) left)) none;
     }
 
 pub going : (client : ℕ) (view : SessionsView) (handle : ℕ) → Names view.items handle → ListsThose is_left view.left view.items
@@ -374,16 +381,15 @@ pub record IsLeaving (client : ℕ) (items : List (Option Item)) (n : ℕ) : Typ
   pub saved : is_used (owner_of_item (item_at items n)) ≡ false
   pub least : (lower : ℕ) → lower < n → is_owned client (item_at items lower) ≡ false
 
-pub leaving : (client : ℕ) (items : List (Option Item)) (handle : ℕ) → Names items handle → is_owner client (owner_in items handle) ≡ true
-    → is_used (owner_in items handle) ≡ false → ((lower : ℕ) → lower < number_of_session handle → is_owned client (item_at items lower) ≡ false)
-    → IsLeaving client items (number_of_session handle)
-leaving client items handle names own saved least =
-    let here = named_is items handle names in
+pub leaving : (client : ℕ) (view : SessionsView) (handle : ℕ) → IsLeastOf client view handle → is_used (owner_in view.items handle) ≡ false
+    → IsLeaving client view.items (number_of_session handle)
+leaving client view handle first saved =
+    let here = named_is view.items handle first.named in
     record {
-      inside = named_inside items handle names;
-      own = sym (ap (λ (item : Option Item). is_owner client (owner_of_item item)) here) ∙ own;
+      inside = named_inside view.items handle first.named;
+      own = sym (ap (λ (item : Option Item). is_owner client (owner_of_item item)) here) ∙ first.own;
       saved = sym (ap (λ (item : Option Item). is_used (owner_of_item item)) here) ∙ saved;
-      least = least;
+      least = first.least;
     }
 
 pub left_closes : (client : ℕ) (view : SessionsView) (n : ℕ) (slots : SlotState) → IsLeaving client view.items n → SessionsStand slots view []
@@ -400,6 +406,13 @@ left_closes client view n slots is stand =
     ∙ saved_leaves client active n sessions view.left (owned_in slots after) (omega (arith, is.inside, length-map items (owned_in slots)))
     (λ k less. ap (is_saved_by client) (place_in slots items k) ∙ (others_at client slots (item_at items k) (is.least k less)).unsaved)
     (ap (is_saved_by client) here ∙ kept.saved) kept.unsaved (kept.same ∙ sym (ap (left_place client) here))
+
+pub left_leaves : (client : ℕ) (view : SessionsView) (n : ℕ) → IsLeaving client view.items n
+    → left_of client view.numbers.active (set view.items n (left_behind (item_at view.items n))) (view.left ++ n ∷ []) ≡ left_after client view
+left_leaves client view n is =
+    let item = item_at view.items n in
+    kept_leaves client view.numbers.active n view.items view.left (left_behind item) is.inside
+    (λ k less. others_unsaved client (item_at view.items k) (is.least k less)) (kept_saved client item is.own is.saved) (behind_unsaved client item)
 
 saved_by : (client : ℕ) (owner : Option ℕ) (handed : Option (List ℕ)) → is_owner client (owner_by (not (is_some handed)) owner) ≡ true
     → is_used (owner_by (not (is_some handed)) owner) ≡ false → (is_some owner && is_some handed) ≡ true

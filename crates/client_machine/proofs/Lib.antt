@@ -1,5 +1,6 @@
 pub mod Settling
 pub mod Leaving
+pub mod LeftOnes
 pub mod Prepared
 pub mod Loading
 pub mod Bringing

@@ -1,17 +1,19 @@
 -- What each step leaves while what a client has is dropped.
-use Rattle.std.specs.Prelude.{◌≡◌, ◌<◌, ◌≤◌, ◌⊎◌, ℕ, ◌+◌, Bool, true, false, List, [], ◌∷◌, ◌++◌, length, slice_get, Option, Some, None, Result, is_err, IfErr, OnErr}
+use Rattle.std.specs.Prelude.{◌≡◌, ◌<◌, ◌≤◌, ◌⊎◌, ℕ, ◌+◌, ◌-◌, ◌==◌, ◌&&◌, Bool, true, false, List, [], ◌∷◌, ◌++◌, length, drop, slice_get, Option, Some, None, is_some, Result, is_err, IfErr, IfOk, OnErr, OnOk, if◌then◌else◌}
 use Rattle.tab_spec.specs.Count.{largest_count}
 use Rattle.device_spec.specs.Answers.{IsRight, IsWrongAnswer}
 use Rattle.device_spec.specs.Slots.{SlotState}
-use Rattle.std.specs.List.{AllByRecursion}
+use Rattle.std.specs.List.{AllByRecursion, count_by, list_any}
 use Rattle.tab_spec.specs.declared.TheConstants.{CC_FLUSH_CONTEXT}
 use Rattle.tab_spec.specs.Frame.{code_of}
 use Rattle.tab_spec.specs.declared.contexts.ContextLimits.{ContextLimits}
 use Rattle.device_port.specs.Device.{Seen, Transmission, asked_of, last_of, sent_of}
 use Rattle.device_port.specs.Own.{WasTaken}
+use Rattle.device_port.specs.Use.{without_one}
+use Rattle.object_swap.specs.Items.{HasNone}
 use Rattle.tab_spec.specs.Shape.{number_of_session}
 use Rattle.tab_spec.specs.Numbers.{leave_limit}
-use Rattle.session_swap.specs.Items.{Item, SessionsView, has_owner, is_owned, is_owner, item_at, owner_in}
+use Rattle.session_swap.specs.Items.{Item, ListsThose, Names, SessionsView, flag, has_owner, is_left, is_owned, is_owner, item_at, owner_in}
 use Rattle.world_spec.specs.World.{closed_sessions}
 use Rattle.client_machine.specs.declared.held.Held.{Held}
 use Rattle.client_machine.specs.Costs.{own_objects, own_residents}
@@ -40,6 +42,39 @@ abbrev pub IsDropped : ℕ → SessionsView → ℕ → Type 0
 IsDropped client view handle =
     ((is_owner client (owner_in view.items handle) ≡ true) × (is_used (owner_in view.items handle) ≡ true))
     ⊎ ((leave_limit view.numbers.active < length view.left) × (slice_get view.left 0 ≡ Some (number_of_session handle)))
+
+-- ---- which sessions are left
+
+-- whether this client saved the session of an item
+abbrev pub is_saved_of : ℕ → Option Item → Bool
+is_saved_of client None = false
+is_saved_of client (Some item) = is_owned client (Some item) && is_some item.handed
+
+-- the numbers of the sessions that this client saved, rising; the first item has this number
+abbrev pub saved_in : ℕ → ℕ → List (Option Item) → List ℕ
+saved_in client number [] = []
+saved_in client number (item ∷ items) = (if is_saved_of client item then number ∷ [] else []) ++ saved_in client (number + 1) items
+
+-- which sessions are left once this client is closed: those that are left and those that it saved, without the longest left ones
+-- past the limit
+abbrev pub left_after : ℕ → SessionsView → List ℕ
+left_after client view =
+    let all = view.left ++ saved_in client 0 view.items in
+    drop (length all - leave_limit view.numbers.active) all
+
+-- the sessions that are left then, in the order of leaving, where no more than may be were left before
+abbrev pub LeavesSaved : ℕ → (held new_held : Held) → Type 0
+LeavesSaved client held new_held =
+    length held.sessions.left ≤ leave_limit held.sessions.numbers.active
+    → new_held.sessions.left ≡ left_after client held.sessions
+
+-- a client that was closed has no object and no session, and those that it saved are left
+pub record HasNothing (client : ℕ) (held new_held : Held) : Type 0 where
+  pub objects : HasNone new_held.objects.items client
+  pub sessions : list_any (is_owned client) new_held.sessions.items ≡ false
+  pub left : LeavesSaved client held new_held
+
+-- ---- what is sent
 
 -- a flush that was answered, or whose transmission failed
 abbrev pub WasTried : ContextLimits → Transmission → Type 0
@@ -90,6 +125,8 @@ pub record Drops {D : Type 0} (contexts : ContextLimits) (seen : D → Seen)
   pub closes : (slots after : SlotState) → (seen old).state ≡ Some slots → (seen new).state ≡ Some after
       → closed_sessions client held.sessions.numbers.active (sessions_in after new_held.sessions.items) new_held.sessions.left
       ≡ closed_sessions client held.sessions.numbers.active (sessions_in slots held.sessions.items) held.sessions.left
+  -- and so over every device: closing the client over what is still there leaves these, which it leaves over what was there
+  pub leaves : left_after client new_held.sessions ≡ left_after client held.sessions
   -- no more are left than may be
   pub few_left : length held.sessions.left ≤ leave_limit held.sessions.numbers.active
       → length new_held.sessions.left ≤ leave_limit held.sessions.numbers.active
@@ -115,3 +152,37 @@ pub record DropsOne {D : Type 0} (contexts : ContextLimits) (seen : D → Seen) 
   -- a command is sent only where one fewer of them is in a slot then
   pub costs : sent_of (seen new) + own_residents client new_held.objects.items
       ≤ sent_of (seen old) + own_residents client held.objects.items
+
+-- ---- one session
+
+-- the handle of the client's session that has the least number
+pub record IsLeastOf (client : ℕ) (view : SessionsView) (handle : ℕ) : Type 0 where
+  pub named : Names view.items handle
+  pub own : is_owner client (owner_in view.items handle) ≡ true
+  pub least : (lower : ℕ) → lower < number_of_session handle → is_owned client (item_at view.items lower) ≡ false
+
+-- The session of this handle is dropped, and the call tells how many flushes failed. What isn't this session stays, after a wrong
+-- answer too
+pub record DropsSession (handle : ℕ) (held new_held : Held) (result : Result ℕ ℕ) : Type 0 where
+  -- it isn't left any more
+  pub gone : OnOk result (new_held.sessions.left ≡ without_one (number_of_session handle) held.sessions.left)
+  -- each client has as many as before, but for whose it was: that one has one fewer
+  pub count : OnOk result ((client : ℕ)
+      → count_by (is_owned client) new_held.sessions.items
+      + flag (is_owned client (item_at held.sessions.items (number_of_session handle)))
+      ≡ count_by (is_owned client) held.sessions.items)
+  pub few : IfOk result (λ failed. failed ≤ 1)
+  pub rest : new_held.objects ≡ held.objects
+  pub others : (number : ℕ) → (number == number_of_session handle) ≡ false
+      → item_at new_held.sessions.items number ≡ item_at held.sessions.items number
+  -- each left session was listed, and once
+  pub listed : ListsThose is_left held.sessions.left held.sessions.items
+
+-- One session of the client's is dropped or left, and the call tells how many flushes failed. What other clients have stays, after
+-- a wrong answer too
+pub record ClosesSession (client : ℕ) (held new_held : Held) (result : Result ℕ ℕ) : Type 0 where
+  -- the client has one fewer
+  pub count : OnOk result (count_by (is_owned client) new_held.sessions.items + 1 ≡ count_by (is_owned client) held.sessions.items)
+  pub few : IfOk result (λ failed. failed ≤ 1)
+  pub rest : new_held.objects ≡ held.objects
+  pub others : KeepsOthers client held.sessions.items new_held.sessions.items

@@ -1,17 +1,15 @@
 //! What becomes of a client's sessions and objects when it is closed.
-ghost use Rattle.std.specs.Prelude.{◌≡◌, ◌==◌, ◌<◌, ◌≤◌, ◌+◌, ◌*◌, ℕ, true, false};
+ghost use Rattle.std.specs.Prelude.{◌≡◌, ◌≤◌, ◌+◌, ◌*◌, ℕ, false};
 ghost use Rattle.std.specs.Prelude.{Some, None, set, IfOk, OnOk};
 ghost use Rattle.std.specs.List.{count_by, list_any};
 ghost use Rattle.tab_spec.specs.declared.TheConstants.{SESSION_NUMBERS};
-ghost use Rattle.tab_spec.specs.Shape.{number_of_session};
 ghost use Rattle.object_swap.specs.Items as objects;
 ghost use Rattle.object_swap.specs.Items.{HasNone, owner_at};
-ghost use Rattle.device_port.specs.Use.{without_one};
-ghost use Rattle.session_swap.specs.Items.{ListsThose, Names, flag, is_left, is_owned, is_owner};
-ghost use Rattle.session_swap.specs.Items.{item_at, owner_in};
+ghost use Rattle.session_swap.specs.Items.{Names, is_owned, owner_in};
 ghost use Rattle.client_machine.specs.Moves.{MayMove};
 ghost use Rattle.client_machine.specs.Costs.{SendsUpTo, close_bound, own_objects, own_residents};
-ghost use Rattle.client_machine.specs.Dropping.{Disowns, Drops, DropsOne, IsDropped};
+ghost use Rattle.client_machine.specs.Dropping.{ClosesSession, Disowns, Drops, DropsOne};
+ghost use Rattle.client_machine.specs.Dropping.{DropsSession, HasNothing, IsDropped, IsLeastOf};
 ghost use Rattle.client_machine.specs.Dropping.{KeepsOthers, is_used};
 ghost use Rattle.client_machine.specs.Settled.{Settled, call_contexts};
 
@@ -41,8 +39,7 @@ impl<D: Device> Machine<D> {
         ensures ok { IfOk result (λ failed. Drops D.CONTEXTS D.seen client self.old.device
             self.new.device self.old.held self.new.held (set self.old.held.objects.owners list None)
             failed) }
-        ensures none { OnOk result (HasNone self.new.held.objects.items client
-            × (list_any (is_owned client) self.new.held.sessions.items ≡ false)) }
+        ensures none { OnOk result (HasNothing client self.old.held self.new.held) }
         ensures others { KeepsOthers client self.old.held.sessions.items
             self.new.held.sessions.items }
         // No more orphans are added than transmissions failed, also after a wrong answer.
@@ -67,8 +64,7 @@ impl<D: Device> Machine<D> {
         ensures ok { IfOk result (λ failed. Drops D.CONTEXTS D.seen client self.old.device
             self.new.device self.old.held self.new.held (set self.old.held.objects.owners list None)
             failed) }
-        ensures none { OnOk result (HasNone self.new.held.objects.items client
-            × (list_any (is_owned client) self.new.held.sessions.items ≡ false)) }
+        ensures none { OnOk result (HasNothing client self.old.held self.new.held) }
         ensures others { KeepsOthers client self.old.held.sessions.items
             self.new.held.sessions.items }
         // No more orphans are added than transmissions failed, also after a wrong answer.
@@ -98,8 +94,7 @@ impl<D: Device> Machine<D> {
         ensures ok { IfOk result (λ failed. Drops D.CONTEXTS D.seen client self.old.device
             self.new.device self.old.held self.new.held (set self.old.held.objects.owners list None)
             failed) }
-        ensures none { OnOk result (HasNone self.new.held.objects.items client
-            × (list_any (is_owned client) self.new.held.sessions.items ≡ false)) }
+        ensures none { OnOk result (HasNothing client self.old.held self.new.held) }
         ensures others { KeepsOthers client self.old.held.sessions.items
             self.new.held.sessions.items }
         ensures disowns { Disowns D.CONTEXTS D.seen self.old.device self.new.device self.old.held
@@ -149,22 +144,13 @@ impl<D: Device> Machine<D> {
     // that the client saved is left. Where more are left than may be, the one that was left longest
     // is dropped. It returns how many flushes failed, 0 or 1.
     fn close_session(&mut self, client: u32, handle: u32) -> Result<u32, u32>
-        requires named { Names self.old.held.sessions.items handle }
-        requires own { is_owner client (owner_in self.old.held.sessions.items handle) ≡ true }
-        requires least { (lower : ℕ) → lower < number_of_session handle
-            → is_owned client (item_at self.old.held.sessions.items lower) ≡ false }
+        requires least { IsLeastOf client self.old.held.sessions handle }
         requires slots { self.old.held.objects.slots
             ≡ self.old.held.sessions.numbers.slots }
         requires settled { Settled (D.seen self.old.device).state self.old.held }
         ensures ok { IfOk result (λ failed. Drops D.CONTEXTS D.seen client self.old.device
             self.new.device self.old.held self.new.held self.old.held.objects.owners failed) }
-        ensures count { OnOk result
-            (count_by (is_owned client) self.new.held.sessions.items + 1
-            ≡ count_by (is_owned client) self.old.held.sessions.items) }
-        ensures few { IfOk result (λ failed. failed ≤ 1) }
-        ensures rest { self.new.held.objects ≡ self.old.held.objects }
-        ensures others { KeepsOthers client self.old.held.sessions.items
-            self.new.held.sessions.items }
+        ensures closes { ClosesSession client self.old.held self.new.held result }
         ensures disowns { Disowns D.CONTEXTS D.seen self.old.device self.new.device self.old.held
             self.new.held result }
         ensures costs { SendsUpTo D.seen 1 self.old.device self.new.device }
@@ -189,21 +175,7 @@ impl<D: Device> Machine<D> {
             → IsDropped client self.old.held.sessions handle
             → Drops D.CONTEXTS D.seen client self.old.device self.new.device self.old.held
             self.new.held self.old.held.objects.owners failed) }
-        ensures gone { OnOk result (self.new.held.sessions.left
-            ≡ without_one (number_of_session handle) self.old.held.sessions.left) }
-        ensures count { OnOk result ((client : ℕ)
-            → count_by (is_owned client) self.new.held.sessions.items
-            + flag (is_owned client
-            (item_at self.old.held.sessions.items (number_of_session handle)))
-            ≡ count_by (is_owned client) self.old.held.sessions.items) }
-        ensures few { IfOk result (λ failed. failed ≤ 1) }
-        ensures rest { self.new.held.objects ≡ self.old.held.objects }
-        ensures others { (number : ℕ) → (number == number_of_session handle) ≡ false
-            → item_at self.new.held.sessions.items number
-            ≡ item_at self.old.held.sessions.items number }
-        // Each left session was listed, and once.
-        ensures listed { ListsThose is_left self.old.held.sessions.left
-            self.old.held.sessions.items }
+        ensures drops { DropsSession handle self.old.held self.new.held result }
         // No more orphans are added than transmissions failed, also after a wrong answer.
         ensures disowns { Disowns D.CONTEXTS D.seen self.old.device self.new.device self.old.held
             self.new.held result }

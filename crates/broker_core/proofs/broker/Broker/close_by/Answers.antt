@@ -1,7 +1,8 @@
-use Rattle.std.proofs.Common.{[], ◌∷◌, ◌++◌, set, sym, ap, subst, ◌∙◌}
+use Rattle.std.proofs.Common.{[], ◌∷◌, ◌++◌, set, sym, ap, subst, ◌∙◌, rules}
 use Rattle.history_spec.specs.Entry.{close_entry, IsOpen}
 use Rattle.broker_core.specs.Broker.{BrokerView}
-use Rattle.broker_core.proofs.Closing.{holds_closed_after, holds_closed_wrong, list_closed, moves_same, view_closed}
+use Rattle.client_machine.specs.Dropping.{left_after}
+use Rattle.broker_core.proofs.Closing.{holds_closed_after, holds_closed_wrong, list_closed, moves_same, still_few, view_closed}
 use Rattle.broker_core.proofs.Holding.{own_list}
 use Rattle.broker_core.proofs.Placing.{kept_closed, open_there}
 use Rattle.broker_core.proofs.broker.Broker.close_by.Goals as goal
@@ -41,7 +42,7 @@ invariant_of-self-in-Ok-eq0 g c =
     let none = sym c.is_some.ensures ∙ c.if-is_some.false in
     let done = c.in-Ok-eq0.ensures in
     rw (c.enter_close.ensures.entered, c.enter_close.ensures.limit, c.close-list.ensures.items, c.close-list.ensures.lists) (
-      list_closed g.D.Device.seen c.args.client _ c.self.invariant.0 none opened c.close-list.ensures.list done.ok done.none.0 done.none.1,
+      list_closed g.D.Device.seen c.args.client _ c.self.invariant.0 none opened c.close-list.ensures.list done.ok done.none.objects done.none.sessions,
       kept_closed c.self.inside.journal.entries c.args.client c.self.invariant.1 c.close-list.ensures.present,
     )
 
@@ -51,7 +52,7 @@ invariant_of-self-in-Ok g c =
     let none = sym c.is_some.ensures ∙ c.if-is_some.false in
     let done = c.in-Ok.ensures in
     rw (c.enter_close.ensures.entered, c.enter_close.ensures.limit, c.close-list.ensures.items, c.close-list.ensures.lists) (
-      list_closed g.D.Device.seen c.args.client _ c.self.invariant.0 none opened c.close-list.ensures.list done.ok done.none.0 done.none.1,
+      list_closed g.D.Device.seen c.args.client _ c.self.invariant.0 none opened c.close-list.ensures.list done.ok done.none.objects done.none.sessions,
       kept_closed c.self.inside.journal.entries c.args.client c.self.invariant.1 c.close-list.ensures.present,
     )
 
@@ -94,3 +95,19 @@ returns-then-is_some-clause-unsent g c =
       began = c.self.inside.began;
     } in
     λ _. view_closed old c.args.self.now c.args.client _ _ _ c.enter_close.ensures.entered c.enter_close.ensures.limit c.close-list.ensures.items c.self.view_is
+
+pub returns-in-Ok-eq0-clause-sessions : goal.returns-in-Ok-eq0-clause-sessions
+returns-in-Ok-eq0-clause-sessions g c = record {
+  others = search rules;
+  left = λ told.
+      c.in-Ok-eq0.ensures.none.left (still_few c.self.invariant.0 (sym c.is_some.ensures ∙ c.if-is_some.false))
+      ∙ ap (λ (v : BrokerView g.row.D.Denot). left_after c.args.client v.held.sessions) c.self.view_is;
+}
+
+pub returns-in-Ok-clause-sessions : goal.returns-in-Ok-clause-sessions
+returns-in-Ok-clause-sessions g c = record {
+  others = search rules;
+  left = λ told.
+      c.in-Ok.ensures.none.left (still_few c.self.invariant.0 (sym c.is_some.ensures ∙ c.if-is_some.false))
+      ∙ ap (λ (v : BrokerView g.row.D.Denot). left_after c.args.client v.held.sessions) c.self.view_is;
+}

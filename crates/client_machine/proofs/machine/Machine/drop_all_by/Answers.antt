@@ -2,9 +2,11 @@ use Rattle.std.proofs.Common.{◌+◌, ℕ, List, Ok, ap, sym, ◌∙◌, subst,
 use Rattle.std.specs.Prelude.{None, set}
 use Rattle.std.proofs.lemmas.Result.{err_from_is_err_and}
 use Rattle.object_swap.specs.Items.{HasNone, Item, ObjectsView, owner_at}
+use Rattle.session_swap.specs.Items.{SessionsView}
 use Rattle.client_machine.specs.Costs.{own_objects, own_residents}
 use Rattle.client_machine.specs.Dropping.{Drops}
 use Rattle.client_machine.proofs.Dropping.{disowns_ended, disowns_failed, disowns_then, drops_ended, drops_then, with_objects}
+use Rattle.client_machine.proofs.LeftOnes.{saved_left}
 use Rattle.client_machine.proofs.machine.Machine.drop_all_by.Goals as goal
 
 pub drop_objects-requires-clause-list : goal.drop_objects-requires-clause-list
@@ -37,11 +39,15 @@ returns-clause-ok g c =
 
 pub returns-clause-none : goal.returns-clause-none
 returns-clause-none g c =
-    let owner = ap (λ (v : ObjectsView). owner_at v.owners c.args.list) c.drop_sessions.ensures.rest ∙ c.requires.list in (
-      subst (λ (l : List Item). HasNone l c.args.client) (sym (ap (λ (v : ObjectsView). v.items) c.end_client.ensures))
-          (c.in_ok-of_objects.ensures.none c.args.client owner),
-      search rules,
-    )
+    let owner = ap (λ (v : ObjectsView). owner_at v.owners c.args.list) c.drop_sessions.ensures.rest ∙ c.requires.list in
+    record {
+      objects = subst (λ (l : List Item). HasNone l c.args.client) (sym (ap (λ (v : ObjectsView). v.items) c.end_client.ensures))
+          (c.in_ok-of_objects.ensures.none c.args.client owner);
+      sessions = search rules;
+      left = λ few.
+          ap (λ (v : SessionsView). v.left) c.drop_objects.ensures.rest.0
+          ∙ saved_left c.in_ok-of_sessions.ensures.ok c.in_ok-of_sessions.ensures.none few;
+    }
 
 pub returns-in_err-of_sessions-clause-disowns : goal.returns-in_err-of_sessions-clause-disowns
 returns-in_err-of_sessions-clause-disowns g c =

@@ -1,5 +1,8 @@
 use Rattle.std.proofs.Common.{[], Ok, Err, set, ap, arith, refl, rules, ◌∙◌}
+use Rattle.std.specs.Prelude.{None}
 use Rattle.std.specs.List.{count_by}
+use Rattle.std.proofs.lemmas.Bool.{eqb-false}
+use Rattle.std.proofs.lemmas.List.{get_or-set_other}
 use Rattle.tab_spec.specs.Shape.{number_of_session}
 use Rattle.device_port.specs.Use.{without_one}
 use Rattle.session_swap.specs.Items.{SessionsView, disowned, is_owned, item_at}
@@ -32,18 +35,25 @@ returns-in-Ok-clause-ok g c =
     })
     (going client c.args.self.now.held.sessions c.args.handle c.requires.named done.listed dropped) c.requires.settled
 
-pub returns-in-Ok-clause-gone : goal.returns-in-Ok-clause-gone
-returns-in-Ok-clause-gone g c = ap (λ (v : SessionsView). v.left) c.in-Ok.ensures.ok.view_is
-
-pub returns-in-Ok-clause-count : goal.returns-in-Ok-clause-count
-returns-in-Ok-clause-count g c =
-    λ client.
+pub returns-in-Ok-clause-drops : goal.returns-in-Ok-clause-drops
+returns-in-Ok-clause-drops g c =
     let items = c.args.self.now.held.sessions.items in
-    omega (
-      arith,
-      ap (λ (v : SessionsView). count_by (is_owned client) v.items) c.in-Ok.ensures.ok.view_is,
-      owned_gone items client (number_of_session c.args.handle) (named_inside items c.args.handle c.requires.named),
-    )
+    let n = number_of_session c.args.handle in
+    let done = c.in-Ok.ensures in
+    record {
+      gone = ap (λ (v : SessionsView). v.left) done.ok.view_is;
+      count = λ client. omega (
+        arith,
+        ap (λ (v : SessionsView). count_by (is_owned client) v.items) done.ok.view_is,
+        owned_gone items client n (named_inside items c.args.handle c.requires.named),
+      );
+      few = omega arith;
+      rest = refl;
+      others = λ number apart.
+          ap (λ (v : SessionsView). item_at v.items number) done.ok.view_is
+          ∙ get_or-set_other items n number None None (eqb-false number n apart);
+      listed = done.listed;
+    }
 
 pub returns-in-Err-Failed-clause-ok : goal.returns-in-Err-Failed-clause-ok
 returns-in-Err-Failed-clause-ok g c =
@@ -57,24 +67,27 @@ returns-in-Err-Failed-clause-ok g c =
     failed.asks.err failed.stands.rest cause.0 cause.1 c.requires.named
     (going client c.args.self.now.held.sessions c.args.handle c.requires.named failed.listed dropped) c.requires.settled
 
-pub returns-in-Err-Failed-clause-gone : goal.returns-in-Err-Failed-clause-gone
-returns-in-Err-Failed-clause-gone g c =
-    ap (λ (v : SessionsView). v.left) c.orphan_session.ensures
-    ∙ ap (λ (v : SessionsView). without_one (number_of_session c.args.handle) v.left) c.in-Err-Failed.ensures.err
-
-pub returns-in-Err-Failed-clause-count : goal.returns-in-Err-Failed-clause-count
-returns-in-Err-Failed-clause-count g c =
-    λ client.
+pub returns-in-Err-Failed-clause-drops : goal.returns-in-Err-Failed-clause-drops
+returns-in-Err-Failed-clause-drops g c =
     let items = c.args.self.now.held.sessions.items in
     let n = number_of_session c.args.handle in
-    let items_are =
-    ap (λ (v : SessionsView). v.items) c.orphan_session.ensures
-    ∙ ap (λ (v : SessionsView). set v.items n (disowned (item_at v.items n))) c.in-Err-Failed.ensures.err in
-    omega (
-      arith,
-      ap (count_by (is_owned client)) items_are,
-      owned_orphaned items client n (named_inside items c.args.handle c.requires.named),
-    )
+    let failed = c.in-Err-Failed.ensures in
+    record {
+      gone = ap (λ (v : SessionsView). v.left) c.orphan_session.ensures ∙ ap (λ (v : SessionsView). without_one n v.left) failed.err;
+      count = λ client. omega (
+        arith,
+        ap (λ (v : SessionsView). count_by (is_owned client) v.items) c.orphan_session.ensures,
+        ap (λ (v : SessionsView). count_by (is_owned client) (set v.items n (disowned (item_at v.items n)))) failed.err,
+        owned_orphaned items client n (named_inside items c.args.handle c.requires.named),
+      );
+      few = omega arith;
+      rest = refl;
+      others = λ number apart.
+          ap (λ (v : SessionsView). item_at v.items number) c.orphan_session.ensures
+          ∙ ap (λ (v : SessionsView). item_at (set v.items n (disowned (item_at v.items n))) number) failed.err
+          ∙ get_or-set_other items n number (disowned (item_at items n)) None (eqb-false number n apart);
+      listed = failed.listed;
+    }
 
 pub returns-in-Ok-clause-costs : goal.returns-in-Ok-clause-costs
 returns-in-Ok-clause-costs g c = sent_one g.D.Device.seen _ _ _ (Ok _) c.in-Ok.ensures.asks

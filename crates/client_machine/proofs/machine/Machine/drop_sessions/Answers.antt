@@ -26,12 +26,12 @@ loop-number-preserved g c =
     let client = c.args.client in
     record {
       drops = drops_then _ _ _ _ _ _ _ _ _ _ so_far.drops next.ok;
-      left = omega (arith, so_far.left, next.count);
-      few = omega (arith, so_far.few, next.few);
+      left = omega (arith, so_far.left, next.closes.count);
+      few = omega (arith, so_far.few, next.closes.few);
       disowns = disowns_then _ _ _ _ _ _ _ 0 (Ok 0) so_far.drops.lists so_far.disowns (disowns_ok _ _ _ _ _ _ 0 next.disowns);
-      rest = next.rest ∙ so_far.rest;
-      costs = omega (arith, so_far.costs, next.costs, next.count);
-      others = others_then client _ _ _ so_far.others next.others;
+      rest = next.closes.rest ∙ so_far.rest;
+      costs = omega (arith, so_far.costs, next.costs, next.closes.count);
+      others = others_then client _ _ _ so_far.others next.closes.others;
     }
 
 pub returns-clause-none : goal.returns-clause-none
@@ -75,7 +75,7 @@ returns-in_err-failed-clause-disowns g c =
 
 pub returns-in_err-failed-clause-others : goal.returns-in_err-failed-clause-others
 returns-in_err-failed-clause-others g c =
-    others_then c.args.client _ _ _ c.loop-number.invariant.others c.in_err-failed.ensures.others
+    others_then c.args.client _ _ _ c.loop-number.invariant.others c.in_err-failed.ensures.closes.others
 
 pub returns-clause-costs : goal.returns-clause-costs
 returns-clause-costs g c = omega (arith, c.loop-number.invariant.costs)
