@@ -1,7 +1,6 @@
 pub mod Gathering
 pub mod NumberLemmas
 pub mod PathLemmas
-pub mod Planning
 pub mod SeedLemmas
 pub mod WordLemmas
 pub mod WordLimits

@@ -10,8 +10,7 @@ use Rattle.command_line.specs.Words.{setting_in, settings_of, takes_value, with_
 pub none_first : {X : Type 0} (bytes : X → List ℕ) (words : List X) (word : X) → 0 < length words → word ≡ get_or words 0 word
     → takes_value (bytes word) ≡ false → setting_in (bytes word) ≡ None → settings_of (map bytes words) ≡ None
 none_first bytes [] word some is takes none = absurd (omega arith)
-none_first bytes (x ∷ []) word some is takes none =
-    rw (ap (λ w. takes_value (bytes w)) (sym is) ∙ takes, ap (λ w. setting_in (bytes w)) (sym is) ∙ none) refl
+none_first bytes (x ∷ []) word some is takes none = rw (ap (λ w. setting_in (bytes w)) (sym is) ∙ none) refl
 none_first bytes (x ∷ y ∷ words) word some is takes none =
     rw (ap (λ w. takes_value (bytes w)) (sym is) ∙ takes, ap (λ w. setting_in (bytes w)) (sym is) ∙ none) refl
 
@@ -19,8 +18,7 @@ none_first bytes (x ∷ y ∷ words) word some is takes none =
 pub some_first : {X : Type 0} (bytes : X → List ℕ) (words : List X) (word : X) (setting : Setting) → 0 < length words → word ≡ get_or words 0 word
     → takes_value (bytes word) ≡ false → setting_in (bytes word) ≡ Some setting → settings_of (map bytes words) ≡ with_first (Some setting) (settings_of (drop 1 (map bytes words)))
 some_first bytes [] word setting some is takes gives = absurd (omega arith)
-some_first bytes (x ∷ []) word setting some is takes gives =
-    rw (ap (λ w. takes_value (bytes w)) (sym is) ∙ takes, ap (λ w. setting_in (bytes w)) (sym is) ∙ gives) refl
+some_first bytes (x ∷ []) word setting some is takes gives = rw (ap (λ w. setting_in (bytes w)) (sym is) ∙ gives) refl
 some_first bytes (x ∷ y ∷ words) word setting some is takes gives =
     rw (ap (λ w. takes_value (bytes w)) (sym is) ∙ takes, ap (λ w. setting_in (bytes w)) (sym is) ∙ gives) refl
 

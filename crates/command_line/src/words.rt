@@ -1,19 +1,16 @@
-ghost use Rattle.std.specs.Prelude.{is_some, ◌≡◌, ◌≤◌, ◌<◌, ◌^◌, ◌∷◌, ◌++◌, [], ℕ, List, Some};
-ghost use Rattle.std.specs.Prelude.{None, map, length, nat_lt, ◌&&◌, ◌↔◌, if◌then◌else◌, IsTrue};
-ghost use Rattle.std.specs.Prelude.{IfOk, IfSome, IfNone};
+ghost use Rattle.std.specs.Prelude.{◌≡◌, ◌≤◌, ◌<◌, ◌^◌, Some, None, map, length, nat_lt, ◌&&◌};
+ghost use Rattle.std.specs.Prelude.{◌↔◌, if◌then◌else◌, IsTrue, IfOk, IfSome};
 ghost use Rattle.std.specs.List.{list_all};
-ghost use Rattle.std.specs.Option.{ok_or, option_and_then, option_to_list};
+ghost use Rattle.std.specs.Option.{ok_or};
 ghost use Rattle.std.specs.String.{string_bytes};
 ghost use Rattle.script_spec.specs.Script.{is_digit, number_of};
 ghost use Rattle.history_spec.specs.declared.TheConstants.{JOURNAL_LEAST, JOURNAL_MOST};
 ghost use Rattle.history_spec.specs.Entry.{IsLimit};
 ghost use Rattle.command_line.specs.Words.{HasFittingPath, accepted, asked, device_of, flag_of};
-ghost use Rattle.command_line.specs.Words.{is_serve, is_workload, number_within, path_of, plan_by};
-ghost use Rattle.command_line.specs.Words.{seed_of, setting_in, setting_of, settings_of};
-ghost use Rattle.command_line.specs.Words.{takes_value, that_keeps, verb_of};
-ghost use Rattle.command_line.specs.Gathered.{IsGathered, IsTooMany, settings_by};
-ghost use Rattle.command_line.specs.declared.words.Setting.{Setting};
-ghost use Rattle.command_line.specs.declared.words.Verb.{Verb};
+ghost use Rattle.command_line.specs.Words.{gathered, given, is_serve, is_workload, joined};
+ghost use Rattle.command_line.specs.Words.{no_settings, number_within, once, path_of, plan_by};
+ghost use Rattle.command_line.specs.Words.{seed_of, setting_in, setting_of, settings_by};
+ghost use Rattle.command_line.specs.Words.{settings_of, takes_value, that_keeps, verb_of};
 ghost use Rattle.command_line.specs.declared.words.WordsError.TheVariants.{Refused};
 
 use crate::path_text::{PATH_MOST, PathText};
@@ -147,7 +144,7 @@ fn read_plan(words: &[String]) -> Option<Plan>
 
 // A plan, but not one that asks for the text of entries that aren't kept.
 fn that_keeps(plan: Option<Plan>) -> Option<Plan>
-    ensures { result ≡ option_and_then that_keeps plan }
+    ensures { result ≡ given plan that_keeps }
 {
     let plan = plan?;
     if plan.audit && plan.limit == SILENT_LIMIT {
@@ -168,13 +165,9 @@ fn read_verb(word: &str) -> Option<Verb>
     }
 }
 
-// The options that words give. Nothing where they give none that a command takes.
+// The options that words give, each once at most. Nothing where they give none, or one twice.
 fn read_settings(words: &[String]) -> Option<Settings>
-    ensures some { IfSome result (λ gathered. (settings : List Setting)
-        × (settings_of (map string_bytes words.now) ≡ Some settings)
-        × IsGathered gathered settings) }
-    ensures none { IfNone result ((job : Verb)
-        → option_and_then (plan_by job) (settings_of (map string_bytes words.now)) ≡ None) }
+    ensures { result ≡ given (settings_of (map string_bytes words.now)) (gathered no_settings) }
 {
     let mut settings = Settings {
         device: None,
@@ -197,10 +190,7 @@ fn read_settings(words: &[String]) -> Option<Settings>
 impl Settings {
     // The same with one option more. Nothing where it was given already.
     fn with(self, setting: Setting) -> Option<Settings>
-        ensures some { IfSome result (λ gathered. (settings : List Setting)
-            → IsGathered self settings → IsGathered gathered (settings ++ setting ∷ [])) }
-        ensures none { IfNone result ((settings : List Setting)
-            → IsGathered self settings → IsTooMany (settings ++ setting ∷ [])) }
+        ensures { result ≡ joined self setting }
     {
         match setting {
             Setting::Device(device) => Some(Settings {
@@ -237,8 +227,7 @@ impl Settings {
     // The plan of a command. Nothing where an option is missing that it needs, or one is there that
     // it doesn't take.
     fn plan(self, job: Verb) -> Option<Plan>
-        ensures { (settings : List Setting)
-            → IsGathered self settings → result ≡ plan_by job settings }
+        ensures { result ≡ plan_by job self }
     {
         Some(Plan {
             job,
@@ -271,7 +260,7 @@ impl Verb {
 // The value of an option that has to be given where it is asked for. Else it may not be given, and
 // has the other value.
 fn asked<T: Copy>(is_asked: bool, given: Option<T>, otherwise: T) -> Option<T>
-    ensures { result ≡ asked is_asked otherwise (option_to_list given) }
+    ensures { result ≡ asked is_asked otherwise given }
 {
     if is_asked {
         return given;
@@ -284,7 +273,7 @@ fn asked<T: Copy>(is_asked: bool, given: Option<T>, otherwise: T) -> Option<T>
 
 // The value of an option. Nothing where the option was given already.
 fn once<T: Copy>(given: Option<T>, value: T) -> Option<T>
-    ensures { result ≡ (if is_some given then None else Some value) }
+    ensures { result ≡ once given value }
 {
     match given {
         None => Some(value),
@@ -312,16 +301,11 @@ fn read_setting(words: &[String]) -> Option<(Setting, usize)>
     Some((read_valued(word, value)?, 2))
 }
 
-// Whether an option of this name has a value.
-fn takes_value(name: &str) -> bool
-    ensures { result ≡ takes_value name.now }
+// Whether the value of an option is the word behind its name.
+fn takes_value(word: &str) -> bool
+    ensures { result ≡ takes_value word.now }
 {
-    name == "--device"
-        || name == "--socket"
-        || name == "--connections"
-        || name == "--journal-bytes"
-        || name == "--start"
-        || name == "--lines"
+    !word.as_bytes().contains(&b'=') && read_flag(word).is_none()
 }
 
 // The option that one word gives.
@@ -346,7 +330,7 @@ fn read_valued(name: &str, value: &str) -> Option<Setting>
     }
     let value = value.as_bytes();
     if name == "--connections" {
-        return read_connections(value).map(Setting::Connections);
+        return read_count(value, CONNECTIONS_MOST).map(Setting::Connections);
     }
     if name == "--journal-bytes" {
         return read_number(value, JOURNAL_LEAST, JOURNAL_MOST).map(Setting::JournalBytes);
@@ -355,7 +339,7 @@ fn read_valued(name: &str, value: &str) -> Option<Setting>
         return read_number(value, 0, u64::MAX).map(Setting::Start);
     }
     if name == "--lines" {
-        return read_lines(value).map(Setting::Lines);
+        return read_count(value, LINES_MOST).map(Setting::Lines);
     }
     None
 }
@@ -403,20 +387,12 @@ fn read_path(word: &str) -> Option<PathText>
     Some(PathText::new(word))
 }
 
-// How many connections are served.
-fn read_connections(word: &[u8]) -> Option<u32>
-    ensures { result ≡ number_within 1 CONNECTIONS_MOST word.now }
+// How many connections are served, or how many lines a workload has.
+fn read_count(word: &[u8], most: u32) -> Option<u32>
+    ensures { result ≡ number_within 1 most word.now }
 {
-    let count = read_number(word, 1, u64::from(CONNECTIONS_MOST))?;
+    let count = read_number(word, 1, u64::from(most))?;
     Some(count as u32)
-}
-
-// How many lines a workload has.
-fn read_lines(word: &[u8]) -> Option<u32>
-    ensures { result ≡ number_within 1 LINES_MOST word.now }
-{
-    let lines = read_number(word, 1, u64::from(LINES_MOST))?;
-    Some(lines as u32)
 }
 
 // The number that 1 to 20 decimal digits spell, where it lies within these bounds.

@@ -47,6 +47,24 @@ returns-clause-refused g c =
       λ none. absurd (not_none plans c.in-Ok.plan is none),
     )
 
+pub returns-clause-leaves : goal.returns-clause-leaves
+returns-clause-leaves g c =
+    let plans = accepted (map string_bytes c.args.words.now) in
+    let is : plans ≡ Some c.in-Ok.plan = taken plans c.in-Ok.plan Refused c.in-Ok.ensures.exact in
+    if_taken _ plans c.in-Ok.plan is (λ plays. (c.play-status.ensures.leaves, refl, c.new-2.ensures.items))
+
+pub returns-clause-serves : goal.returns-clause-serves
+returns-clause-serves g c =
+    let plans = accepted (map string_bytes c.args.words.now) in
+    let is : plans ≡ Some c.in-Ok.plan = taken plans c.in-Ok.plan Refused c.in-Ok.ensures.exact in
+    if_taken _ plans c.in-Ok.plan is (λ serves few. absurd (true≢false (sym serves ∙ sym c.is_serve.ensures ∙ c.if-is_serve.false)))
+
+pub returns-clause-pool : goal.returns-clause-pool
+returns-clause-pool g c =
+    let plans = accepted (map string_bytes c.args.words.now) in
+    let is : plans ≡ Some c.in-Ok.plan = taken plans c.in-Ok.plan Refused c.in-Ok.ensures.exact in
+    if_taken _ plans c.in-Ok.plan is (λ serves many. absurd (true≢false (sym serves ∙ sym c.is_serve.ensures ∙ c.if-is_serve.false)))
+
 pub returns-clause-unread : goal.returns-clause-unread
 returns-clause-unread g c =
     let plans = accepted (map string_bytes c.args.words.now) in
