@@ -154,7 +154,7 @@ pub record Holds (contexts : ContextLimits) (began : ℕ) (seen : Seen) (history
 
 -- ---- what is held in the end
 
--- no slot is taken, and the active session numbers are just these
+-- each slot is empty, and a session is active exactly if it is one of these
 pub record HoldsOnly (slots : SlotState) (left : List ℕ) : Type 0 where
   pub empty : count_by is_some slots.slots ≡ 0
   pub just : (number : ℕ) → is_active (get_or slots.sessions number inactive) ≡ list_any (λ one. one == number) left
