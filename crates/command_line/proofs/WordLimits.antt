@@ -3,7 +3,7 @@ use Rattle.std.proofs.Common.{◌≡◌, ◌≤◌, ◌<◌, ◌^◌, ◌-◌, �
 use Rattle.std.specs.Prelude.{⊤, ◌==◌, ◌&&◌, nat_le, if◌then◌else◌, IsTrue, IfSome, codes}
 use Rattle.std.specs.List.{AllByRecursion, after_first, before_first, list_any, starts_with}
 use Rattle.std.specs.Map.{lookup}
-use Rattle.std.specs.Option.{option_map, unwrap_or}
+use Rattle.std.specs.Option.{option_and_then, option_map, unwrap_or}
 use Rattle.std.proofs.lemmas.Bool.{and_parts, eqb-false, leb-true}
 use Rattle.history_spec.specs.Entry.{IsLimit}
 use Rattle.history_spec.specs.declared.TheConstants.{JOURNAL_LEAST, JOURNAL_LIMIT, JOURNAL_MOST, SILENT_LIMIT}
@@ -17,7 +17,7 @@ use Rattle.command_line.specs.declared.words.Plan.{Plan}
 use Rattle.command_line.specs.declared.words.Setting.{Setting}
 use Rattle.command_line.specs.declared.words.Setting.TheVariants.{Device, Socket, Connections, JournalBytes, Audit, Start, Lines}
 use Rattle.command_line.specs.declared.words.Settings.{Settings}
-use Rattle.command_line.specs.Words.{HasFittingPath, accepted, asked, device_of, flag_of, flags, gathered, given, is_colon, is_equals, is_number, is_serve, is_text}
+use Rattle.command_line.specs.Words.{HasFittingPath, accepted, asked, device_of, flag_of, flags, gathered, is_colon, is_equals, is_number, is_serve, is_text}
 use Rattle.command_line.specs.Words.{is_workload, joined, no_settings, number_within, path_of, plan_by, seed_of, setting_in, setting_of, setting_with, settings_of}
 use Rattle.command_line.specs.Words.{once, takes_value, valued, verb_of, with_first}
 
@@ -36,7 +36,7 @@ mapped : {A B : Type 0} {P : A → Type 0} (Q : B → Type 0) (f : A → B) (o :
 mapped Q f None holds step = tt
 mapped Q f (Some x) holds step = step x holds
 
-passed : {A B : Type 0} {P : A → Type 0} (Q : B → Type 0) (f : A → Option B) (o : Option A) → IfSome o P → ((x : A) → P x → IfSome (f x) Q) → IfSome (given o f) Q
+passed : {A B : Type 0} {P : A → Type 0} (Q : B → Type 0) (f : A → Option B) (o : Option A) → IfSome o P → ((x : A) → P x → IfSome (f x) Q) → IfSome (option_and_then f o) Q
 passed Q f None holds step = tt
 passed Q f (Some x) holds step = step x holds
 

@@ -3,7 +3,7 @@ use Rattle.std.specs.Prelude.{ℕ, ⊤, ◌-◌, ◌≤◌, ◌^◌, ◌==◌, �
 use Rattle.std.specs.Cmp.Lexicographic.{pointwise}
 use Rattle.std.specs.List.{starts_with, list_any, list_all, before_first, after_first}
 use Rattle.std.specs.Map.{lookup}
-use Rattle.std.specs.Option.{option_map, unwrap_or}
+use Rattle.std.specs.Option.{option_and_then, option_map, unwrap_or}
 use Rattle.hex.specs.declared.error.FromHexError.{FromHexError}
 use Rattle.hex.specs.Hex.{decode_of}
 use Rattle.history_spec.specs.declared.TheConstants.{JOURNAL_LEAST, JOURNAL_LIMIT, JOURNAL_MOST, SILENT_LIMIT}
@@ -23,10 +23,10 @@ use Rattle.command_line.specs.declared.words.Setting.TheVariants.{Device, Socket
 abbrev pub is_text : List ℕ → List ℕ → Bool
 is_text a b = pointwise ◌==◌ a b
 
--- what is made of a value; nothing where there is none
-abbrev pub given : {A B : Type 0} → Option A → (A → Option B) → Option B
-given None make = None
-given (Some x) make = make x
+-- in `do`, `x ← found` names what was found; where nothing was, nothing comes of the block
+infixl 10 ◌>>=◌
+abbrev pub ◌>>=◌ : {A B : Type 0} → Option A → (A → Option B) → Option B
+found >>= next = option_and_then next found
 
 -- ---- values
 
@@ -92,7 +92,9 @@ flags = (codes "--audit", Audit) ∷ (codes "--no-journal", JournalBytes SILENT_
 
 -- the option of this name with this value
 abbrev pub setting_of : List ℕ → List ℕ → Option Setting
-setting_of name value = given (lookup (is_text name) valued) (λ read. read value)
+setting_of name value = do
+  read ← lookup (is_text name) valued
+  read value
 
 -- the option of this name, which has no value
 abbrev pub flag_of : List ℕ → Option Setting
@@ -135,7 +137,7 @@ settings_by (Some first) words = with_first (Some first.0) (settings_of (drop fi
 abbrev pub no_settings : Settings
 no_settings = record { device = None; socket = None; connections = None; limit = None; audit = None; start = None; lines = None }
 
--- the latter, for the first value of an option; nothing where there is one already
+-- what comes of an option that is given for the first time; nothing where it has a value already
 abbrev pub once : {A B : Type 0} → Option A → B → Option B
 once None now = Some now
 once (Some x) now = None
@@ -153,7 +155,9 @@ joined settings (Lines lines) = once settings.lines (record settings { lines = S
 -- these options and those, one after the other; nothing where one is given twice
 abbrev pub gathered : Settings → List Setting → Option Settings
 gathered settings [] = Some settings
-gathered settings (setting ∷ more) = given (joined settings setting) (λ now. gathered now more)
+gathered settings (setting ∷ more) = do
+  now ← joined settings setting
+  gathered now more
 
 -- ---- commands
 
@@ -175,7 +179,8 @@ verb_of word =
     else if is_text word (codes "workload") then Some Workload
     else None
 
--- an option that has to be given where it is asked for, and else may not be, with this value
+-- the value of an option that a command asks for, which has to be given; an option that it doesn't ask for may not be given, and has
+-- this value then
 abbrev pub asked : {A : Type 0} → Bool → A → Option A → Option A
 asked true otherwise value = value
 asked false otherwise None = Some otherwise
@@ -183,21 +188,22 @@ asked false otherwise (Some x) = None
 
 -- the plan of a command with these options; nothing where one is missing, or there is one that it doesn't take
 abbrev pub plan_by : Verb → Settings → Option Plan
-plan_by job settings =
-    given settings.device (λ device.
-    given (asked (is_serve job) [] settings.socket) (λ socket.
-    given (asked (is_serve job) 0 settings.connections) (λ connections.
-    given (asked (is_workload job) 0 settings.start) (λ start.
-    given (asked (is_workload job) 0 settings.lines) (λ lines. Some (record {
-      job = job;
-      device = device;
-      socket = socket;
-      connections = connections;
-      limit = unwrap_or settings.limit JOURNAL_LIMIT;
-      audit = unwrap_or settings.audit false;
-      start = start;
-      lines = lines;
-    }))))))
+plan_by job settings = do
+  device ← settings.device
+  socket ← asked (is_serve job) [] settings.socket
+  connections ← asked (is_serve job) 0 settings.connections
+  start ← asked (is_workload job) 0 settings.start
+  lines ← asked (is_workload job) 0 settings.lines
+  Some (record {
+    job = job;
+    device = device;
+    socket = socket;
+    connections = connections;
+    limit = unwrap_or settings.limit JOURNAL_LIMIT;
+    audit = unwrap_or settings.audit false;
+    start = start;
+    lines = lines;
+  })
 
 -- a plan, but not one that asks for the text of entries that aren't kept
 abbrev pub that_keeps : Plan → Option Plan
@@ -206,5 +212,9 @@ that_keeps plan = if plan.audit && (plan.limit == SILENT_LIMIT) then None else S
 -- the plan that words give; nothing where they are refused
 abbrev pub accepted : List (List ℕ) → Option Plan
 accepted [] = None
-accepted (verb ∷ words) =
-    given (verb_of verb) (λ job. given (settings_of words) (λ settings. given (gathered no_settings settings) (λ all. given (plan_by job all) that_keeps)))
+accepted (verb ∷ words) = do
+  job ← verb_of verb
+  settings ← settings_of words
+  all ← gathered no_settings settings
+  plan ← plan_by job all
+  that_keeps plan

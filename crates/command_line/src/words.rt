@@ -1,13 +1,13 @@
 ghost use Rattle.std.specs.Prelude.{◌≡◌, ◌≤◌, ◌<◌, ◌^◌, Some, None, map, length, nat_lt, ◌&&◌};
 ghost use Rattle.std.specs.Prelude.{◌↔◌, if◌then◌else◌, IsTrue, IfOk, IfSome};
 ghost use Rattle.std.specs.List.{list_all};
-ghost use Rattle.std.specs.Option.{ok_or};
+ghost use Rattle.std.specs.Option.{ok_or, option_and_then};
 ghost use Rattle.std.specs.String.{string_bytes};
 ghost use Rattle.script_spec.specs.Script.{is_digit, number_of};
 ghost use Rattle.history_spec.specs.declared.TheConstants.{JOURNAL_LEAST, JOURNAL_MOST};
 ghost use Rattle.history_spec.specs.Entry.{IsLimit};
 ghost use Rattle.command_line.specs.Words.{HasFittingPath, accepted, asked, device_of, flag_of};
-ghost use Rattle.command_line.specs.Words.{gathered, given, is_serve, is_workload, joined};
+ghost use Rattle.command_line.specs.Words.{gathered, is_serve, is_workload, joined};
 ghost use Rattle.command_line.specs.Words.{no_settings, number_within, once, path_of, plan_by};
 ghost use Rattle.command_line.specs.Words.{seed_of, setting_in, setting_of, settings_by};
 ghost use Rattle.command_line.specs.Words.{settings_of, takes_value, that_keeps, verb_of};
@@ -144,7 +144,7 @@ fn read_plan(words: &[String]) -> Option<Plan>
 
 // A plan, but not one that asks for the text of entries that aren't kept.
 fn that_keeps(plan: Option<Plan>) -> Option<Plan>
-    ensures { result ≡ given plan that_keeps }
+    ensures { result ≡ option_and_then that_keeps plan }
 {
     let plan = plan?;
     if plan.audit && plan.limit == SILENT_LIMIT {
@@ -167,7 +167,8 @@ fn read_verb(word: &str) -> Option<Verb>
 
 // The options that words give, each once at most. Nothing where they give none, or one twice.
 fn read_settings(words: &[String]) -> Option<Settings>
-    ensures { result ≡ given (settings_of (map string_bytes words.now)) (gathered no_settings) }
+    ensures { result
+        ≡ option_and_then (gathered no_settings) (settings_of (map string_bytes words.now)) }
 {
     let mut settings = Settings {
         device: None,
