@@ -19,7 +19,7 @@ use Rattle.tab_spec.specs.Session.{Session, IsSession, kind_octet}
 use Rattle.effect_spec.specs.Contexts.{Context, blob_fits, context_of, context_parameter, object_context, opened_object, session_context, opened_session}
 use Rattle.effect_spec.specs.Capabilities.{Listed, capability_of, device_limits, transient_from}
 use Rattle.effect_spec.specs.Sessions.{StartParameters, start_check}
-use Rattle.tab_spec.specs.Values.{Reading, number16, number32}
+use Rattle.tab_spec.specs.Values.{Reading, number16, number32, ◌>>=◌}
 use Rattle.tab_spec.specs.Reply.{error_reply, response, with_response_handle}
 use Rattle.tab_spec.specs.Parameters.{in_parameter, when_read, nothing_of}
 use Rattle.tab_spec.specs.declared.contexts.TheConstants.{PROFILE_CONTEXTS}
@@ -361,8 +361,9 @@ capability_row slots params =
     (listed_from 0 slots.sessions) (active_count slots.sessions) params
 
 abbrev pub capability_told : SlotState → Result (List ℕ) ℕ → Result Step ℕ
-capability_told slots (Err code) = Err code
-capability_told slots (Ok params) = Ok (slots, response ST_NO_SESSIONS RC_SUCCESS params)
+capability_told slots row = do
+  params ← row
+  Ok (slots, response ST_NO_SESSIONS RC_SUCCESS params)
 
 abbrev pub get_capability : SlotState → List ℕ → Result Step ℕ
 get_capability slots params = capability_told slots (capability_row slots params)

@@ -115,8 +115,9 @@ handle_items persist objects sessions property =
     else Err (RC_HANDLE + RC_P + RC_1 * 2)
 
 abbrev pub handles_listed : Asked → Result (List (List ℕ)) ℕ → Result (List ℕ) ℕ
-handles_listed asked (Err code) = Err code
-handles_listed asked (Ok items) = Ok (listed asked items)
+handles_listed asked found = do
+  items ← found
+  Ok (listed asked items)
 
 -- ---- commands (Part 2, "TPMA_CC")
 

@@ -6,7 +6,7 @@ use Rattle.tab_spec.specs.declared.Shape.{Shape}
 use Rattle.tab_spec.specs.declared.Auths.{Auths}
 use Rattle.effect_spec.specs.Operands.{CommandOutcome, Operands, Created, nothing, new_object, new_session, nothing_created, Operand, command_auth, operand_at, number_of, object_in, policy_session_in, handles_left, named_session, session_left}
 use Rattle.tab_spec.specs.Persist.{Persist, drawn}
-use Rattle.tab_spec.specs.Values.{sized_bytes, number16, number8}
+use Rattle.tab_spec.specs.Values.{sized_bytes, number16, number8, ◌>>=◌}
 use Rattle.tab_spec.specs.Admission.{unless_fault}
 use Rattle.tab_spec.specs.Parameters.{in_parameter, when_read}
 use Rattle.effect_spec.specs.Nv.{nv_define_row, nv_increment_row, nv_read_public_row, nv_read_row, nv_undefine_row, nv_write_row, undefined_index}
@@ -30,8 +30,9 @@ pub record Effect : Type 0 where
 -- ---- the rows: what is kept afterwards, and the parameters of the response
 
 abbrev pub random_row_drawn : Result (List ℕ × Persist) ℕ → Result (Persist × List ℕ) ℕ
-random_row_drawn (Err code) = Err code
-random_row_drawn (Ok draw) = Ok (draw.1, sized_bytes draw.0)
+random_row_drawn draw = do
+  (bytes, kept) ← draw
+  Ok (kept, sized_bytes bytes)
 
 -- GetRandom: bytesRequested, and the lesser of it and the most bytes at once
 abbrev pub random_row : Persist → List ℕ → Result (Persist × List ℕ) ℕ
@@ -43,13 +44,15 @@ self_test_row params = when_read (in_parameter 1 (number8 RC_INSUFFICIENT params
 
 -- a row that changes nothing
 abbrev pub keeping : Persist → Result (List ℕ) ℕ → Result (Persist × List ℕ) ℕ
-keeping persist (Err code) = Err code
-keeping persist (Ok params) = Ok (persist, params)
+keeping persist row = do
+  params ← row
+  Ok (persist, params)
 
 -- a row whose response has no parameters
 abbrev pub silent : Result Persist ℕ → Result (Persist × List ℕ) ℕ
-silent (Err code) = Err code
-silent (Ok kept) = Ok (kept, [])
+silent row = do
+  kept ← row
+  Ok (kept, [])
 
 -- the rows of NV indexes, with the handles of the command's operands
 abbrev pub nv_row : ℕ → Persist → ℕ → ℕ → List ℕ → Result (Persist × List ℕ) ℕ
@@ -80,28 +83,33 @@ pub record RowOutcome : Type 0 where
   pub params : List ℕ
 
 abbrev pub making_nothing : Result (Persist × List ℕ) ℕ → Result RowOutcome ℕ
-making_nothing (Err code) = Err code
-making_nothing (Ok done) = Ok (record { persist = done.0; created = nothing; policy = None; params = done.1 })
+making_nothing row = do
+  (kept, params) ← row
+  Ok (record { persist = kept; created = nothing; policy = None; params = params })
 
 -- a row that makes an object and changes nothing of what is kept
 abbrev pub making_object : Persist → Result (Object × List ℕ) ℕ → Result RowOutcome ℕ
-making_object persist (Err code) = Err code
-making_object persist (Ok done) = Ok (record { persist = persist; created = new_object done.0; policy = None; params = done.1 })
+making_object persist row = do
+  (made, params) ← row
+  Ok (record { persist = persist; created = new_object made; policy = None; params = params })
 
 -- a row that starts a session
 abbrev pub making_session : Result (Session × Persist × List ℕ) ℕ → Result RowOutcome ℕ
-making_session (Err code) = Err code
-making_session (Ok done) = Ok (record { persist = done.1; created = new_session done.0; policy = None; params = done.2 })
+making_session row = do
+  (started, kept, params) ← row
+  Ok (record { persist = kept; created = new_session started; policy = None; params = params })
 
 -- a row that changes a policy session, and nothing of what is kept
 abbrev pub changing_policy : Persist → Result (Session × List ℕ) ℕ → Result RowOutcome ℕ
-changing_policy persist (Err code) = Err code
-changing_policy persist (Ok done) = Ok (record { persist = persist; created = nothing; policy = Some done.0; params = done.1 })
+changing_policy persist row = do
+  (changed, params) ← row
+  Ok (record { persist = persist; created = nothing; policy = Some changed; params = params })
 
 -- the rows of the commands that name a policy session; the Name is that of the first handle
 abbrev pub keeping_session : Session → Result (List ℕ) ℕ → Result (Session × List ℕ) ℕ
-keeping_session s (Err code) = Err code
-keeping_session s (Ok params) = Ok (s, params)
+keeping_session s row = do
+  params ← row
+  Ok (s, params)
 
 abbrev pub policy_row : ℕ → Persist → Session → List ℕ → List ℕ → Result (Session × List ℕ) ℕ
 policy_row code persist s name params =

@@ -86,8 +86,9 @@ written by given item =
 
 -- an index that changed is kept
 abbrev pub keeping_index : Persist → ℕ → Result NvIndex ℕ → Result Persist ℕ
-keeping_index persist index (Err code) = Err code
-keeping_index persist index (Ok item) = Ok (record persist { nv = with_index index item persist.nv })
+keeping_index persist index changed = do
+  item ← changed
+  Ok (record persist { nv = with_index index item persist.nv })
 
 abbrev pub nv_write_row : Persist → ℕ → ℕ → List ℕ → Result Persist ℕ
 nv_write_row persist by index params =

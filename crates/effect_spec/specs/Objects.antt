@@ -133,19 +133,25 @@ abbrev pub child_with : Object → Template → List ℕ → List ℕ × Persist
 child_with parent t seed secret = (made_object parent.qualified_name t.public t.sensitive.auth seed secret.0, secret.1)
 
 abbrev pub child_by : Object → Template → List ℕ → Result (List ℕ × Persist) ℕ → Result (Object × Persist) ℕ
-child_by parent t seed (Err code) = Err code
-child_by parent t seed (Ok secret) = Ok (child_with parent t seed secret)
+child_by parent t seed draw = do
+  secret ← draw
+  Ok (child_with parent t seed secret)
 
 abbrev pub child_from : Object → Template → Result (List ℕ × Persist) ℕ → Result (Object × Persist) ℕ
-child_from parent t (Err code) = Err code
-child_from parent t (Ok seed) = child_by parent t seed.0 (if makes_secret t.public then drawn seed.1 (secret_size t.public) else Ok (t.sensitive.content, seed.1))
+child_from parent t draw = do
+  (seed, kept) ← draw
+  child_by parent t seed
+      (if makes_secret t.public then drawn kept (secret_size t.public)
+      else Ok (t.sensitive.content, kept))
 
 abbrev pub child_of : Persist → Object → Template → Result (Object × Persist) ℕ
 child_of persist parent t = child_from parent t (drawn persist 32)
 
 abbrev pub created_child : Persist → Object → Template → Result (Object × Persist) ℕ → Result (Persist × List ℕ) ℕ
-created_child persist parent t (Err code) = Err code
-created_child persist parent t (Ok child) = Ok (child.1, sized_bytes (private_bytes parent child.0) ++ created persist (under parent) t child.0.public)
+created_child persist parent t made = do
+  (child, kept) ← made
+  let given = created persist (under parent) t child.public
+  Ok (kept, sized_bytes (private_bytes parent child) ++ given)
 
 -- an object that isn't of the kind which a command asks for, before its parameters are read
 abbrev pub where_parent : {Y : Type 0} → Object → Result Y ℕ → Result Y ℕ

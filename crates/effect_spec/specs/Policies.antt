@@ -30,8 +30,9 @@ extended_digest old code more = sha256 (old ++ to_be_bytes w32 code ++ more)
 
 -- a row whose response has no parameters
 abbrev pub silent_policy : Result Session ℕ → Result (Session × List ℕ) ℕ
-silent_policy (Err code) = Err code
-silent_policy (Ok s) = Ok (s, [])
+silent_policy row = do
+  s ← row
+  Ok (s, [])
 
 -- ---- PolicyRestart, PolicyGetDigest, PolicyAuthValue, PolicyPassword
 

@@ -11,7 +11,7 @@ use Rattle.tab_spec.specs.declared.AuthNeeded.TheVariants as needs
 use Rattle.tab_spec.specs.declared.TheConstants.{RC_SUCCESS, RC_S, RC_1, RC_ATTRIBUTES, RC_SIZE, RC_BAD_AUTH, RC_AUTH_UNAVAILABLE, RC_PCR_CHANGED, RC_POLICY_FAIL, RC_POLICY_CC, HT_NV_INDEX}
 use Rattle.tab_spec.specs.NvIndex.{NvIndex, index_in}
 use Rattle.tab_spec.specs.Hash.{name_of, hmac}
-use Rattle.tab_spec.specs.Values.{nv_public_bytes, without_zeros, sized_bytes}
+use Rattle.tab_spec.specs.Values.{nv_public_bytes, without_zeros, sized_bytes, ◌>>=◌}
 use Rattle.effect_spec.specs.Operands.{Operand, a_session, absent, an_object, plain, operand_at}
 use Rattle.tab_spec.specs.Persist.{Persist, drawn}
 use Rattle.effect_spec.specs.Objects.{object_name}
@@ -137,12 +137,14 @@ pub record SessionResponse : Type 0 where
   pub answer : List ℕ
 
 abbrev pub session_response_with : Entity → Session → Auth → List ℕ → List ℕ → Result (List ℕ × Persist) ℕ → Result SessionResponse ℕ
-session_response_with entity s auth bytes hash (Err code) = Err code
-session_response_with entity s auth bytes hash (Ok nonce) = Ok (record {
-  persist = nonce.1;
-  session = continued_session s.kind (record s { nonce = nonce.0 });
-  answer = sized_bytes nonce.0 ++ auth.attributes ∷ sized_bytes (response_hmac entity s auth bytes hash nonce.0);
-})
+session_response_with entity s auth bytes hash draw = do
+  (nonce, kept) ← draw
+  Ok (record {
+    persist = kept;
+    session = continued_session s.kind (record s { nonce = nonce });
+    answer = sized_bytes nonce ++ auth.attributes
+        ∷ sized_bytes (response_hmac entity s auth bytes hash nonce);
+  })
 
 -- a session draws a new nonceTPM of its length, also where it ends
 abbrev pub session_response : Persist → Entity → Session → Auth → List ℕ → List ℕ → Result SessionResponse ℕ
@@ -161,8 +163,9 @@ pub record ResponseAuth : Type 0 where
   pub answer : List ℕ
 
 abbrev pub session_response_auth : Result SessionResponse ℕ → Result ResponseAuth ℕ
-session_response_auth (Err code) = Err code
-session_response_auth (Ok c) = Ok (record { persist = c.persist; session = Some c.session; answer = c.answer })
+session_response_auth made = do
+  left ← made
+  Ok (record { persist = left.persist; session = Some left.session; answer = left.answer })
 
 abbrev pub response_auth : Persist → Entity → Option Session → Auth → List ℕ → List ℕ → Result ResponseAuth ℕ
 response_auth persist entity None auth bytes hash = Ok (record { persist = persist; session = None; answer = password_response_auth })

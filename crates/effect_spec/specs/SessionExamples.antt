@@ -3,7 +3,7 @@
 use Rattle.std.specs.Prelude.{ℕ, true, List, [], ◌∷◌, ◌++◌, replicate, Option, Result}
 use Rattle.std.specs.Int.{w16, to_be_bytes}
 use Rattle.tab_spec.specs.declared.Auth.{Auth}
-use Rattle.tab_spec.specs.declared.AuthNeeded.TheVariants.{AuthValue}
+use Rattle.tab_spec.specs.declared.AuthNeeded.TheVariants.{AuthValue, Password}
 use Rattle.tab_spec.specs.declared.TheConstants.{CC_NV_READ, CC_UNSEAL, RH_OWNER}
 use Rattle.effect_spec.specs.Sessions.{StartParameters}
 use Rattle.effect_spec.specs.SessionAuths.{SessionResponse, cp_hash, rp_hash, session_fault, session_response}
@@ -13,8 +13,10 @@ use Rattle.tab_spec.specs.Persist.{Persist, fresh_persist}
 use Rattle.tab_spec.specs.Session.{Session}
 use Rattle.tab_spec.specs.Examples.{bytes_of, policy_session, u32}
 use Rattle.tab_spec.specs.SessionExamples.{hmac_session, session_auth, two_values_digest}
-use Rattle.effect_spec.specs.Policies.{policy_secret_row}
-use Rattle.tab_spec.specs.Values.{sized_bytes}
+use Rattle.tab_spec.specs.SessionExamples.{pcr_7, updated, zero_pcr}
+use Rattle.effect_spec.specs.Policies.{policy_command_code_row, policy_needs_row, policy_pcr_row}
+use Rattle.effect_spec.specs.Policies.{policy_restart_row, policy_secret_row}
+use Rattle.tab_spec.specs.Values.{sized_bytes, ◌>>=◌}
 
 -- ---- sessions
 
@@ -34,6 +36,25 @@ secret nonce cp_hash policy_ref expiration = sized_bytes nonce ++ sized_bytes cp
 -- PolicySecret of the owner by a policy session that was just begun, and the parameters of its response
 abbrev pub owner_secret : List ℕ → Result (Session × List ℕ) ℕ
 owner_secret params = policy_secret_row policy_session (u32 RH_OWNER) params
+
+-- PolicyRestart after what another command makes of a session
+abbrev pub restarted_after : Result Session ℕ → Result Session ℕ
+restarted_after changed = do
+  s ← changed
+  policy_restart_row s []
+
+-- PolicyAuthValue, then PolicyPassword
+abbrev pub value_and_password : Result Session ℕ
+value_and_password = do
+  s ← policy_needs_row AuthValue policy_session []
+  policy_needs_row Password s []
+
+-- PolicyPCR of PCR 7, then PolicyAuthValue, then PolicyCommandCode of Sign
+abbrev pub pcr_value_and_code : Result Session ℕ
+pcr_value_and_code = do
+  s ← policy_pcr_row (updated 5) policy_session (pcr_7 zero_pcr)
+  s ← policy_needs_row AuthValue s []
+  policy_command_code_row s (u32 0x15d)
 
 -- ---- authorizations
 

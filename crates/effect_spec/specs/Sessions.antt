@@ -44,8 +44,9 @@ abbrev pub initial_session : SessionKind → List ℕ → Session
 initial_session kind nonce = record { kind = kind; nonce = nonce; digest = replicate 32 0; command_code = None; needed = needs.Nothing; pcr_updates = None }
 
 abbrev pub initial_session_with : SessionKind → Result (List ℕ × Persist) ℕ → Result (Session × Persist) ℕ
-initial_session_with kind (Err code) = Err code
-initial_session_with kind (Ok nonce) = Ok (initial_session kind nonce.0, nonce.1)
+initial_session_with kind draw = do
+  (nonce, kept) ← draw
+  Ok (initial_session kind nonce, kept)
 
 -- the parameters of StartAuthSession, or the code of their first fault: what is asked before anything of the
 -- device is looked at
@@ -54,12 +55,14 @@ start_check params = when_read (start_parameters_of params) (λ b. unless_fault 
 
 -- a session that started: what is kept then, and the parameters of the response
 abbrev pub started_session : Result (Session × Persist) ℕ → Result (Session × Persist × List ℕ) ℕ
-started_session (Err code) = Err code
-started_session (Ok started) = Ok (started.0, started.1, sized_bytes started.0.nonce)
+started_session started = do
+  (s, kept) ← started
+  Ok (s, kept, sized_bytes s.nonce)
 
 abbrev pub session_started : Persist → Result StartParameters ℕ → Result (Session × Persist × List ℕ) ℕ
-session_started persist (Err code) = Err code
-session_started persist (Ok b) = started_session (initial_session_with (kind_of b.kind) (drawn persist (length b.nonce)))
+session_started persist checked = do
+  b ← checked
+  started_session (initial_session_with (kind_of b.kind) (drawn persist (length b.nonce)))
 
 -- StartAuthSession, where there is room for a session: its nonceTPM is drawn
 abbrev pub start_session_row : Persist → List ℕ → Result (Session × Persist × List ℕ) ℕ

@@ -2,7 +2,7 @@
 -- this project's own profile.
 use Rattle.std.specs.Prelude.{ℕ, ◌+◌, ◌*◌, ◌==◌, List, length, Result, Ok, Err, if◌then◌else◌}
 use Rattle.tab_spec.specs.declared.TheConstants.{RC_P, RC_1, RC_SIZE}
-use Rattle.tab_spec.specs.Values.{Reading}
+use Rattle.tab_spec.specs.Values.{Reading, ◌>>=◌}
 
 -- a fault of the parameter with this number, from 1
 abbrev pub in_parameter : {X : Type 0} → ℕ → Reading X → Reading X
@@ -11,8 +11,9 @@ in_parameter number (Ok read) = Ok read
 
 -- what comes of the parameters, where nothing follows them
 abbrev pub when_read : {X Y : Type 0} → Reading X → (X → Result Y ℕ) → Result Y ℕ
-when_read (Err code) next = Err code
-when_read (Ok read) next = if length read.1 == 0 then next read.0 else Err RC_SIZE
+when_read reading next = do
+  (x, rest) ← reading
+  if length rest == 0 then next x else Err RC_SIZE
 
 -- no parameters
 abbrev pub nothing_of : List ℕ → Reading ℕ

@@ -1,6 +1,6 @@
 -- Worked examples of sessions and their policies, which the examples in src/ cite. A session of the examples has a nonce of 32 ones, and its policy
 -- digest is 32 zeros. The hashes were computed by another program.
-use Rattle.std.specs.Prelude.{ℕ, ◌+◌, List, [], ◌∷◌, ◌++◌, length, replicate, flat_map, Some, Result, Ok, Err}
+use Rattle.std.specs.Prelude.{ℕ, ◌+◌, List, [], ◌∷◌, ◌++◌, length, replicate, flat_map, Some}
 use Rattle.tab_spec.specs.declared.Auth.{Auth}
 use Rattle.tab_spec.specs.declared.SessionKind.TheVariants.{Hmac, Trial}
 use Rattle.tab_spec.specs.declared.AuthNeeded.TheVariants.{Password}
@@ -23,11 +23,6 @@ abbrev pub used_session : Session
 used_session = record policy_session { digest = replicate 32 2; command_code = Some CC_UNSEAL; needed = Password; pcr_updates = Some 7 }
 
 -- ---- commands of policies
-
--- what the next command makes of a session
-abbrev pub and_then : Result Session ℕ → (Session → Result Session ℕ) → Result Session ℕ
-and_then (Err code) next = Err code
-and_then (Ok s) next = next s
 
 -- what a device keeps whose PCRs are zero, and were updated so often
 abbrev pub updated : ℕ → Persist

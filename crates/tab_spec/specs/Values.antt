@@ -17,14 +17,15 @@ AreBytes bytes = AllByRecursion (λ byte. byte < 256) bytes
 abbrev pub Reading : Type 0 → Type 0
 Reading X = Result (X × List ℕ) ℕ
 
-abbrev pub then_read : {X Y : Type 0} → Reading X → (X → List ℕ → Reading Y) → Reading Y
-then_read (Err code) next = Err code
-then_read (Ok read) next = next read.0 read.1
-
--- in `do`, `(x, rest) ← reading` names what was read and the bytes after it
+-- what the next step makes of a result that isn't a fault. In `do`, `x ← result` names it, and
+-- `(x, rest) ← reading` what was read and the bytes after it
 infixl 10 ◌>>=◌
-abbrev pub ◌>>=◌ : {X Y : Type 0} → Reading X → (X × List ℕ → Reading Y) → Reading Y
-reading >>= next = then_read reading (λ x rest. next (x, rest))
+abbrev pub ◌>>=◌ : {X Y : Type 0} → Result X ℕ → (X → Result Y ℕ) → Result Y ℕ
+Err code >>= next = Err code
+Ok x >>= next = next x
+
+abbrev pub then_read : {X Y : Type 0} → Reading X → (X → List ℕ → Reading Y) → Reading Y
+then_read reading next = reading >>= (λ read. next read.0 read.1)
 
 -- what was read, where it passes a test
 abbrev pub require : {X : Type 0} → (X → Bool) → ℕ → Reading X → Reading X

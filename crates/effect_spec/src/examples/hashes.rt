@@ -15,11 +15,12 @@ ghost use Rattle.effect_spec.specs.Policies.{policy_pcr_row, policy_or_row};
 ghost use Rattle.effect_spec.specs.SessionAuths.{operand_name};
 ghost use Rattle.tab_spec.specs.Examples.{u32, bytes_of, policy_session, with_indexes, counter};
 ghost use Rattle.tab_spec.specs.Examples.{sealed_bytes, loaded_parent, context_with};
-ghost use Rattle.tab_spec.specs.SessionExamples.{hmac_session, used_session, and_then, updated};
+ghost use Rattle.tab_spec.specs.SessionExamples.{hmac_session, used_session, updated};
 ghost use Rattle.tab_spec.specs.SessionExamples.{pcr_0, pcr_7, zero_pcr, value_digest};
 ghost use Rattle.tab_spec.specs.SessionExamples.{two_values_digest, code_digest, pcr_0_digest};
 ghost use Rattle.tab_spec.specs.SessionExamples.{branches, secret_reply, caller, keyed_hmac};
 ghost use Rattle.tab_spec.specs.SessionExamples.{unkeyed_hmac, next_16, next_32};
+ghost use Rattle.effect_spec.specs.SessionExamples.{value_and_password, pcr_value_and_code};
 ghost use Rattle.effect_spec.specs.SessionExamples.{secret, owner_secret, guarded, unseal_fault};
 ghost use Rattle.effect_spec.specs.SessionExamples.{unseal_response, command_fault};
 ghost use Rattle.effect_spec.specs.SessionExamples.{command_response, read_by_session};
@@ -29,8 +30,7 @@ ghost use Rattle.effect_spec.specs.SessionExamples.{unsealed_by_policy};
 fn values_and_codes_are_hashed()
     ensures auth_value { policy_needs_row AuthValue policy_session []
         ≡ Ok (record policy_session { digest = value_digest; needed = AuthValue }) }
-    ensures both { and_then (policy_needs_row AuthValue policy_session [])
-        (λ s. policy_needs_row Password s [])
+    ensures both { value_and_password
         ≡ Ok (record policy_session { digest = two_values_digest; needed = Password }) }
     ensures code { policy_command_code_row policy_session (u32 0x155)
         ≡ Ok (record policy_session { digest = code_digest; command_code = Some 0x155 }) }
@@ -45,10 +45,7 @@ fn pcrs_are_hashed()
     ensures another_pcr { policy_pcr_row (updated 5) policy_session
         (pcr_0 (bytes_of 32 0x66687aadf862bd776c8fc18b8e9f8e20089714856ee233b3902a591d0d5f2924))
         ≡ Err 0x1c4 }
-    ensures pcr_and_value_and_code { and_then
-        (and_then (policy_pcr_row (updated 5) policy_session (pcr_7 zero_pcr))
-        (λ s. policy_needs_row AuthValue s []))
-        (λ s. policy_command_code_row s (u32 0x15d))
+    ensures pcr_and_value_and_code { pcr_value_and_code
         ≡ Ok (record policy_session {
           digest = bytes_of 32 0x130671e8848c1d3677f9af1d2ce32475107fd89c9f4b657ca34ae1925af2d72b;
           command_code = Some 0x15d;

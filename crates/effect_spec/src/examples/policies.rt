@@ -9,9 +9,9 @@ ghost use Rattle.effect_spec.specs.Policies.{policy_restart_row, policy_get_dige
 ghost use Rattle.effect_spec.specs.Policies.{policy_needs_row, policy_command_code_row};
 ghost use Rattle.effect_spec.specs.Policies.{policy_pcr_row, policy_or_row, policy_secret_row};
 ghost use Rattle.tab_spec.specs.Examples.{u32, policy_session};
-ghost use Rattle.tab_spec.specs.SessionExamples.{trial_session, used_session, and_then, updated};
+ghost use Rattle.tab_spec.specs.SessionExamples.{trial_session, used_session, updated};
 ghost use Rattle.tab_spec.specs.SessionExamples.{pcr_0, branches, secret_reply};
-ghost use Rattle.effect_spec.specs.SessionExamples.{secret, owner_secret};
+ghost use Rattle.effect_spec.specs.SessionExamples.{secret, owner_secret, restarted_after};
 
 // Restarted, a session is as it began but for its kind and its nonce.
 fn policies_begin_again()
@@ -19,11 +19,9 @@ fn policies_begin_again()
     ensures kind_and_nonce { policy_restart_row
         (record used_session { kind = Trial; nonce = replicate 16 9 }) []
         ≡ Ok (record policy_session { kind = Trial; nonce = replicate 16 9 }) }
-    ensures after_a_code { and_then (policy_command_code_row policy_session (u32 0x15e))
-        (λ s. policy_restart_row s [])
+    ensures after_a_code { restarted_after (policy_command_code_row policy_session (u32 0x15e))
         ≡ Ok policy_session }
-    ensures after_pcrs { and_then (policy_pcr_row (updated 5) policy_session (pcr_0 []))
-        (λ s. policy_restart_row s [])
+    ensures after_pcrs { restarted_after (policy_pcr_row (updated 5) policy_session (pcr_0 []))
         ≡ Ok policy_session }
     ensures one_byte_over { policy_restart_row used_session (0 ∷ []) ≡ Err 0x95 }
     ensures digest { policy_get_digest_row used_session [] ≡ Ok (0 ∷ 32 ∷ replicate 32 2) }
