@@ -10,8 +10,8 @@ use Rattle.tab_spec.specs.Shape.{number_of_session}
 use Rattle.tab_spec.specs.declared.numbers.Numbers.{Numbers}
 use Rattle.tab_spec.specs.declared.contexts.ContextLimits.{ContextLimits}
 use Rattle.session_swap.specs.declared.record.Record.{Record}
-use Rattle.session_swap.specs.Items.{Item, Names, is_left, is_orphan, is_owned, is_owner, item_at, owner_in}
-use Rattle.session_swap.specs.Records.{AreListed, AreRecords, IsHandleOf, OrderView, handed_of, item_of_record, items_of}
+use Rattle.session_swap.specs.Items.{IsLeftAt, Item, Names, is_left, is_orphan, is_owned, is_owner, item_at, owner_in}
+use Rattle.session_swap.specs.Records.{AreListed, AreRecords, IsHandleOf, OrderView, handed_of, item_of_record, items_of, whole_view}
 use Rattle.session_swap.proofs.Among.{some_inside}
 use Rattle.session_swap.proofs.Listing.{listed_is}
 use Rattle.session_swap.proofs.Making.{own_handle, own_item, own_number, own_there, read_there}
@@ -67,14 +67,19 @@ left_some : (item : Option Item) → is_left item ≡ true → is_some item ≡ 
 left_some None is = absurd cc
 left_some (Some item) is = refl
 
--- what is listed as left has a record
+-- what is listed as left is a left session
+left_is : {contexts : ContextLimits} {numbers : Numbers} (records : List Record) (order : OrderView) (left : List ℕ) (held place number : ℕ)
+    → AreListed contexts numbers records order left held → slice_get left place ≡ Some number → is_left (item_at (items_of records) number) ≡ true
+left_is records order left held place number kept there =
+    let items = items_of records in
+    ap (λ (n : ℕ). is_left (item_at items n)) (sym (get_or_from_slice_get left place number 0 there))
+    ∙ listed_is is_left refl items left place 0 kept.left_are (slice_get_within left place number there)
+
+-- so it has a record
 pub left_inside : {contexts : ContextLimits} {numbers : Numbers} (records : List Record) (order : OrderView) (left : List ℕ) (held place number : ℕ)
     → AreListed contexts numbers records order left held → slice_get left place ≡ Some number → is_some (item_at (items_of records) number) ≡ true
 left_inside records order left held place number kept there =
-    let items = items_of records in
-    left_some (item_at items number)
-    (ap (λ (n : ℕ). is_left (item_at items n)) (sym (get_or_from_slice_get left place number 0 there))
-    ∙ listed_is is_left refl items left place 0 kept.left_are (slice_get_within left place number there))
+    left_some (item_at (items_of records) number) (left_is records order left held place number kept there)
 
 pub left_below : {contexts : ContextLimits} {numbers : Numbers} (records : List Record) (order : OrderView) (left : List ℕ) (held place number : ℕ)
     → AreListed contexts numbers records order left held → slice_get left place ≡ Some number → number < length records
@@ -86,17 +91,20 @@ left_below records order left held place number kept there =
     )
 
 -- and its handle names it
-pub left_named : {contexts : ContextLimits} {numbers : Numbers} (records : List Record) (order : OrderView) (left : List ℕ) (held place number : ℕ)
+pub left_named : {contexts : ContextLimits} (numbers : Numbers) (records : List Record) (next : ℕ) (order : OrderView) (left : List ℕ) (held place number : ℕ)
     (r : Record) → AreListed contexts numbers records order left held → slice_get left place ≡ Some number → r ≡ get_or records number r
-    → (slice_get left place ≡ Some (number_of_session r.handle)) × Names (items_of records) r.handle
-left_named records order left held place number r kept there is =
+    → IsLeftAt (whole_view numbers records next order left contexts) place r.handle
+left_named numbers records next order left held place number r kept there is =
     let items = items_of records in
     let inside = left_below records order left held place number kept there in
     let here = read_there records number r inside is in
     let some : is_some (item_of_record r) ≡ true =
     ap (λ (o : Option Item). is_some o) (sym here) ∙ left_inside records order left held place number kept there in
     let handle : IfSome (item_of_record r) (λ item. IsHandleOf number item) =
-    subst (λ (o : Option Item). IfSome o (λ item. IsHandleOf number item)) here (kept.sound.handles number) in (
-      there ∙ ap (λ (n : ℕ). Some n) (sym (own_number r.place r.client r.handle r.context.items (handed_of r) number some handle)),
-      ap (λ (o : Option Item). is_some o) (own_item records number r kept.sound inside is some) ∙ some,
-    )
+    subst (λ (o : Option Item). IfSome o (λ item. IsHandleOf number item)) here (kept.sound.handles number) in
+    let own = own_item records number r kept.sound inside is some in
+    record {
+      named = ap (λ (o : Option Item). is_some o) own ∙ some;
+      left = ap is_left (own ∙ sym here) ∙ left_is records order left held place number kept there;
+      place_is = there ∙ ap (λ (n : ℕ). Some n) (sym (own_number r.place r.client r.handle r.context.items (handed_of r) number some handle));
+    }

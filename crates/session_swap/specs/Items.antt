@@ -2,7 +2,7 @@
 -- (Part 1, "Session Context Management"). A client may have saved one itself: that isn't in use until the context that was handed out
 -- for it is given back. Once its client has closed, such a session is left: whoever gives the context back gets it. What a device that
 -- tells its state has of them is said over that state.
-use Rattle.std.specs.Prelude.{◌≡◌, ◌<◌, ◌≤◌, ◌⊎◌, ℕ, ◌+◌, ◌-◌, ◌*◌, ◌^◌, ◌==◌, ◌&&◌, ◌||◌, min, not, bytes_eq, Bool, true, false, List, [], ◌∷◌, ◌++◌, length, map, get_or, set, replicate, slice_get, Option, Some, None, is_some, IfSome, IsSomeAnd, Result, Ok, Err, OnErr, OnOk, take, drop, if◌then◌else◌}
+use Rattle.std.specs.Prelude.{◌≡◌, ◌<◌, ◌≤◌, ◌⊎◌, ℕ, ◌+◌, ◌-◌, ◌*◌, ◌^◌, ◌==◌, ◌&&◌, ◌||◌, min, not, bytes_eq, Bool, true, false, List, [], ◌∷◌, ◌++◌, length, map, get_or, set, replicate, slice_get, Option, Some, None, is_some, IfSome, IsSomeAnd, Result, Ok, Err, IfOk, OnErr, OnOk, take, drop, if◌then◌else◌}
 use Rattle.std.specs.Int.{w64, from_be_bytes}
 use Rattle.std.specs.List.{AllByRecursion, count_by, list_any}
 use Rattle.tab_spec.specs.declared.TheConstants.{CONTEXT_LIMIT, HEADER_BYTES, RC_SUCCESS, SESSION_NUMBERS, ST_NO_SESSIONS}
@@ -20,7 +20,7 @@ use Rattle.session_swap.specs.declared.TheConstants.{NEEDED_MOST}
 use Rattle.effect_spec.specs.Contexts.{session_context}
 use Rattle.device_spec.specs.Answers.{is_word, word_at}
 use Rattle.device_spec.specs.ContextCommands.{context_save_command}
-use Rattle.device_port.specs.Own.{IsAnswered, Succeeds}
+use Rattle.device_port.specs.Own.{AsksSome, IsAnswered, Succeeds}
 use Rattle.device_spec.specs.Slots.{SessionPlace, SlotState, IsSlots, inactive, saved, gap_from, gap_of, is_active, is_active_with, is_loaded, loaded, loaded_count, no_sessions, older, session_at}
 
 -- a context that a session can be loaded from, and its number
@@ -251,6 +251,12 @@ pub record IsFirst (view : SessionsView) (handle : ℕ) : Type 0 where
   pub named : Names view.items handle
   pub saved : is_saved_item (item_of view.items handle) ≡ true
   pub first : slice_get view.saved 0 ≡ Some (number_of_session handle)
+
+-- the handle of the session that was left at this place, in the order of leaving
+pub record IsLeftAt (view : SessionsView) (place handle : ℕ) : Type 0 where
+  pub named : Names view.items handle
+  pub left : is_left (item_of view.items handle) ≡ true
+  pub place_is : slice_get view.left place ≡ Some (number_of_session handle)
 
 -- a saved session whose context has the least number
 pub record IsOldest (items : List (Option Item)) (handle : ℕ) : Type 0 where
@@ -591,6 +597,22 @@ pub record RefreshCounts {D : Type 0} (seen : D → Seen) (old new : D) (view : 
   pub sent : sent_of (seen new) ≤ sent_of (seen old) + 2 * saved_items view.items + 1
   pub few : saved_items view.items ≤ view.numbers.active
 
+-- contexts may be renewed: there is room for them, and there are so many numbers for more of them
+pub record MayRenew (contexts : ContextLimits) (state : Option SlotState) (view : SessionsView) (most : ℕ) : Type 0 where
+  pub made_for : view.contexts ≡ contexts
+  pub stand : Stand state view []
+  pub room : HasGapRoom state
+  pub numbers : counter_of state + most ≤ CONTEXT_LIMIT
+
+-- the session of a handle was renewed, unless the call failed; every other one that was saved stays where it was, also then
+pub record RenewsOne {D : Type 0} (contexts : ContextLimits) (seen : D → Seen) (handle : ℕ) (old new : D) (view new_view : SessionsView)
+    (result : Result (Unit {0}) SwapError) : Type 0 where
+  pub ok : OnOk result (Renews contexts (seen old) (seen new) handle view.items new_view.items × IsSavedAgain view new_view handle)
+  pub others : AreKept (number_of_session handle) view.items new_view.items
+  pub moved : Moved seen old new view new_view
+  pub counts : RenewalCounts seen old new view
+  pub asks : AsksSome contexts seen old new result
+
 -- so many contexts were renewed, and no renewal is due any more
 pub record Refreshes (state new_state : Option SlotState) (view new_view : SessionsView) (renewed : ℕ) : Type 0 where
   pub narrow : IsNarrow new_state
@@ -601,6 +623,18 @@ pub record Refreshes (state new_state : Option SlotState) (view new_view : Sessi
   pub done : (gap_first new_view < renewal_gap new_view.numbers) ⊎ (renewed ≡ saved_items view.items)
   -- and the order of use stays, but for the least recently used session: where no place was free it was saved before the first renewal
   pub order : new_view.order ≡ drop (min renewed (full_kept view)) view.order
+
+-- contexts were renewed until none is due, unless the call failed
+pub record RefreshesAll {D : Type 0} (contexts : ContextLimits) (seen : D → Seen) (old new : D) (view new_view : SessionsView)
+    (result : Result ℕ SwapError) : Type 0 where
+  pub ok : IfOk result (λ renewed. Refreshes (seen old).state (seen new).state view new_view renewed)
+  -- where none is due, nothing is sent
+  pub still : gap_kept view < renewal_gap view.numbers → (new ≡ old) × (new_view ≡ view) × (result ≡ Ok 0)
+  -- a saved session whose context isn't due is as it was
+  pub recent : IfSome (seen new).state (λ slots. KeepsRecent slots view.items new_view.items)
+  pub moved : Moved seen old new view new_view
+  pub counts : RefreshCounts seen old new view
+  pub asks : AsksSome contexts seen old new result
 
 -- how many records of the lists a refresh visits at the most, where so many sessions were saved before
 abbrev pub Visited : ℕ → ℕ → ℕ → Result ℕ SwapError → Type 0

@@ -1,9 +1,5 @@
-ghost use Rattle.std.specs.Prelude.{◌≡◌, ◌≤◌, ◌<◌, ◌+◌, ◌*◌, [], IfOk, IfSome, Ok};
-ghost use Rattle.tab_spec.specs.declared.TheConstants.{CONTEXT_LIMIT};
-ghost use Rattle.session_swap.specs.Items.{HasGapRoom, KeepsRecent, Moved, RefreshCounts};
-ghost use Rattle.session_swap.specs.Items.{Refreshes, Stand, Visited, counter_of, gap_kept};
-ghost use Rattle.session_swap.specs.Items.{renewal_gap, saved_items};
-ghost use Rattle.device_port.specs.Own.{AsksSome};
+ghost use Rattle.std.specs.Prelude.{◌≤◌, ◌+◌, ◌*◌, IfOk};
+ghost use Rattle.session_swap.specs.Items.{MayRenew, RefreshesAll, Visited, saved_items};
 
 use crate::order::{Uncounted, Visits};
 use crate::sessions::Sessions;
@@ -22,20 +18,9 @@ pub fn refresh<D: Device>(
     device: &mut D,
     scratch: &mut Buffer,
 ) -> Result<u32, SwapError>
-    requires contexts { sessions.old.contexts ≡ D.CONTEXTS }
-    requires stand { Stand (D.seen device.old).state sessions.old [] }
-    requires may { HasGapRoom (D.seen device.old).state
-        × (counter_of (D.seen device.old).state + 1000 ≤ CONTEXT_LIMIT) }
-    ensures ok { IfOk result (λ renewed. Refreshes (D.seen device.old).state
-        (D.seen device.new).state sessions.old sessions.new renewed) }
-    ensures still { gap_kept sessions.old < renewal_gap sessions.old.numbers
-        → (device.new ≡ device.old) × (sessions.new ≡ sessions.old) × (result ≡ Ok 0) }
-    // A saved session whose context isn't due is as it was.
-    ensures recent { IfSome (D.seen device.new).state
-        (λ slots. KeepsRecent slots sessions.old.items sessions.new.items) }
-    ensures moved { Moved D.seen device.old device.new sessions.old sessions.new }
-    ensures counts { RefreshCounts D.seen device.old device.new sessions.old }
-    ensures asks { AsksSome D.CONTEXTS D.seen device.old device.new result }
+    requires { MayRenew D.CONTEXTS (D.seen device.old).state sessions.old 1000 }
+    ensures { RefreshesAll D.CONTEXTS D.seen device.old device.new sessions.old
+        sessions.new result }
 {
     refresh_by(sessions, device, scratch, &mut Uncounted)
 }
@@ -49,21 +34,11 @@ pub fn refresh_counted<D: Device, L: Ledger>(
     scratch: &mut Buffer,
     steps: &mut Steps<L>,
 ) -> Result<u32, SwapError>
-    requires contexts { sessions.old.contexts ≡ D.CONTEXTS }
-    requires stand { Stand (D.seen device.old).state sessions.old [] }
-    requires may { HasGapRoom (D.seen device.old).state
-        × (counter_of (D.seen device.old).state + 1000 ≤ CONTEXT_LIMIT) }
-    ensures ok { IfOk result (λ renewed. Refreshes (D.seen device.old).state
-        (D.seen device.new).state sessions.old sessions.new renewed) }
-    ensures still { gap_kept sessions.old < renewal_gap sessions.old.numbers
-        → (device.new ≡ device.old) × (sessions.new ≡ sessions.old) × (result ≡ Ok 0) }
-    ensures recent { IfSome (D.seen device.new).state
-        (λ slots. KeepsRecent slots sessions.old.items sessions.new.items) }
-    ensures moved { Moved D.seen device.old device.new sessions.old sessions.new }
-    ensures counts { RefreshCounts D.seen device.old device.new sessions.old
-        × Visited steps.old steps.new (saved_items sessions.old.items) result }
+    requires { MayRenew D.CONTEXTS (D.seen device.old).state sessions.old 1000 }
+    ensures refreshes { RefreshesAll D.CONTEXTS D.seen device.old device.new sessions.old
+        sessions.new result }
+    ensures steps { Visited steps.old steps.new (saved_items sessions.old.items) result }
     ensures counted { IfOk result (λ renewed. steps.old + 5 * renewed ≤ steps.new) }
-    ensures asks { AsksSome D.CONTEXTS D.seen device.old device.new result }
 {
     refresh_by(sessions, device, scratch, steps)
 }
@@ -74,22 +49,13 @@ fn refresh_by<D: Device, C: Visits>(
     scratch: &mut Buffer,
     steps: &mut C,
 ) -> Result<u32, SwapError>
-    requires contexts { sessions.old.contexts ≡ D.CONTEXTS }
-    requires stand { Stand (D.seen device.old).state sessions.old [] }
-    requires may { HasGapRoom (D.seen device.old).state
-        × (counter_of (D.seen device.old).state + 1000 ≤ CONTEXT_LIMIT) }
-    ensures ok { IfOk result (λ renewed. Refreshes (D.seen device.old).state
-        (D.seen device.new).state sessions.old sessions.new renewed) }
-    ensures still { gap_kept sessions.old < renewal_gap sessions.old.numbers
-        → (device.new ≡ device.old) × (sessions.new ≡ sessions.old) × (result ≡ Ok 0) }
-    ensures recent { IfSome (D.seen device.new).state
-        (λ slots. KeepsRecent slots sessions.old.items sessions.new.items) }
-    ensures moved { Moved D.seen device.old device.new sessions.old sessions.new }
-    ensures counts { RefreshCounts D.seen device.old device.new sessions.old
-        × Visited (C.count steps.old) (C.count steps.new) (saved_items sessions.old.items) result }
+    requires { MayRenew D.CONTEXTS (D.seen device.old).state sessions.old 1000 }
+    ensures refreshes { RefreshesAll D.CONTEXTS D.seen device.old device.new sessions.old
+        sessions.new result }
+    ensures steps { Visited (C.count steps.old) (C.count steps.new)
+        (saved_items sessions.old.items) result }
     ensures counted { IfOk result (λ renewed.
         C.count steps.old + renewed * (5 * C.weight) ≤ C.count steps.new) }
-    ensures asks { AsksSome D.CONTEXTS D.seen device.old device.new result }
 {
     let most = u32::from(sessions.saved());
     for renewed in 0..most {

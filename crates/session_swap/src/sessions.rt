@@ -1,6 +1,5 @@
 ghost use Rattle.std.specs.Prelude.{◌≡◌, ◌≤◌, ◌<◌, ◌+◌, ◌==◌, ◌++◌, ◌∷◌, [], ℕ, List, map, set};
 ghost use Rattle.std.specs.Prelude.{true, false, is_some, ◌*◌, length, None, Some, IfOk};
-ghost use Rattle.std.specs.Prelude.{slice_get};
 ghost use Rattle.std.specs.Prelude.{◌-◌, IfErr, IfSome, MatchOption, OnOk, OnErr};
 ghost use Rattle.std.specs.List.{count_by, list_any};
 ghost use Rattle.tab_spec.specs.Shape.{number_of_session};
@@ -14,11 +13,11 @@ ghost use Rattle.tab_spec.specs.Admission.{is_session_handle};
 ghost use Rattle.device_spec.specs.Answers.{word_at};
 ghost use Rattle.device_spec.specs.Slots.{SlotState};
 ghost use Rattle.device_spec.specs.ContextCommands.{context_save_command, flush_context_command};
-ghost use Rattle.session_swap.specs.Items.{AreKept, AreNeeded, Ends, HavePlaces, full_kept};
-ghost use Rattle.session_swap.specs.Items.{HasGapRoom, IsFirst, IsNarrow, IsOldest, IsSavedAgain};
-ghost use Rattle.session_swap.specs.Items.{MakesNoContext};
-ghost use Rattle.session_swap.specs.Items.{MakesRoom, MayHandOut, Moved, Names, RenewalCounts};
-ghost use Rattle.session_swap.specs.Items.{Renews, Rise, SavesForClient, SavesTold, SessionsStand};
+ghost use Rattle.session_swap.specs.Items.{AreNeeded, Ends, HavePlaces, full_kept};
+ghost use Rattle.session_swap.specs.Items.{HasGapRoom, IsFirst, IsLeftAt, IsNarrow, IsOldest};
+ghost use Rattle.session_swap.specs.Items.{MakesNoContext, MayRenew};
+ghost use Rattle.session_swap.specs.Items.{MakesRoom, MayHandOut, Moved, Names, RenewsOne};
+ghost use Rattle.session_swap.specs.Items.{Rise, SavesForClient, SavesTold, SessionsStand};
 ghost use Rattle.session_swap.specs.Items.{Stand, StillStand, counter_of, disowned, gap_first};
 ghost use Rattle.session_swap.specs.Items.{ListsThose, flag, gap_in, gap_kept, numbers_along};
 ghost use Rattle.session_swap.specs.Items.{is_handed_to, is_held, is_left, is_loaded_item};
@@ -361,8 +360,7 @@ impl Sessions {
         ensures first { MatchOption result
             (length self.new.left ≤ leave_limit self.new.numbers.active)
             (λ first. (leave_limit self.new.numbers.active < length self.new.left)
-            × (slice_get self.new.left 0 ≡ Some (number_of_session first))
-            × Names self.new.items first) }
+            × IsLeftAt self.new 0 first) }
     {
         let number = number_of(handle);
         self.records[number].client = None;
@@ -388,8 +386,7 @@ impl Sessions {
     /// nothing where no more are left.
     pub fn left_at(&self, place: u8) -> Option<u32>
         ensures { MatchOption result (length self.now.left ≤ place)
-            (λ handle. (slice_get self.now.left place ≡ Some (number_of_session handle))
-            × Names self.now.items handle) }
+            (λ handle. IsLeftAt self.now place handle) }
     {
         let number = self.left.at(usize::from(place))?;
         let record = &self.records[number];
@@ -553,17 +550,9 @@ impl Sessions {
         scratch: &mut Buffer,
     ) -> Result<(), SwapError>
         requires oldest { IsFirst self.old handle }
-        requires contexts { self.old.contexts ≡ D.CONTEXTS }
-        requires stand { Stand (D.seen device.old).state self.old [] }
-        requires may { HasGapRoom (D.seen device.old).state
-            × (counter_of (D.seen device.old).state + 900 ≤ CONTEXT_LIMIT) }
-        ensures ok { OnOk result (Renews D.CONTEXTS (D.seen device.old) (D.seen device.new) handle
-            self.old.items self.new.items × IsSavedAgain self.old self.new handle) }
-        // Every other session that was saved stays where it was.
-        ensures others { AreKept (number_of_session handle) self.old.items self.new.items }
-        ensures moved { Moved D.seen device.old device.new self.old self.new }
-        ensures counts { RenewalCounts D.seen device.old device.new self.old }
-        ensures asks { AsksSome D.CONTEXTS D.seen device.old device.new result }
+        requires may { MayRenew D.CONTEXTS (D.seen device.old).state self.old 900 }
+        ensures { RenewsOne D.CONTEXTS D.seen handle device.old device.new self.old self.new
+            result }
     {
         self.renew_by(device, handle, scratch, &mut Uncounted)
     }
@@ -578,18 +567,11 @@ impl Sessions {
         steps: &mut Steps<L>,
     ) -> Result<(), SwapError>
         requires oldest { IsFirst self.old handle }
-        requires contexts { self.old.contexts ≡ D.CONTEXTS }
-        requires stand { Stand (D.seen device.old).state self.old [] }
-        requires may { HasGapRoom (D.seen device.old).state
-            × (counter_of (D.seen device.old).state + 900 ≤ CONTEXT_LIMIT) }
-        ensures ok { OnOk result (Renews D.CONTEXTS (D.seen device.old) (D.seen device.new) handle
-            self.old.items self.new.items × IsSavedAgain self.old self.new handle) }
-        ensures others { AreKept (number_of_session handle) self.old.items self.new.items }
-        ensures moved { Moved D.seen device.old device.new self.old self.new }
-        ensures counts { RenewalCounts D.seen device.old device.new self.old
-            × (steps.new ≤ steps.old + 10 + 6 * full_kept self.old) }
+        requires may { MayRenew D.CONTEXTS (D.seen device.old).state self.old 900 }
+        ensures renews { RenewsOne D.CONTEXTS D.seen handle device.old device.new self.old self.new
+            result }
+        ensures steps { steps.new ≤ steps.old + 10 + 6 * full_kept self.old }
         ensures counted { OnOk result (steps.old + 4 ≤ steps.new) }
-        ensures asks { AsksSome D.CONTEXTS D.seen device.old device.new result }
     {
         self.renew_by(device, handle, scratch, steps)
     }
@@ -602,18 +584,11 @@ impl Sessions {
         steps: &mut C,
     ) -> Result<(), SwapError>
         requires oldest { IsFirst self.old handle }
-        requires contexts { self.old.contexts ≡ D.CONTEXTS }
-        requires stand { Stand (D.seen device.old).state self.old [] }
-        requires may { HasGapRoom (D.seen device.old).state
-            × (counter_of (D.seen device.old).state + 900 ≤ CONTEXT_LIMIT) }
-        ensures ok { OnOk result (Renews D.CONTEXTS (D.seen device.old) (D.seen device.new) handle
-            self.old.items self.new.items × IsSavedAgain self.old self.new handle) }
-        ensures others { AreKept (number_of_session handle) self.old.items self.new.items }
-        ensures moved { Moved D.seen device.old device.new self.old self.new }
-        ensures counts { RenewalCounts D.seen device.old device.new self.old
-            × (C.count steps.new ≤ C.count steps.old + 10 + 6 * full_kept self.old) }
+        requires may { MayRenew D.CONTEXTS (D.seen device.old).state self.old 900 }
+        ensures renews { RenewsOne D.CONTEXTS D.seen handle device.old device.new self.old self.new
+            result }
+        ensures steps { C.count steps.new ≤ C.count steps.old + 10 + 6 * full_kept self.old }
         ensures counted { OnOk result (C.count steps.old + 4 * C.weight ≤ C.count steps.new) }
-        ensures asks { AsksSome D.CONTEXTS D.seen device.old device.new result }
     {
         renew_session(
             &mut self.records,

@@ -1,7 +1,6 @@
 use Rattle.std.proofs.Common.{◌∙◌, ap, sym, subst, arith}
-use Rattle.std.specs.Prelude.{◌≡◌, Some, slice_get}
-use Rattle.tab_spec.specs.Shape.{number_of_session}
-use Rattle.session_swap.specs.Items.{Names, SessionsView}
+use Rattle.std.specs.Prelude.{slice_get}
+use Rattle.session_swap.specs.Items.{IsLeftAt, SessionsView}
 use Rattle.session_swap.proofs.Orphans.{left_below, left_named}
 use Rattle.session_swap.proofs.sessions.Sessions.left_at.Goals as goal
 
@@ -18,6 +17,6 @@ pub returns : goal.returns
 returns c =
     let inside = c.self.inside in
     let r = c.index-record.result.now in
-    subst (λ (v : SessionsView). (slice_get v.left c.args.place ≡ Some (number_of_session r.handle)) × Names v.items r.handle) c.self.view_is
-    (left_named inside.records.items inside.order inside.left inside.held c.args.place c.in_ok-number.number r c.self.invariant
+    subst (λ (v : SessionsView). IsLeftAt v c.args.place r.handle) c.self.view_is
+    (left_named inside.numbers inside.records.items inside.next inside.order inside.left inside.held c.args.place c.in_ok-number.number r c.self.invariant
     (ap (slice_get inside.left) (sym c.from.ensures) ∙ sym c.at.ensures ∙ c.in_ok-number.was) c.index-record.ensures)
