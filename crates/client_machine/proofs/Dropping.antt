@@ -528,7 +528,7 @@ drops_object seen client old new held view drops = record {
 
 pub disowns_none : {contexts : ContextLimits} {D : Type 0} (seen : D → Seen) (device : D) (held : Held) (n : ℕ) → Disowns contexts seen device device held held (Ok n)
 disowns_none seen device held n =
-    record { keeps = keeps_same seen device; made_for = same_for held; slots = refl; numbers = refl; length_is = refl; lists = tt; left = inl (omega arith); err = tt; sent = none_tried seen device }
+    record { keeps = keeps_same seen device; made_for = same_for held; slots = refl; numbers = refl; length_is = refl; lists = tt; left = inl (omega arith); err = tt; sent = none_tried seen device held.sessions.items }
 
 lists_after : {B : Type 0} (result : Result B ℕ) (owners between after : List (Option ℕ)) → between ≡ owners → OnErr result (after ≡ between)
     → OnErr result (after ≡ owners)
@@ -547,7 +547,7 @@ disowns_then seen old middle new held between new_held x result lists first seco
   lists = lists_after result held.objects.owners between.objects.owners new_held.objects.owners lists second.lists;
   left = left_then _ _ _ _ _ _ second.keeps.count first.left second.left;
   err = second.err;
-  sent = tried_then seen old middle new (is_err result) first.sent second.sent;
+  sent = tried_then seen old middle new held.sessions.items between.sessions.items new_held.sessions.items (is_err result) first.sent second.sent;
 }
 
 left_once : (nobodys new_nobodys faults new_faults : ℕ) → new_nobodys ≡ nobodys + 1 → Rose faults new_faults
@@ -560,7 +560,7 @@ left_once nobodys new_nobodys faults new_faults more rose =
 
 -- one object whose flush failed
 pub disowns_left : {contexts : ContextLimits} {D A : Type 0} (seen : D → Seen) (old new : D) (held : Held) (new_view : ObjectsView) (item slot : ℕ) (x : A)
-    → new_view ≡ orphaned held.objects item slot → KeepsRest seen old new → Rose (seen old).faults (seen new).faults → SendsFlushes contexts seen old new false
+    → new_view ≡ orphaned held.objects item slot → KeepsRest seen old new → Rose (seen old).faults (seen new).faults → SendsFlushes contexts seen old new held.sessions.items held.sessions.items false
     → Disowns contexts seen old new held (with_objects held new_view) (Ok x)
 disowns_left seen old new held new_view item slot x view_is rest rose sent = record {
   keeps = keeps_over_objects seen old new rest;

@@ -1,6 +1,6 @@
 -- A session is flushed, or is an orphan since its flush failed, or its client leaves it: what that leaves.
 use Rattle.std.proofs.Common.{◌≡◌, ◌+◌, ◌<◌, ◌≤◌, inl, inr, ℕ, List, [], ◌∷◌, ◌++◌, length, length-append, set, refl, ap, sym, ◌∙◌, subst, arith}
-use Rattle.std.specs.Prelude.{false, slice_get, Option, Some, None, Result, Ok, Err, IfOk, OnOk}
+use Rattle.std.specs.Prelude.{false, slice_get, Option, Some, None, Result, Ok, Err, is_err, IfOk, OnOk}
 use Rattle.std.specs.List.{count_by}
 use Rattle.tab_spec.specs.Count.{Rose}
 use Rattle.tab_spec.specs.Shape.{number_of_session}
@@ -28,6 +28,7 @@ use Rattle.client_machine.proofs.Keeping.{Forgets, counted_once, owners_same, ri
 use Rattle.client_machine.proofs.Leaving.{IsGoing, IsLeaving, behind_held, left_closes, one_fewer, left_leaves, owned_held, saved_owner, shorter}
 use Rattle.client_machine.proofs.LeftOnes.{disowned_unsaved, left_of}
 use Rattle.client_machine.proofs.Prepared.{counts_same}
+use Rattle.client_machine.proofs.Tried.{tried_behind, tried_then}
 use Rattle.client_machine.proofs.Settling.{keeps_over_sessions, object_counter_over_sessions, objects_over_sessions, persist_over_sessions, settled_at, settled_over_sessions}
 
 -- the same objects beside other sessions
@@ -247,7 +248,7 @@ disowns_behind {contexts = contexts} seen client old new held view new_held n re
       left = subst (λ (count : ℕ). AreLeftByFaults (length held.objects.left + count) (seen old).faults (orphan_count new_held) (seen new).faults)
           (behind_orphans client held.sessions.items n leaving) d.left;
       err = d.err;
-      sent = d.sent;
+      sent = tried_then seen old old new held.sessions.items _ new_held.sessions.items (is_err result) (tried_behind seen old held.sessions.items n) d.sent;
     }
 
 -- ---- how many are orphans then

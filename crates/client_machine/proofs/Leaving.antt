@@ -258,7 +258,7 @@ first_listed n (one ∷ more) first =
     omega (arith, count_cons (λ (k : ℕ). k == n) one more, ap flag (eq-eqb one n (some_same first)))
 
 -- and was left
-pub first_left : (items : List (Option Item)) (left : List ℕ) (n : ℕ) → ListsThose is_left left items → slice_get left 0 ≡ Some n
+first_left : (items : List (Option Item)) (left : List ℕ) (n : ℕ) → ListsThose is_left left items → slice_get left 0 ≡ Some n
     → is_left (item_at items n) ≡ true
 first_left items left n listed first = is_true (is_left (item_at items n)) (omega (arith, listed.each n, first_listed n left first))
 

@@ -36,3 +36,4 @@ pub mod Flushing
 pub mod FlushingSessions
 pub mod Before
 pub mod Tried
+pub mod Remaining

@@ -574,6 +574,16 @@ place_for : (Free : Type 0) (view : SessionsView) → count_by is_held view.item
 place_for Free view few none (inl free) = free.1
 place_for Free view few none (inr taken) = absurd (omega (arith, taken.full, few, none, held_and_orphans view.items))
 
+-- where the command starts a session, a place was free when it was sent
+pub place_free : {contexts : ContextLimits} {D : Type 0} {seen : D → Seen} {old between : D} {held mid : Held}
+    {client : ℕ} {table : List (Option ℕ)} {a : Admitted} {bytes command : List ℕ}
+    → Prepared contexts seen old between held mid client table a bytes command → starts_session a ≡ true
+    → count_by is_held mid.sessions.items < held.sessions.numbers.active → loaded_items mid.sessions.items < held.sessions.numbers.loaded
+place_free {mid = mid} p starts few =
+    let place = place_for _ mid.sessions (omega (arith, few, ap (λ (n : Numbers). n.active) p.prepares.numbers)) (omega (arith, p.ready.nobodys))
+    (p.ready.sessions.room starts) in
+    omega (arith, place, ap (λ (n : Numbers). n.loaded) p.prepares.numbers)
+
 pub may_start : {contexts : ContextLimits} {D : Type 0} {seen : D → Seen} {old between new : D} {held mid : Held}
     {client : ℕ} {table : List (Option ℕ)} {a : Admitted} {bytes command reply : List ℕ}
     → Prepared contexts seen old between held mid client table a bytes command → IsTaken contexts seen between new mid command reply
@@ -846,6 +856,7 @@ ran_then {contexts = contexts} {between = between} {new = new} {held = held} {mi
       table_is = adopts.table_is ∙ table_told table adopts.item a reply tells;
       object_is = λ told. adopted_new adopts;
       spare = λ needs. spare_then reply p tells adopts needs;
+      place = λ starts few. place_free p starts few;
       taken = subst
           (λ (command : List ℕ). takes contexts (loads_kept new_items command) (number_taken (record held.sessions { items = mid.sessions.items }) reply) command reply ≡ true)
           (sym sent.sent.asked_is)
@@ -887,6 +898,7 @@ ran_else {contexts = contexts} {between = between} {new = new} {held = held} {mi
   table_is = table_plain table 0 a reply plain;
   object_is = λ told. absurd (true≢false (sym told ∙ plain));
   spare = λ needs. spare_else reply p needs;
+  place = λ starts few. place_free p starts few;
   taken = subst
       (λ (command : List ℕ).
       takes contexts (loads_kept mid.objects.items command) (number_taken (record held.sessions { items = mid.sessions.items }) reply) command reply ≡ true)

@@ -44,7 +44,7 @@ use Rattle.client_machine.specs.Settled.{Sequences, orphan_count, owned_by_clien
 use Rattle.client_machine.specs.Tables.{device_handle, tables_seen}
 use Rattle.client_machine.proofs.Doing.{both_so, no_handle, no_start, pick_saved}
 use Rattle.client_machine.proofs.Managing.{managed, managed_by}
-use Rattle.client_machine.proofs.Ran.{Done, Outcome, Prepared, client_plain, done_none, done_some, none_after, order_plain, ran_moves, ran_steps, spare_else, table_plain}
+use Rattle.client_machine.proofs.Ran.{Done, Outcome, Prepared, client_plain, done_none, done_some, none_after, order_plain, place_free, ran_moves, ran_steps, spare_else, table_plain}
 use Rattle.client_machine.proofs.Ready.{MayRun, admitted_here, own_here}
 use Rattle.client_machine.proofs.Running.{Runs}
 use Rattle.client_machine.proofs.Sending.{taken_right}
@@ -396,6 +396,7 @@ ran_saved {contexts = contexts} {between = between} {new = new} {held = held} {m
       table_is = table_plain table 0 a reply tells.object;
       object_is = λ told. absurd (true≢false (sym told ∙ tells.object));
       spare = λ needs. spare_else reply p needs;
+      place = λ starts few. place_free p starts few;
       taken = subst
           (λ (command : List ℕ).
           takes contexts (loads_kept mid.objects.items command) (number_taken (record held.sessions { items = mid.sessions.items }) reply) command reply ≡ true)

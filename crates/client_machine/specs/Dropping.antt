@@ -1,9 +1,10 @@
 -- What each step leaves while what a client has is dropped.
-use Rattle.std.specs.Prelude.{◌≡◌, ◌<◌, ◌≤◌, ◌⊎◌, ℕ, ◌+◌, ◌-◌, ◌==◌, ◌&&◌, Bool, true, false, List, [], ◌∷◌, ◌++◌, length, drop, slice_get, Option, Some, None, is_some, Result, is_err, IfErr, IfOk, OnErr, OnOk, if◌then◌else◌}
+use Rattle.std.specs.Prelude.{◌≡◌, ◌<◌, ◌≤◌, ◌⊎◌, ℕ, ◌+◌, ◌-◌, ◌==◌, ◌&&◌, Bool, true, false, List, [], ◌∷◌, ◌++◌, length, drop, set, slice_get, Option, Some, None, is_some, Result, is_err, IfErr, IfOk, OnErr, OnOk, if◌then◌else◌}
 use Rattle.tab_spec.specs.Count.{largest_count}
 use Rattle.device_spec.specs.Answers.{IsRight, IsWrongAnswer}
+use Rattle.device_spec.specs.ContextCommands.{flush_context_command}
 use Rattle.device_spec.specs.Slots.{SlotState}
-use Rattle.std.specs.List.{AllByRecursion, count_by, list_any}
+use Rattle.std.specs.List.{AllByRecursion, Any, count_by, list_any}
 use Rattle.tab_spec.specs.declared.TheConstants.{CC_FLUSH_CONTEXT}
 use Rattle.tab_spec.specs.Frame.{code_of}
 use Rattle.tab_spec.specs.declared.contexts.ContextLimits.{ContextLimits}
@@ -13,10 +14,10 @@ use Rattle.device_port.specs.Use.{without_one}
 use Rattle.object_swap.specs.Items.{HasNone}
 use Rattle.tab_spec.specs.Shape.{number_of_session}
 use Rattle.tab_spec.specs.Numbers.{leave_limit}
-use Rattle.session_swap.specs.Items.{Item, ListsThose, Names, SessionsView, flag, has_owner, is_left, is_owned, is_owner, item_at, owner_in}
+use Rattle.session_swap.specs.Items.{Item, Names, SessionsView, flag, has_owner, is_left, is_owned, is_owner, item_at, left_behind, owner_in}
 use Rattle.world_spec.specs.World.{closed_sessions}
 use Rattle.client_machine.specs.declared.held.Held.{Held}
-use Rattle.client_machine.specs.Costs.{own_objects, own_residents}
+use Rattle.client_machine.specs.Costs.{SendsUpTo, close_bound, own_objects, own_residents}
 use Rattle.client_machine.specs.Moves.{CountsOnBy, GainsNone, Keeps, KeepsObjectsOf, KeepsOwners, KeepsPersist, StaysFor, other_than}
 use Rattle.client_machine.specs.Settled.{Settled, orphan_count, sessions_in}
 use Rattle.client_machine.specs.Tables.{AreOpenOwners}
@@ -68,11 +69,18 @@ LeavesSaved client held new_held =
     length held.sessions.left ≤ leave_limit held.sessions.numbers.active
     → new_held.sessions.left ≡ left_after client held.sessions
 
--- a client that was closed has no object and no session, and those that it saved are left
+-- each session that is left then is what it was, whoever had it: the same handle, kept context and bytes handed out
+abbrev pub LeavesThem : (items new_items : List (Option Item)) → Type 0
+LeavesThem items new_items =
+    (number : ℕ) → is_left (item_at new_items number) ≡ true → item_at new_items number ≡ left_behind (item_at items number)
+
+-- A client that was closed has no object and no session. Those that it saved are left, behind the ones that were left before, and up to
+-- the limit
 pub record HasNothing (client : ℕ) (held new_held : Held) : Type 0 where
   pub objects : HasNone new_held.objects.items client
   pub sessions : list_any (is_owned client) new_held.sessions.items ≡ false
   pub left : LeavesSaved client held new_held
+  pub behind : LeavesThem held.sessions.items new_held.sessions.items
 
 -- ---- what is sent
 
@@ -86,11 +94,30 @@ WereTried contexts false sent = AllByRecursion (WasTried contexts) sent
 WereTried contexts true [] = Unit {0}
 WereTried contexts true (newest ∷ earlier) = (code_of newest.command ≡ CC_FLUSH_CONTEXT) × AllByRecursion (WasTried contexts) earlier
 
--- nothing was sent but flushes, the newest first, and each was answered or failed, unless the newest met a wrong answer
-pub record SendsFlushes {D : Type 0} (contexts : ContextLimits) (seen : D → Seen) (old new : D) (wrong : Bool) : Type 0 where
+-- the session of this handle was flushed by one of these, which was answered
+abbrev pub WasFlushedBy : ContextLimits → List Transmission → ℕ → Type 0
+WasFlushedBy contexts sent handle = Any (λ one. (one.command ≡ flush_context_command handle) × WasTaken contexts one) sent
+
+-- a session that isn't gone: its handle and its kept context are as before, and so are the bytes handed out, unless it is an orphan
+pub record Remains (item new : Item) : Type 0 where
+  pub handle : new.handle ≡ item.handle
+  pub saved : new.saved ≡ item.saved
+  pub handed : is_some new.handed ≡ true → new.handed ≡ item.handed
+
+-- what becomes of the session of a number: it remains, or it is gone and was flushed by one of these. No session is new
+abbrev pub RemainsOrFlushed : ContextLimits → List Transmission → (item new : Option Item) → Type 0
+RemainsOrFlushed contexts sent None new = new ≡ None
+RemainsOrFlushed contexts sent (Some item) None = WasFlushedBy contexts sent item.handle
+RemainsOrFlushed contexts sent (Some item) (Some new) = Remains item new
+
+-- Nothing was sent but flushes, the newest first, and each was answered or failed, unless the newest met a wrong answer. No session is
+-- gone without one
+pub record SendsFlushes {D : Type 0} (contexts : ContextLimits) (seen : D → Seen) (old new : D) (items new_items : List (Option Item))
+    (wrong : Bool) : Type 0 where
   pub sent : List Transmission
   pub trace_is : (seen new).trace ≡ sent ++ (seen old).trace
   pub each : WereTried contexts wrong sent
+  pub flushed : (number : ℕ) → RemainsOrFlushed contexts sent (item_at items number) (item_at new_items number)
 
 -- What can't be flushed is an orphan then. This holds of each step, also of one that met a wrong answer: its code is the error, and no
 -- list of objects gets another owner
@@ -103,8 +130,8 @@ pub record Disowns {D A : Type 0} (contexts : ContextLimits) (seen : D → Seen)
   pub lists : OnErr result (new_held.objects.owners ≡ held.objects.owners)
   pub left : AreLeftByFaults (orphan_count held) (seen old).faults (orphan_count new_held) (seen new).faults
   pub err : IfErr result (λ code. IsWrongAnswer contexts (asked_of (seen new)) (last_of (seen new)) code × ((seen new).state ≡ None))
-  -- no wrong answer is passed over
-  pub sent : SendsFlushes contexts seen old new (is_err result)
+  -- no wrong answer is passed over, and no session is gone that wasn't flushed
+  pub sent : SendsFlushes contexts seen old new held.sessions.items new_held.sessions.items (is_err result)
 
 -- the slots of orphans: those before, and so many more at most
 abbrev pub LeavesMore : ℕ → (left new_left : List ℕ) → Type 0
@@ -125,7 +152,7 @@ pub record Drops {D : Type 0} (contexts : ContextLimits) (seen : D → Seen)
   pub closes : (slots after : SlotState) → (seen old).state ≡ Some slots → (seen new).state ≡ Some after
       → closed_sessions client held.sessions.numbers.active (sessions_in after new_held.sessions.items) new_held.sessions.left
       ≡ closed_sessions client held.sessions.numbers.active (sessions_in slots held.sessions.items) held.sessions.left
-  -- and so over every device: closing the client over what is still there leaves these, which it leaves over what was there
+  -- the same by what is kept, whatever the device tells: which sessions the close leaves
   pub leaves : left_after client new_held.sessions ≡ left_after client held.sessions
   -- no more are left than may be
   pub few_left : length held.sessions.left ≤ leave_limit held.sessions.numbers.active
@@ -175,8 +202,6 @@ pub record DropsSession (handle : ℕ) (held new_held : Held) (result : Result �
   pub rest : new_held.objects ≡ held.objects
   pub others : (number : ℕ) → (number == number_of_session handle) ≡ false
       → item_at new_held.sessions.items number ≡ item_at held.sessions.items number
-  -- each left session was listed, and once
-  pub listed : ListsThose is_left held.sessions.left held.sessions.items
 
 -- One session of the client's is dropped or left, and the call tells how many flushes failed. What other clients have stays, after
 -- a wrong answer too
@@ -186,3 +211,16 @@ pub record ClosesSession (client : ℕ) (held new_held : Held) (result : Result 
   pub few : IfOk result (λ failed. failed ≤ 1)
   pub rest : new_held.objects ≡ held.objects
   pub others : KeepsOthers client held.sessions.items new_held.sessions.items
+
+-- ---- all that a client has
+
+-- a client is closed: all that it has is dropped or left, and its list is nobody's then. What other clients have stays, after a wrong
+-- answer too
+pub record DropsAll {D : Type 0} (contexts : ContextLimits) (seen : D → Seen) (client list : ℕ) (old new : D) (held new_held : Held)
+    (result : Result ℕ ℕ) : Type 0 where
+  pub ok : IfOk result (λ failed. Drops contexts seen client old new held new_held (set held.objects.owners list None) failed)
+  pub none : OnOk result (HasNothing client held new_held)
+  pub others : KeepsOthers client held.sessions.items new_held.sessions.items
+  -- no more orphans are added than transmissions failed, also after a wrong answer
+  pub disowns : Disowns contexts seen old new held new_held result
+  pub costs : SendsUpTo seen (close_bound client held) old new

@@ -540,6 +540,9 @@ pub record Ran {D : Type 0} (contexts : ContextLimits) (seen : D → Seen) (clie
   -- where it needs a slot, one was free when it was sent: without what it made there is room for one object more
   pub spare : needs_slot contexts a.shape bytes ≡ true
       → objects.residents new_held.objects.items + length new_held.objects.left < new_held.objects.slots + objects_told a answer
+  -- where it starts a session, and fewer than may be active are clients' or were left, a place for a loaded one was free when it was sent
+  pub place : starts_session a ≡ true → count_by is_held mid < held.sessions.numbers.active
+      → sessions.loaded_items mid < held.sessions.numbers.loaded
   -- the broker takes it, by what it held: whether a context that the command loads is kept, and whether no new session can have the handle
   pub taken : takes contexts (loads_kept new_held.objects.items (asked_of (seen new))) (number_taken (record held.sessions { items = mid }) answer) (asked_of (seen new)) answer ≡ true
   pub sessions_are : new_held.sessions.items ≡ sessions_held_after client a answer mid

@@ -1,15 +1,15 @@
 //! What becomes of a client's sessions and objects when it is closed.
 ghost use Rattle.std.specs.Prelude.{◌≡◌, ◌≤◌, ◌+◌, ◌*◌, ℕ, false};
-ghost use Rattle.std.specs.Prelude.{Some, None, set, IfOk, OnOk};
+ghost use Rattle.std.specs.Prelude.{Some, IfOk, OnOk};
 ghost use Rattle.std.specs.List.{count_by, list_any};
 ghost use Rattle.tab_spec.specs.declared.TheConstants.{SESSION_NUMBERS};
 ghost use Rattle.object_swap.specs.Items as objects;
 ghost use Rattle.object_swap.specs.Items.{HasNone, owner_at};
 ghost use Rattle.session_swap.specs.Items.{Names, is_owned, owner_in};
 ghost use Rattle.client_machine.specs.Moves.{MayMove};
-ghost use Rattle.client_machine.specs.Costs.{SendsUpTo, close_bound, own_objects, own_residents};
+ghost use Rattle.client_machine.specs.Costs.{SendsUpTo, own_objects, own_residents};
 ghost use Rattle.client_machine.specs.Dropping.{ClosesSession, Disowns, Drops, DropsOne};
-ghost use Rattle.client_machine.specs.Dropping.{DropsSession, HasNothing, IsDropped, IsLeastOf};
+ghost use Rattle.client_machine.specs.Dropping.{DropsAll, DropsSession, IsDropped, IsLeastOf};
 ghost use Rattle.client_machine.specs.Dropping.{KeepsOthers, is_used};
 ghost use Rattle.client_machine.specs.Settled.{Settled, call_contexts};
 
@@ -36,17 +36,8 @@ impl<D: Device> Machine<D> {
     pub fn drop_all(&mut self, client: u32, list: u32) -> Result<u32, u32>
         requires list { owner_at self.old.held.objects.owners list ≡ Some client }
         requires may { MayMove call_contexts D.CONTEXTS D.seen self.old.device self.old.held }
-        ensures ok { IfOk result (λ failed. Drops D.CONTEXTS D.seen client self.old.device
-            self.new.device self.old.held self.new.held (set self.old.held.objects.owners list None)
-            failed) }
-        ensures none { OnOk result (HasNothing client self.old.held self.new.held) }
-        ensures others { KeepsOthers client self.old.held.sessions.items
-            self.new.held.sessions.items }
-        // No more orphans are added than transmissions failed, also after a wrong answer.
-        ensures disowns { Disowns D.CONTEXTS D.seen self.old.device self.new.device self.old.held
-            self.new.held result }
-        ensures costs { SendsUpTo D.seen (close_bound client self.old.held)
-            self.old.device self.new.device }
+        ensures { DropsAll D.CONTEXTS D.seen client list self.old.device self.new.device
+            self.old.held self.new.held result }
     {
         self.drop_all_by(client, list, &mut Uncounted)
     }
@@ -61,17 +52,8 @@ impl<D: Device> Machine<D> {
     ) -> Result<u32, u32>
         requires list { owner_at self.old.held.objects.owners list ≡ Some client }
         requires may { MayMove call_contexts D.CONTEXTS D.seen self.old.device self.old.held }
-        ensures ok { IfOk result (λ failed. Drops D.CONTEXTS D.seen client self.old.device
-            self.new.device self.old.held self.new.held (set self.old.held.objects.owners list None)
-            failed) }
-        ensures none { OnOk result (HasNothing client self.old.held self.new.held) }
-        ensures others { KeepsOthers client self.old.held.sessions.items
-            self.new.held.sessions.items }
-        // No more orphans are added than transmissions failed, also after a wrong answer.
-        ensures disowns { Disowns D.CONTEXTS D.seen self.old.device self.new.device self.old.held
-            self.new.held result }
-        ensures costs { SendsUpTo D.seen (close_bound client self.old.held)
-            self.old.device self.new.device }
+        ensures drops { DropsAll D.CONTEXTS D.seen client list self.old.device self.new.device
+            self.old.held self.new.held result }
         ensures steps { steps.new
             ≤ steps.old + 6 * own_objects client self.old.held.objects.items }
         ensures counted { OnOk result
@@ -91,16 +73,8 @@ impl<D: Device> Machine<D> {
     ) -> Result<u32, u32>
         requires list { owner_at self.old.held.objects.owners list ≡ Some client }
         requires may { MayMove call_contexts D.CONTEXTS D.seen self.old.device self.old.held }
-        ensures ok { IfOk result (λ failed. Drops D.CONTEXTS D.seen client self.old.device
-            self.new.device self.old.held self.new.held (set self.old.held.objects.owners list None)
-            failed) }
-        ensures none { OnOk result (HasNothing client self.old.held self.new.held) }
-        ensures others { KeepsOthers client self.old.held.sessions.items
-            self.new.held.sessions.items }
-        ensures disowns { Disowns D.CONTEXTS D.seen self.old.device self.new.device self.old.held
-            self.new.held result }
-        ensures costs { SendsUpTo D.seen (close_bound client self.old.held)
-            self.old.device self.new.device }
+        ensures drops { DropsAll D.CONTEXTS D.seen client list self.old.device self.new.device
+            self.old.held self.new.held result }
         ensures steps { C.count steps.new
             ≤ C.count steps.old + 6 * own_objects client self.old.held.objects.items }
         ensures counted { OnOk result (C.count steps.old

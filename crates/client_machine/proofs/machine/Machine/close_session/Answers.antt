@@ -3,13 +3,14 @@ use Rattle.std.specs.List.{count_by}
 use Rattle.std.proofs.lemmas.Result.{on_ok_weaker}
 use Rattle.tab_spec.specs.Shape.{number_of_session}
 use Rattle.tab_spec.specs.Numbers.{leave_limit}
-use Rattle.session_swap.specs.Items.{SessionsView, is_owned, item_at, left_behind}
+use Rattle.session_swap.specs.Items.{SessionsView, is_left, is_owned, item_at, left_behind}
+use Rattle.session_swap.proofs.Among.{named_is}
 use Rattle.session_swap.proofs.Counts.{flag_false, flag_true}
 use Rattle.client_machine.specs.Dropping.{KeepsOthers}
 use Rattle.client_machine.proofs.Disowning.{behind_owned, others_but, others_but_left, others_set, others_then, own_at}
 use Rattle.client_machine.proofs.Dropping.{disowns_none, drops_none}
 use Rattle.client_machine.proofs.DroppingSessions.{behind_settled, disowns_behind, drops_passed, leaves_dropped, leaves_then, with_sessions}
-use Rattle.client_machine.proofs.Leaving.{first_left, leaving, left_unowned, saved_owner}
+use Rattle.client_machine.proofs.Leaving.{leaving, left_unowned, saved_owner}
 use Rattle.client_machine.proofs.machine.Machine.close_session.Goals as goal
 
 -- ---- one that is in use
@@ -56,9 +57,9 @@ returns-in-Some-clause-ok g c =
     let first = c.in-Some.ensures.first in
     let is = leaving client held.sessions c.args.handle c.requires.least (sym c.is_in_use.ensures ∙ c.if-is_in_use.false) in
     leaves_dropped _ seen client _ _ held view c.drop_session-in-Some.new.self.held (number_of_session c.args.handle) (number_of_session c.in-Some.first)
-    c.drop_session-in-Some.result c.leave.ensures.left is c.requires.settled first.1 c.drop_session-in-Some.ensures.drops.gone
+    c.drop_session-in-Some.result c.leave.ensures.left is c.requires.settled first.1.place_is c.drop_session-in-Some.ensures.drops.gone
     (drops_passed _ seen client c.in-Some.first _ _ (with_sessions held view) c.drop_session-in-Some.new.self.held c.drop_session-in-Some.result
-    (inr (first.0, first.1)) c.drop_session-in-Some.ensures.ok)
+    (inr (first.0, first.1.place_is)) c.drop_session-in-Some.ensures.ok)
 
 pub returns-in-Some-clause-closes : goal.returns-in-Some-clause-closes
 returns-in-Some-clause-closes g c =
@@ -70,7 +71,8 @@ returns-in-Some-clause-closes g c =
     let first = number_of_session c.in-Some.first in
     let dropped = c.drop_session-in-Some.ensures.drops in
     let own = own_at items client c.args.handle c.requires.least.named c.requires.least.own in
-    let left = first_left view.items view.left first dropped.listed c.in-Some.ensures.first.1 in
+    let found = c.in-Some.ensures.first.1 in
+    let left = ap is_left (sym (named_is view.items c.in-Some.first found.named)) ∙ found.left in
     record {
       count = on_ok_weaker c.drop_session-in-Some.result
           (λ count. omega (

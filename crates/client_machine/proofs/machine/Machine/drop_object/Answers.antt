@@ -52,7 +52,7 @@ returns-in-Ok-clause-disowns g c = record {
   lists = tt;
   left = search rules;
   err = tt;
-  sent = slot_ok g.D.Device.seen (item_at c.args.self.now.held.objects.items c.args.item).slot tt tt _ _ c.in-Ok.ensures.sent;
+  sent = slot_ok g.D.Device.seen c.args.self.now.held.sessions.items (item_at c.args.self.now.held.objects.items c.args.item).slot tt tt _ _ c.in-Ok.ensures.sent;
 }
 
 pub returns-in-Ok-clause-costs : goal.returns-in-Ok-clause-costs
@@ -111,7 +111,7 @@ returns-in-Err-Failed-clause-disowns g c =
     (c.orphan_by.ensures.left slot.0 (ap (λ (v : ObjectsView). (item_at v.items item).slot) failed.err.0 ∙ slot.1)
     ∙ ap (λ (v : ObjectsView). orphaned v item slot.0) failed.err.0)
     failed.dropped.rest cause.0
-    (slot_failed g.D.Device.seen (item_at held.objects.items item).slot tt _ _ c.in-Err-Failed.field-0 cause.1 failed.sent)
+    (slot_failed g.D.Device.seen held.sessions.items (item_at held.objects.items item).slot tt _ _ c.in-Err-Failed.field-0 cause.1 failed.sent)
 
 pub returns-in-Err-Failed-clause-costs : goal.returns-in-Err-Failed-clause-costs
 returns-in-Err-Failed-clause-costs g c =
@@ -134,7 +134,7 @@ returns-in-Err-Answer-clause-disowns g c = record {
   lists = search rules;
   left = search rules;
   err = search rules;
-  sent = slot_wrong g.D.Device.seen (item_at c.args.self.now.held.objects.items c.args.item).slot tt _ _ _ c.in-Err-Answer.ensures.sent;
+  sent = slot_wrong g.D.Device.seen c.args.self.now.held.sessions.items (item_at c.args.self.now.held.objects.items c.args.item).slot tt _ _ _ c.in-Err-Answer.ensures.sent;
 }
 
 -- the object stands as it did

@@ -13,7 +13,7 @@ use Rattle.client_machine.proofs.DroppingSessions.{ended, none_left, one_left, o
 use Rattle.client_machine.proofs.Keeping.{failed_cause}
 use Rattle.client_machine.proofs.Leaving.{going}
 use Rattle.client_machine.proofs.Settling.{gap_settled, sessions_settled}
-use Rattle.client_machine.proofs.Tried.{tried_failed, tried_ok, tried_wrong}
+use Rattle.client_machine.proofs.Tried.{tried_failed, tried_ok, tried_over, tried_wrong}
 use Rattle.client_machine.proofs.machine.Machine.drop_session.Goals as goal
 
 pub returns-in-Ok-clause-ok : goal.returns-in-Ok-clause-ok
@@ -52,7 +52,6 @@ returns-in-Ok-clause-drops g c =
       others = λ number apart.
           ap (λ (v : SessionsView). item_at v.items number) done.ok.view_is
           ∙ get_or-set_other items n number None None (eqb-false number n apart);
-      listed = done.listed;
     }
 
 pub returns-in-Err-Failed-clause-ok : goal.returns-in-Err-Failed-clause-ok
@@ -86,7 +85,6 @@ returns-in-Err-Failed-clause-drops g c =
           ap (λ (v : SessionsView). item_at v.items number) c.orphan_session.ensures
           ∙ ap (λ (v : SessionsView). item_at (set v.items n (disowned (item_at v.items n))) number) failed.err
           ∙ get_or-set_other items n number (disowned (item_at items n)) None (eqb-false number n apart);
-      listed = failed.listed;
     }
 
 pub returns-in-Ok-clause-costs : goal.returns-in-Ok-clause-costs
@@ -109,7 +107,8 @@ returns-in-Ok-clause-disowns g c = record {
   left = none_left _ _ c.args.self.now.held c.drop_session.new.self c.args.handle c.requires.named
       (ap (λ (v : SessionsView). v.items) c.in-Ok.ensures.ok.view_is) c.in-Ok.ensures.asks.count;
   err = tt;
-  sent = tried_ok g.D.Device.seen _ _ c.args.handle tt c.in-Ok.ensures.asks;
+  sent = tried_over (ap (λ (v : SessionsView). v.items) c.in-Ok.ensures.ok.view_is)
+      (tried_ok g.D.Device.seen _ _ c.args.self.now.held.sessions.items c.args.handle tt c.requires.named c.in-Ok.ensures.asks);
 }
 
 pub returns-in-Err-Failed-clause-disowns : goal.returns-in-Err-Failed-clause-disowns
@@ -129,7 +128,10 @@ returns-in-Err-Failed-clause-disowns g c =
           ∙ ap (λ (v : SessionsView). set v.items n (disowned (item_at v.items n))) failed.err)
           cause.0;
       err = tt;
-      sent = tried_failed g.D.Device.seen _ _ c.args.handle _ cause.1 failed.asks;
+      sent = tried_over
+          (ap (λ (v : SessionsView). v.items) c.orphan_session.ensures
+          ∙ ap (λ (v : SessionsView). set v.items n (disowned (item_at v.items n))) failed.err)
+          (tried_failed g.D.Device.seen _ _ c.args.self.now.held.sessions.items c.args.handle _ cause.1 failed.asks);
     }
 
 pub returns-in-Err-Answer-clause-disowns : goal.returns-in-Err-Answer-clause-disowns
@@ -142,5 +144,6 @@ returns-in-Err-Answer-clause-disowns g c = record {
   lists = search rules;
   left = search rules;
   err = search rules;
-  sent = tried_wrong g.D.Device.seen _ _ c.args.handle _ c.in-Err-Answer.ensures.asks;
+  sent = tried_over (ap (λ (v : SessionsView). v.items) c.in-Err-Answer.ensures.err)
+      (tried_wrong g.D.Device.seen _ _ c.args.self.now.held.sessions.items c.args.handle _ c.in-Err-Answer.ensures.asks);
 }
