@@ -4,7 +4,7 @@ use Rattle.std.specs.List.{AllByRecursion, count_by, list_any}
 use Rattle.std.specs.Int.{w32, from_be_bytes}
 use Rattle.tab_spec.specs.declared.TheConstants.{CC_CONTEXT_LOAD, CC_CONTEXT_SAVE, CC_FLUSH_CONTEXT, CONTEXT_LIMIT, HEADER_BYTES, HT_TRANSIENT, RC_SUCCESS, SESSION_NUMBERS, ST_NO_SESSIONS, TRANSIENT_FIRST}
 use Rattle.tab_spec.specs.declared.Admitted.{Admitted}
-use Rattle.tab_spec.specs.Admission.{Tables, is_session_handle}
+use Rattle.tab_spec.specs.Admission.{Tables, client_admitted, is_session_handle}
 use Rattle.tab_spec.specs.Count.{Rose, one_more}
 use Rattle.tab_spec.specs.Frame.{code_of, is_frame}
 use Rattle.tab_spec.specs.Numbers.{AreInRange}
@@ -33,8 +33,8 @@ use Rattle.world_spec.specs.World.{ClientState, ClientStep, client_step, flush_h
 use Rattle.client_machine.specs.declared.held.Held.{Held}
 use Rattle.client_machine.specs.Costs.{SendsUpTo, StaysIn, new_bound, places_of}
 use Rattle.client_machine.specs.Replies.{own_answer, reply_of, view_given}
-use Rattle.client_machine.specs.Settled.{AreBelow, Sequences, Settled, most_contexts, orphan_count, sessions_in}
-use Rattle.client_machine.specs.Tables.{AreOpenOwners, IsPlaced, IsTable, device_handle, flush_fault_of, flush_sent, flushed_handle, flushed_sessions, flushed_table, is_open, objects_in, owned_handles, sessions_without, table_with, table_without, tables_had}
+use Rattle.client_machine.specs.Settled.{AreBelow, Sequences, Settled, call_contexts, most_contexts, orphan_count, sessions_in}
+use Rattle.client_machine.specs.Tables.{AreOpenOwners, IsPlaced, IsTable, device_handle, flush_fault_of, flush_sent, flushed_handle, flushed_sessions, flushed_table, is_open, objects_in, owned_handles, sessions_without, table_with, table_without, tables_had, tables_seen}
 
 -- what each call keeps of a device: what its history began from, and whether it tells its state. Its fault count never falls
 pub record Keeps {D : Type 0} (seen : D → Seen) (old new : D) : Type 0 where
@@ -96,6 +96,15 @@ pub record MayMove {D : Type 0} (more : ℕ) (contexts : ContextLimits) (seen : 
 abbrev pub HasRoomFor : ContextLimits → Admitted → List ℕ → ℕ → List Item → Type 0
 HasRoomFor contexts a bytes spare items =
     makes_object_by contexts (Ok a.shape) bytes ≡ true → (1 ≤ spare) × (list_any is_vacant items ≡ true)
+
+-- what is asked of a client's command: it was admitted over the client's table and sessions, and there is room for what it may make
+pub record MayServe {D : Type 0} (contexts : ContextLimits) (seen : D → Seen) (client list : ℕ) (device : D) (held : Held)
+    (table : List (Option ℕ)) (spare : ℕ) (a : Admitted) (bytes : List ℕ) : Type 0 where
+  pub admitted : client_admitted (tables_seen contexts client table held.sessions.items) bytes ≡ Ok a
+  pub room : HasRoomFor contexts a bytes spare held.objects.items
+  pub own_list : objects.owner_at held.objects.owners list ≡ Some client
+  pub own_table : IsTable held.objects.items client table
+  pub moves : MayMove call_contexts contexts seen device held
 
 -- ---- what a call leaves
 
@@ -635,3 +644,13 @@ pub record CarriesOut {D : Type 0} (contexts : ContextLimits) (seen : D → Seen
   pub whole : is_frame reply ≡ true
   -- where no renewal was due
   pub stays : gap_kept held.sessions < renewal_gap held.sessions.numbers → StaysIn 1 1 (saved_number a) held new_held
+
+-- a client's command that was admitted: what it leaves, what it did unless it failed, and what is sent for it at the most
+pub record ServesCommand {D A : Type 0} (contexts : ContextLimits) (seen : D → Seen) (client : ℕ) (old new : D)
+    (held new_held : Held) (table new_table : List (Option ℕ)) (a : Admitted) (bytes reply : List ℕ) (result : Result A SwapError) : Type 0 where
+  pub serves : Serves contexts seen client old new held new_held table new_table result
+  pub carries : OnOk result (CarriesOut contexts seen client old new held new_held table new_table a bytes reply)
+  -- where all that it names is at hand, one command
+  pub at_hand : IsAtHand contexts held table a bytes → SendsUpTo seen 1 old new
+  -- where there are no orphans and no renewal is due, what moves that, and the command itself
+  pub few : IsCalm held → SendsUpTo seen (moves_for contexts held table a bytes + 1) old new

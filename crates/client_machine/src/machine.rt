@@ -10,16 +10,16 @@ ghost use Rattle.tab_spec.specs.declared.contexts.ContextLimits.{ContextLimits};
 ghost use Rattle.device_spec.specs.Answers.{profile_takes, takes};
 ghost use Rattle.device_spec.specs.Slots.{slot_step};
 ghost use Rattle.object_swap.specs.Items as objects;
-ghost use Rattle.object_swap.specs.Items.{is_vacant, no_item, owner_at};
+ghost use Rattle.object_swap.specs.Items.{is_vacant, no_item};
 ghost use Rattle.object_swap.specs.declared.TheConstants.{PLACES_MOST};
 ghost use Rattle.session_swap.specs.Items.{is_held, item_at};
 ghost use Rattle.client_laws.specs.Ready.{is_sent};
 ghost use Rattle.world_spec.specs.World.{flush_handle, without_named};
 ghost use Rattle.client_machine.specs.Moves as moves;
-ghost use Rattle.client_machine.specs.Moves.{CarriesOut, Flushes, HasRoomFor, IsAtHand};
-ghost use Rattle.client_machine.specs.Moves.{IsCalm, IsTaken, IsUnflushed, IsUntaken, LeavesState};
-ghost use Rattle.client_machine.specs.Moves.{MayFlush, MayMove, Serves};
-ghost use Rattle.client_machine.specs.Moves.{moves_for, number_taken};
+ghost use Rattle.client_machine.specs.Moves.{Flushes, HasRoomFor, ServesCommand};
+ghost use Rattle.client_machine.specs.Moves.{IsTaken, IsUnflushed, IsUntaken, LeavesState};
+ghost use Rattle.client_machine.specs.Moves.{MayFlush, MayMove, MayServe, Serves};
+ghost use Rattle.client_machine.specs.Moves.{number_taken};
 ghost use Rattle.client_machine.specs.Costs.{SendsUpTo};
 ghost use Rattle.client_machine.specs.Settled.{call_contexts, orphan_count};
 ghost use Rattle.client_machine.specs.Tables.{IsTable, flush_fault_of, tables_had, tables_seen};
@@ -203,26 +203,12 @@ impl<D: Device> Machine<D> {
         bytes: &[u8],
         reply: &mut Buffer,
     ) -> Result<(), SwapError>
-        requires admitted { client_admitted (tables_seen D.CONTEXTS client table.old.items
-            self.old.held.sessions.items) bytes.now ≡ Ok admitted.now }
         requires params { admitted.now.auths.params ≤ length bytes.now }
-        requires room { HasRoomFor D.CONTEXTS admitted.now bytes.now
-            table.old.spare self.old.held.objects.items }
-        requires list { owner_at self.old.held.objects.owners list ≡ Some client }
-        requires table { IsTable self.old.held.objects.items client table.old.items }
-        requires may { MayMove call_contexts D.CONTEXTS D.seen self.old.device self.old.held }
-        ensures serves { Serves D.CONTEXTS D.seen client self.old.device self.new.device
-            self.old.held self.new.held table.old.items table.new.items result }
-        ensures carries { OnOk result
-            (CarriesOut D.CONTEXTS D.seen client self.old.device self.new.device self.old.held
-            self.new.held table.old.items table.new.items admitted.now bytes.now reply.new) }
-        // Where all that it names is at hand, it sends one command at most.
-        ensures at_hand { IsAtHand D.CONTEXTS self.old.held table.old.items admitted.now bytes.now
-            → SendsUpTo D.seen 1 self.old.device self.new.device }
-        // Where there are no orphans and no renewal is due, it sends what moves that, and itself.
-        ensures few { IsCalm self.old.held → SendsUpTo D.seen
-            (moves_for D.CONTEXTS self.old.held table.old.items admitted.now bytes.now + 1)
-            self.old.device self.new.device }
+        requires may { MayServe D.CONTEXTS D.seen client list self.old.device self.old.held
+            table.old.items table.old.spare admitted.now bytes.now }
+        ensures { ServesCommand D.CONTEXTS D.seen client self.old.device self.new.device
+            self.old.held self.new.held table.old.items table.new.items admitted.now bytes.now
+            reply.new result }
     {
         if admitted.shape.row.code == CC_FLUSH_CONTEXT {
             return self.flush_context(table, client, admitted, bytes, reply);
@@ -252,26 +238,12 @@ impl<D: Device> Machine<D> {
         bytes: &[u8],
         reply: &mut Buffer,
     ) -> Result<(), SwapError>
-        requires admitted { client_admitted (tables_seen D.CONTEXTS client table.old.items
-            self.old.held.sessions.items) bytes.now ≡ Ok admitted.now }
         requires sort { is_sent D.CONTEXTS admitted.now bytes.now ≡ true }
-        requires room { HasRoomFor D.CONTEXTS admitted.now bytes.now
-            table.old.spare self.old.held.objects.items }
-        requires list { owner_at self.old.held.objects.owners list ≡ Some client }
-        requires table { IsTable self.old.held.objects.items client table.old.items }
-        requires may { MayMove call_contexts D.CONTEXTS D.seen self.old.device self.old.held }
-        ensures serves { Serves D.CONTEXTS D.seen client self.old.device self.new.device
-            self.old.held self.new.held table.old.items table.new.items result }
-        ensures carries { OnOk result
-            (CarriesOut D.CONTEXTS D.seen client self.old.device self.new.device self.old.held
-            self.new.held table.old.items table.new.items admitted.now bytes.now reply.new) }
-        // Where all that it names is at hand, it sends one command at most.
-        ensures at_hand { IsAtHand D.CONTEXTS self.old.held table.old.items admitted.now bytes.now
-            → SendsUpTo D.seen 1 self.old.device self.new.device }
-        // Where there are no orphans and no renewal is due, it sends what moves that, and itself.
-        ensures few { IsCalm self.old.held → SendsUpTo D.seen
-            (moves_for D.CONTEXTS self.old.held table.old.items admitted.now bytes.now + 1)
-            self.old.device self.new.device }
+        requires may { MayServe D.CONTEXTS D.seen client list self.old.device self.old.held
+            table.old.items table.old.spare admitted.now bytes.now }
+        ensures { ServesCommand D.CONTEXTS D.seen client self.old.device self.new.device
+            self.old.held self.new.held table.old.items table.new.items admitted.now bytes.now
+            reply.new result }
     {
         prepare(
             &mut self.held,
@@ -318,18 +290,9 @@ impl<D: Device> Machine<D> {
         requires params { admitted.now.auths.params ≤ length bytes.now }
         requires table { IsTable self.old.held.objects.items client table.old.items }
         requires may { MayMove call_contexts D.CONTEXTS D.seen self.old.device self.old.held }
-        ensures serves { Serves D.CONTEXTS D.seen client self.old.device self.new.device
-            self.old.held self.new.held table.old.items table.new.items result }
-        ensures carries { OnOk result
-            (CarriesOut D.CONTEXTS D.seen client self.old.device self.new.device self.old.held
-            self.new.held table.old.items table.new.items admitted.now bytes.now reply.new) }
-        // Where all that it names is at hand, it sends one command at most.
-        ensures at_hand { IsAtHand D.CONTEXTS self.old.held table.old.items admitted.now bytes.now
-            → SendsUpTo D.seen 1 self.old.device self.new.device }
-        // Where there are no orphans and no renewal is due, it sends what moves that, and itself.
-        ensures few { IsCalm self.old.held → SendsUpTo D.seen
-            (moves_for D.CONTEXTS self.old.held table.old.items admitted.now bytes.now + 1)
-            self.old.device self.new.device }
+        ensures { ServesCommand D.CONTEXTS D.seen client self.old.device self.new.device
+            self.old.held self.new.held table.old.items table.new.items admitted.now bytes.now
+            reply.new result }
     {
         let seen = ClientView {
             client,
