@@ -1,13 +1,15 @@
 -- A client closes: what it had in use is dropped, what it saved is left, and what couldn't be flushed is an orphan.
-use Rattle.std.proofs.Common.{◌≡◌, ◌<◌, ◌≤◌, ◌+◌, ◌-◌, ℕ, true, false, List, [], ◌∷◌, ◌++◌, length, Option, Some, None, refl, sym, ap, subst, ◌∙◌, arith, inl}
+use Rattle.std.proofs.Common.{◌≡◌, ◌<◌, ◌≤◌, ◌+◌, ◌-◌, ℕ, Bool, true, false, List, [], ◌∷◌, ◌++◌, length, Option, Some, None, refl, sym, ap, subst, ◌∙◌, arith, inl}
 use Rattle.std.specs.Prelude.{is_some, set}
 use Rattle.std.specs.List.{list_any}
 use Rattle.std.proofs.lemmas.List.{length-set}
 use Rattle.tab_spec.specs.Numbers.{AreInRange, leave_limit}
 use Rattle.tab_spec.specs.declared.contexts.ContextLimits.{ContextLimits}
+use Rattle.tab_spec.specs.declared.contexts.TheConstants.{PROFILE_CONTEXTS}
 use Rattle.device_spec.specs.Answers.{IsWrongAnswer}
 use Rattle.device_spec.specs.Slots.{SlotState}
 use Rattle.device_port.specs.Device.{Seen, asked_of, last_of}
+use Rattle.session_swap.specs.Items as sessions
 use Rattle.session_swap.specs.Items.{is_owned}
 use Rattle.history_spec.specs.Entry.{Entry, clients_of, close_entry, without, IsOpen}
 use Rattle.world_spec.specs.World.{closed_world, world_of}
@@ -15,7 +17,7 @@ use Rattle.world_laws.proofs.Clients.{once}
 use Rattle.world_laws.proofs.Histories.{clients_of-push, world_of-push}
 use Rattle.client_machine.specs.declared.held.Held.{Held}
 use Rattle.broker_core.specs.Broker.{BrokerView, HeldHolds, Holds, JournalHolds, StandsFor, times_open}
-use Rattle.client_machine.specs.Dropping.{Drops}
+use Rattle.client_machine.specs.Dropping.{Drops, LeavesThem, SendsFlushes}
 use Rattle.client_machine.specs.Moves.{CountsOn, CountsOnBy, MayMove, StaysFor}
 use Rattle.client_machine.specs.Settled.{orphan_count}
 use Rattle.client_machine.specs.Tables.{AreOpenOwners}
@@ -23,6 +25,7 @@ use Rattle.broker_core.specs.Tables.{TablesStand, list_of}
 use Rattle.object_swap.specs.Items.{HasNone}
 use Rattle.broker_core.proofs.Journaling.{counted-left, counted-push, journal-close, journal-later}
 use Rattle.broker_core.proofs.Holding.{Entries, after-push, counters_in, few_left, fewer-counted, longer, moves_now, no_answer, no_state, none_is, not_told, others_in, slots_still, still_right, told_before, made_since}
+use Rattle.client_machine.proofs.Remaining.{leaves_them, remains_same}
 use Rattle.client_machine.proofs.Settling.{settled_at}
 use Rattle.broker_core.proofs.Tabling.{open_inside, owners-close, tables-close}
 use Rattle.broker_core.proofs.Listing.{lists-close, lists_same}
@@ -186,3 +189,24 @@ view_closed old seen client journal limit tables is_journal is_limit is_tables i
     ∙ ap (λ (l : ℕ). record old { journal = old.journal ++ close_entry client ∷ []; limit = l; tables = tables }) is_limit
     ∙ ap (λ (t : List (List (Option ℕ))). record old { journal = old.journal ++ close_entry client ∷ []; tables = t }) is_tables
     ∙ ap (λ (v : BrokerView _). record v { journal = v.journal ++ close_entry client ∷ []; tables = set v.tables client [] }) is_seen
+
+-- ---- what is kept of the sessions, and what was sent
+
+pub behind_from : {D : Type 0} {old seen : BrokerView D} (new_items : List (Option sessions.Item)) → old ≡ seen
+    → LeavesThem old.held.sessions.items new_items → LeavesThem seen.held.sessions.items new_items
+behind_from {D = D} new_items is behind = subst (λ (v : BrokerView D). LeavesThem v.held.sessions.items new_items) is behind
+
+pub leaves_same : (items : List (Option sessions.Item)) → LeavesThem items items
+leaves_same items = leaves_them PROFILE_CONTEXTS [] items items (λ number. remains_same PROFILE_CONTEXTS [] (sessions.item_at items number))
+
+pub sent_from : {contexts : ContextLimits} {D : Type 0} {seen : D → Seen} {old now : BrokerView D} {device : D} {new_items : List (Option sessions.Item)} {wrong : Bool}
+    → old ≡ now → SendsFlushes contexts seen old.device device old.held.sessions.items new_items wrong
+    → SendsFlushes contexts seen now.device device now.held.sessions.items new_items wrong
+sent_from {contexts = contexts} {D = D} {seen = seen} {device = device} {new_items = new_items} {wrong = wrong} is sent =
+    subst (λ (v : BrokerView D). SendsFlushes contexts seen v.device device v.held.sessions.items new_items wrong) is sent
+
+-- nothing, after a wrong answer
+pub none_sent : {contexts : ContextLimits} {D : Type 0} (seen : D → Seen) (device : D) (items : List (Option sessions.Item))
+    → SendsFlushes contexts seen device device items items true
+none_sent {contexts = contexts} seen device items =
+    record { sent = []; trace_is = refl; each = tt; flushed = λ number. remains_same contexts [] (sessions.item_at items number) }

@@ -274,6 +274,7 @@ carries_more seen client old new held new_held more table new_table a bytes repl
   table_is = ran.table_is;
   object_is = ran.object_is;
   spare = ran.spare;
+  place = ran.place;
   taken = ran.taken;
   sessions_are = ran.sessions_are;
   left = ran.left;

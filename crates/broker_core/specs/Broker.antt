@@ -30,7 +30,7 @@ use Rattle.world_spec.specs.Legal.{Legal}
 use Rattle.world_spec.specs.World.{world_of}
 use Rattle.client_machine.specs.declared.held.Held.{Held}
 use Rattle.client_machine.specs.Costs.{SendsUpTo, StaysIn, new_bound}
-use Rattle.client_machine.specs.Dropping.{KeepsOthers, left_after}
+use Rattle.client_machine.specs.Dropping.{KeepsOthers, LeavesThem, left_after}
 use Rattle.client_machine.specs.Moves.{Executes, FailsAtLast, IsAtHand, IsCalm, IsFor, KeepsOwners, any_client, moves_for, pick_of, saved_number}
 use Rattle.client_machine.specs.Settled.{orphan_count}
 use Rattle.broker_core.specs.Stands.{Stands}
@@ -284,11 +284,12 @@ TellsLeft (closes.Orphans count) held new_held =
     (count ≡ orphan_count new_held) × (orphan_count held < orphan_count new_held) × HasLeft held new_held
 TellsLeft closes.Answer held new_held = Unit {0}
 
--- what a close leaves of all sessions: those of other clients stay where they are, and without a wrong answer those that this client
--- saved are left behind the ones that were left already, without the longest left ones past the limit
+-- what a close leaves of all sessions: those of other clients stay where they are, each that is left is what it was, and without a wrong
+-- answer those that this client saved are left behind the ones that were left already, without the longest left ones past the limit
 pub record LeavesSessions (client : ℕ) (told : Closed) (held new_held : Held) : Type 0 where
   pub others : KeepsOthers client held.sessions.items new_held.sessions.items
   pub left : (told ≡ closes.Answer → ⊥) → new_held.sessions.left ≡ left_after client held.sessions
+  pub behind : LeavesThem held.sessions.items new_held.sessions.items
 
 -- the device was started and flushed, its numbers are in range, and memory lacked for what is kept of its objects and sessions
 abbrev pub LackedMemory : (old new : Seen) → Type 0

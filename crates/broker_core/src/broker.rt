@@ -515,9 +515,10 @@ impl<D: Device> Broker<D> {
         ensures keeps { Keeps D.seen self.old.device self.new.device }
         ensures costs { SendsUpTo D.seen (close_bound client self.old.held)
             self.old.device self.new.device }
-        // Nothing is sent but flushes, and no wrong answer to one is passed over.
+        // Nothing is sent but flushes, no wrong answer to one is passed over, and each session that
+        // is gone was flushed.
         ensures sent { SendsFlushes D.CONTEXTS D.seen self.old.device self.new.device
-            (closes_wrong result) }
+            self.old.held.sessions.items self.new.held.sessions.items (closes_wrong result) }
         ensures fixed { (self.new.began ≡ self.old.began) × (self.new.limit ≡ self.old.limit)
             × (self.new.held.sessions.numbers ≡ self.old.held.sessions.numbers) }
     {
@@ -547,9 +548,10 @@ impl<D: Device> Broker<D> {
             × (self.new.held.sessions.numbers ≡ self.old.held.sessions.numbers) }
         ensures costs { SendsUpTo D.seen (close_bound client self.old.held)
             self.old.device self.new.device }
-        // Nothing is sent but flushes, and no wrong answer to one is passed over.
+        // Nothing is sent but flushes, no wrong answer to one is passed over, and each session that
+        // is gone was flushed.
         ensures sent { SendsFlushes D.CONTEXTS D.seen self.old.device self.new.device
-            (closes_wrong result) }
+            self.old.held.sessions.items self.new.held.sessions.items (closes_wrong result) }
         ensures steps { (steps.new ≤ steps.old + 6 * own_objects client self.old.held.objects.items)
             × ((result ≡ closes.Answer → ⊥)
             → steps.old + 3 * own_objects client self.old.held.objects.items ≤ steps.new) }
@@ -642,9 +644,10 @@ impl<D: Device> Broker<D> {
             × (self.new.held.sessions.numbers ≡ self.old.held.sessions.numbers) }
         ensures costs { SendsUpTo D.seen (close_bound client self.old.held)
             self.old.device self.new.device }
-        // Nothing is sent but flushes, and no wrong answer to one is passed over.
+        // Nothing is sent but flushes, no wrong answer to one is passed over, and each session that
+        // is gone was flushed.
         ensures sent { SendsFlushes D.CONTEXTS D.seen self.old.device self.new.device
-            (closes_wrong result) }
+            self.old.held.sessions.items self.new.held.sessions.items (closes_wrong result) }
         ensures steps { (C.count steps.new
             ≤ C.count steps.old + 6 * own_objects client self.old.held.objects.items)
             × ((result ≡ closes.Answer → ⊥) → C.count steps.old

@@ -1,8 +1,9 @@
-use Rattle.std.proofs.Common.{[], ◌∷◌, ◌++◌, set, sym, ap, subst, ◌∙◌, rules}
+use Rattle.std.proofs.Common.{[], ◌∷◌, ◌++◌, set, sym, ap, subst, ◌∙◌, refl, rules}
 use Rattle.history_spec.specs.Entry.{close_entry, IsOpen}
 use Rattle.broker_core.specs.Broker.{BrokerView}
 use Rattle.client_machine.specs.Dropping.{left_after}
-use Rattle.broker_core.proofs.Closing.{holds_closed_after, holds_closed_wrong, list_closed, moves_same, still_few, view_closed}
+use Rattle.client_machine.proofs.Remaining.{leaves_them}
+use Rattle.broker_core.proofs.Closing.{behind_from, holds_closed_after, holds_closed_wrong, leaves_same, none_sent, sent_from, list_closed, moves_same, still_few, view_closed}
 use Rattle.broker_core.proofs.Holding.{own_list}
 use Rattle.broker_core.proofs.Placing.{kept_closed, open_there}
 use Rattle.broker_core.proofs.broker.Broker.close_by.Goals as goal
@@ -42,7 +43,7 @@ invariant_of-self-in-Ok-eq0 g c =
     let none = sym c.is_some.ensures ∙ c.if-is_some.false in
     let done = c.in-Ok-eq0.ensures in
     rw (c.enter_close.ensures.entered, c.enter_close.ensures.limit, c.close-list.ensures.items, c.close-list.ensures.lists) (
-      list_closed g.D.Device.seen c.args.client _ c.self.invariant.0 none opened c.close-list.ensures.list done.ok done.none.objects done.none.sessions,
+      list_closed g.D.Device.seen c.args.client _ c.self.invariant.0 none opened c.close-list.ensures.list done.drops.ok done.drops.none.objects done.drops.none.sessions,
       kept_closed c.self.inside.journal.entries c.args.client c.self.invariant.1 c.close-list.ensures.present,
     )
 
@@ -52,7 +53,7 @@ invariant_of-self-in-Ok g c =
     let none = sym c.is_some.ensures ∙ c.if-is_some.false in
     let done = c.in-Ok.ensures in
     rw (c.enter_close.ensures.entered, c.enter_close.ensures.limit, c.close-list.ensures.items, c.close-list.ensures.lists) (
-      list_closed g.D.Device.seen c.args.client _ c.self.invariant.0 none opened c.close-list.ensures.list done.ok done.none.objects done.none.sessions,
+      list_closed g.D.Device.seen c.args.client _ c.self.invariant.0 none opened c.close-list.ensures.list done.drops.ok done.drops.none.objects done.drops.none.sessions,
       kept_closed c.self.inside.journal.entries c.args.client c.self.invariant.1 c.close-list.ensures.present,
     )
 
@@ -61,7 +62,7 @@ invariant_of-self-in-Err g c =
     let opened = subst (λ (v : _). IsOpen v.journal c.args.client) (sym c.self.view_is) c.requires in
     let done = c.in-Err.ensures in
     rw (c.enter_close.ensures.entered, c.enter_close.ensures.limit, c.close-list.ensures.items, c.close-list.ensures.lists, c.from.ensures) (
-      holds_closed_wrong c.args.client c.in-Err.code c.self.invariant.0 opened done.disowns.keeps.count done.disowns.made_for done.disowns.slots done.disowns.numbers done.disowns.length_is done.disowns.err,
+      holds_closed_wrong c.args.client c.in-Err.code c.self.invariant.0 opened done.drops.disowns.keeps.count done.drops.disowns.made_for done.drops.disowns.slots done.drops.disowns.numbers done.drops.disowns.length_is done.drops.disowns.err,
       kept_closed c.self.inside.journal.entries c.args.client c.self.invariant.1 c.close-list.ensures.present,
     )
 
@@ -99,15 +100,47 @@ returns-then-is_some-clause-unsent g c =
 pub returns-in-Ok-eq0-clause-sessions : goal.returns-in-Ok-eq0-clause-sessions
 returns-in-Ok-eq0-clause-sessions g c = record {
   others = search rules;
+  behind = behind_from _ c.self.view_is c.in-Ok-eq0.ensures.drops.none.behind;
   left = λ told.
-      c.in-Ok-eq0.ensures.none.left (still_few c.self.invariant.0 (sym c.is_some.ensures ∙ c.if-is_some.false))
+      c.in-Ok-eq0.ensures.drops.none.left (still_few c.self.invariant.0 (sym c.is_some.ensures ∙ c.if-is_some.false))
       ∙ ap (λ (v : BrokerView g.row.D.Denot). left_after c.args.client v.held.sessions) c.self.view_is;
 }
 
 pub returns-in-Ok-clause-sessions : goal.returns-in-Ok-clause-sessions
 returns-in-Ok-clause-sessions g c = record {
   others = search rules;
+  behind = behind_from _ c.self.view_is c.in-Ok.ensures.drops.none.behind;
   left = λ told.
-      c.in-Ok.ensures.none.left (still_few c.self.invariant.0 (sym c.is_some.ensures ∙ c.if-is_some.false))
+      c.in-Ok.ensures.drops.none.left (still_few c.self.invariant.0 (sym c.is_some.ensures ∙ c.if-is_some.false))
       ∙ ap (λ (v : BrokerView g.row.D.Denot). left_after c.args.client v.held.sessions) c.self.view_is;
 }
+
+pub returns-in-Err-clause-sessions : goal.returns-in-Err-clause-sessions
+returns-in-Err-clause-sessions g c =
+    let sent = c.in-Err.ensures.drops.disowns.sent in
+    record {
+      others = search rules;
+      left = λ told. absurd (told refl);
+      behind = behind_from _ c.self.view_is (leaves_them g.D.Device.CONTEXTS sent.sent _ _ sent.flushed);
+    }
+
+pub returns-then-is_some-clause-sessions : goal.returns-then-is_some-clause-sessions
+returns-then-is_some-clause-sessions g c = record {
+  others = search rules;
+  left = λ told. absurd (told refl);
+  behind = behind_from _ c.self.view_is (leaves_same c.self.inside.machine.held.sessions.items);
+}
+
+-- ---- what is sent
+
+pub returns-then-is_some-clause-sent : goal.returns-then-is_some-clause-sent
+returns-then-is_some-clause-sent g c = sent_from c.self.view_is (none_sent g.D.Device.seen c.self.inside.machine.device c.self.inside.machine.held.sessions.items)
+
+pub returns-in-Ok-eq0-clause-sent : goal.returns-in-Ok-eq0-clause-sent
+returns-in-Ok-eq0-clause-sent g c = sent_from c.self.view_is c.in-Ok-eq0.ensures.drops.disowns.sent
+
+pub returns-in-Ok-clause-sent : goal.returns-in-Ok-clause-sent
+returns-in-Ok-clause-sent g c = sent_from c.self.view_is c.in-Ok.ensures.drops.disowns.sent
+
+pub returns-in-Err-clause-sent : goal.returns-in-Err-clause-sent
+returns-in-Err-clause-sent g c = sent_from c.self.view_is c.in-Err.ensures.drops.disowns.sent

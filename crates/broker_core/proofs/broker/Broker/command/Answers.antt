@@ -98,40 +98,34 @@ returns-then-is_err-clause-told g c =
       subst (λ (v : BrokerView g.row.D.Denot). IsAdmitted g.D.Device.CONTEXTS v c.args.client c.args.bytes.now) c.self.view_is (c.in-Ok.admitted, admitted),
     )
 
-pub answer-requires-clause-admitted : goal.answer-requires-clause-admitted
-answer-requires-clause-admitted g c =
-    let is = sym (c.reserve.ensures.same.3 ∙ c.table_mut-table.ensures.value) in
-    ap (λ (v : SessionsView). client_admitted (tables_seen g.D.Device.CONTEXTS c.args.client c.reserve.new.table.items v.items) c.args.bytes.now) c.reserve.ensures.same.2
-    ∙ admitted_read g.D.Device.CONTEXTS c.CONTEXTS.result c.args.client _ _ c.self.inside.machine.held.sessions.items c.args.bytes.now c.admit_client.result c.CONTEXTS.ensures (c.table.ensures ∙ is) c.admit_client.ensures.value ∙ c.in-Ok.is
-
-pub answer-requires-clause-room : goal.answer-requires-clause-room
-answer-requires-clause-room g c =
-    from_ok c.reserve.result _ c.reserve.ensures.room (sym c.is_err.ensures.value ∙ c.if-is_err.false)
-
-pub answer-requires-clause-table : goal.answer-requires-clause-table
-answer-requires-clause-table g c =
-    let none = sym c.is_some.ensures ∙ c.if-is_some.false in
-    let are = are_more _ _ c.reserve.ensures.items in
-    table_now _ c.args.client _ c.self.invariant.0 none are (sym (c.reserve.ensures.same.3 ∙ c.table_mut-table.ensures.value))
-
 pub list-list-requires : goal.list-list-requires
 list-list-requires g c =
     let opened = subst (λ (v : _). IsOpen v.journal c.args.client) (sym c.self.view_is) c.requires.present in
     open_there c.self.inside.journal.entries c.args.client c.self.invariant.1 opened
 
-pub answer-requires-clause-list : goal.answer-requires-clause-list
-answer-requires-clause-list g c =
-    let opened = subst (λ (v : _). IsOpen v.journal c.args.client) (sym c.self.view_is) c.requires.present in
-    let none = sym c.is_some.ensures ∙ c.if-is_some.false in
-    ap (λ (v : ObjectsView). owner_at v.owners c.list-list.result) c.reserve.ensures.same.1
-    ∙ own_list c.args.client c.list-list.result c.self.invariant.0 none opened c.list-list.ensures
-
 pub answer-requires-clause-may : goal.answer-requires-clause-may
-answer-requires-clause-may g c =
-    let are = are_more _ _ c.reserve.ensures.items in
-    let is_held = with_items_is c.self.inside.machine.held c.reserve.new.self.held c.reserve.ensures.same.1 c.reserve.ensures.same.2 in
-    subst (λ (d : _). MayMove 2000 g.D.Device.CONTEXTS g.D.Device.seen d c.reserve.new.self.held) (sym c.reserve.ensures.same.0)
-    (moves_now g.D.Device.seen c.self.inside.machine.device c.reserve.new.self.held.objects.items (g.met.D.Device.told_together c.self.inside.machine.device) c.self.invariant.0 are is_held)
+answer-requires-clause-may g c = record {
+  admitted =
+      let is = sym (c.reserve.ensures.same.3 ∙ c.table_mut-table.ensures.value) in
+      ap (λ (v : SessionsView). client_admitted (tables_seen g.D.Device.CONTEXTS c.args.client c.reserve.new.table.items v.items) c.args.bytes.now) c.reserve.ensures.same.2
+      ∙ admitted_read g.D.Device.CONTEXTS c.CONTEXTS.result c.args.client _ _ c.self.inside.machine.held.sessions.items c.args.bytes.now c.admit_client.result c.CONTEXTS.ensures (c.table.ensures ∙ is) c.admit_client.ensures.value ∙ c.in-Ok.is;
+  room =
+      from_ok c.reserve.result _ c.reserve.ensures.room (sym c.is_err.ensures.value ∙ c.if-is_err.false);
+  own_list =
+      let opened = subst (λ (v : _). IsOpen v.journal c.args.client) (sym c.self.view_is) c.requires.present in
+      let none = sym c.is_some.ensures ∙ c.if-is_some.false in
+      ap (λ (v : ObjectsView). owner_at v.owners c.list-list.result) c.reserve.ensures.same.1
+      ∙ own_list c.args.client c.list-list.result c.self.invariant.0 none opened c.list-list.ensures;
+  own_table =
+      let none = sym c.is_some.ensures ∙ c.if-is_some.false in
+      let are = are_more _ _ c.reserve.ensures.items in
+      table_now _ c.args.client _ c.self.invariant.0 none are (sym (c.reserve.ensures.same.3 ∙ c.table_mut-table.ensures.value));
+  moves =
+      let are = are_more _ _ c.reserve.ensures.items in
+      let is_held = with_items_is c.self.inside.machine.held c.reserve.new.self.held c.reserve.ensures.same.1 c.reserve.ensures.same.2 in
+      subst (λ (d : _). MayMove 2000 g.D.Device.CONTEXTS g.D.Device.seen d c.reserve.new.self.held) (sym c.reserve.ensures.same.0)
+      (moves_now g.D.Device.seen c.self.inside.machine.device c.reserve.new.self.held.objects.items (g.met.D.Device.told_together c.self.inside.machine.device) c.self.invariant.0 are is_held);
+}
 
 pub enter_reply-requires-clause-header : goal.enter_reply-requires-clause-header
 enter_reply-requires-clause-header g c = omega (arith, frame_long c.answer.new.reply c.in-Ok-answer.ensures.carries.whole)
