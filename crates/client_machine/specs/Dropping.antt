@@ -69,13 +69,15 @@ LeavesSaved client held new_held =
     length held.sessions.left ≤ leave_limit held.sessions.numbers.active
     → new_held.sessions.left ≡ left_after client held.sessions
 
--- each session that is left then is what it was, whoever had it: the same handle, kept context and bytes handed out
+-- each session that is left then is what it was, whoever had it: the same handle, kept context and
+-- bytes handed out
 abbrev pub LeavesThem : (items new_items : List (Option Item)) → Type 0
 LeavesThem items new_items =
-    (number : ℕ) → is_left (item_at new_items number) ≡ true → item_at new_items number ≡ left_behind (item_at items number)
+    (number : ℕ) → is_left (item_at new_items number) ≡ true
+    → item_at new_items number ≡ left_behind (item_at items number)
 
--- A client that was closed has no object and no session. Those that it saved are left, behind the ones that were left before, and up to
--- the limit
+-- A client that was closed has no object and no session. Those that it saved are left, behind the
+-- ones that were left before, and up to the limit
 pub record HasNothing (client : ℕ) (held new_held : Held) : Type 0 where
   pub objects : HasNone new_held.objects.items client
   pub sessions : list_any (is_owned client) new_held.sessions.items ≡ false
@@ -96,28 +98,32 @@ WereTried contexts true (newest ∷ earlier) = (code_of newest.command ≡ CC_FL
 
 -- the session of this handle was flushed by one of these, which was answered
 abbrev pub WasFlushedBy : ContextLimits → List Transmission → ℕ → Type 0
-WasFlushedBy contexts sent handle = Any (λ one. (one.command ≡ flush_context_command handle) × WasTaken contexts one) sent
+WasFlushedBy contexts sent handle =
+    Any (λ one. (one.command ≡ flush_context_command handle) × WasTaken contexts one) sent
 
--- a session that isn't gone: its handle and its kept context are as before, and so are the bytes handed out, unless it is an orphan
+-- a session that isn't gone: its handle and its kept context are as before, and so are the bytes
+-- handed out, unless it is an orphan
 pub record Remains (item new : Item) : Type 0 where
   pub handle : new.handle ≡ item.handle
   pub saved : new.saved ≡ item.saved
   pub handed : is_some new.handed ≡ true → new.handed ≡ item.handed
 
--- what becomes of the session of a number: it remains, or it is gone and was flushed by one of these. No session is new
+-- what becomes of the session of a number: it remains, or it is gone and was flushed by one of these.
+-- No session is new
 abbrev pub RemainsOrFlushed : ContextLimits → List Transmission → (item new : Option Item) → Type 0
 RemainsOrFlushed contexts sent None new = new ≡ None
 RemainsOrFlushed contexts sent (Some item) None = WasFlushedBy contexts sent item.handle
 RemainsOrFlushed contexts sent (Some item) (Some new) = Remains item new
 
--- Nothing was sent but flushes, the newest first, and each was answered or failed, unless the newest met a wrong answer. No session is
--- gone without one
-pub record SendsFlushes {D : Type 0} (contexts : ContextLimits) (seen : D → Seen) (old new : D) (items new_items : List (Option Item))
-    (wrong : Bool) : Type 0 where
+-- Nothing was sent but flushes, the newest first, and each was answered or failed, unless the newest
+-- met a wrong answer. No session is gone without one
+pub record SendsFlushes {D : Type 0} (contexts : ContextLimits) (seen : D → Seen) (old new : D)
+    (items new_items : List (Option Item)) (wrong : Bool) : Type 0 where
   pub sent : List Transmission
   pub trace_is : (seen new).trace ≡ sent ++ (seen old).trace
   pub each : WereTried contexts wrong sent
-  pub flushed : (number : ℕ) → RemainsOrFlushed contexts sent (item_at items number) (item_at new_items number)
+  pub flushed : (number : ℕ)
+      → RemainsOrFlushed contexts sent (item_at items number) (item_at new_items number)
 
 -- What can't be flushed is an orphan then. This holds of each step, also of one that met a wrong answer: its code is the error, and no
 -- list of objects gets another owner
@@ -131,7 +137,8 @@ pub record Disowns {D A : Type 0} (contexts : ContextLimits) (seen : D → Seen)
   pub left : AreLeftByFaults (orphan_count held) (seen old).faults (orphan_count new_held) (seen new).faults
   pub err : IfErr result (λ code. IsWrongAnswer contexts (asked_of (seen new)) (last_of (seen new)) code × ((seen new).state ≡ None))
   -- no wrong answer is passed over, and no session is gone that wasn't flushed
-  pub sent : SendsFlushes contexts seen old new held.sessions.items new_held.sessions.items (is_err result)
+  pub sent : SendsFlushes contexts seen old new held.sessions.items new_held.sessions.items
+      (is_err result)
 
 -- the slots of orphans: those before, and so many more at most
 abbrev pub LeavesMore : ℕ → (left new_left : List ℕ) → Type 0
@@ -214,11 +221,12 @@ pub record ClosesSession (client : ℕ) (held new_held : Held) (result : Result 
 
 -- ---- all that a client has
 
--- a client is closed: all that it has is dropped or left, and its list is nobody's then. What other clients have stays, after a wrong
--- answer too
-pub record DropsAll {D : Type 0} (contexts : ContextLimits) (seen : D → Seen) (client list : ℕ) (old new : D) (held new_held : Held)
-    (result : Result ℕ ℕ) : Type 0 where
-  pub ok : IfOk result (λ failed. Drops contexts seen client old new held new_held (set held.objects.owners list None) failed)
+-- a client is closed: all that it has is dropped or left, and its list is nobody's then. What other
+-- clients have stays, after a wrong answer too
+pub record DropsAll {D : Type 0} (contexts : ContextLimits) (seen : D → Seen) (client list : ℕ)
+    (old new : D) (held new_held : Held) (result : Result ℕ ℕ) : Type 0 where
+  pub ok : IfOk result (λ failed. Drops contexts seen client old new held new_held
+      (set held.objects.owners list None) failed)
   pub none : OnOk result (HasNothing client held new_held)
   pub others : KeepsOthers client held.sessions.items new_held.sessions.items
   -- no more orphans are added than transmissions failed, also after a wrong answer

@@ -97,10 +97,13 @@ abbrev pub HasRoomFor : ContextLimits → Admitted → List ℕ → ℕ → List
 HasRoomFor contexts a bytes spare items =
     makes_object_by contexts (Ok a.shape) bytes ≡ true → (1 ≤ spare) × (list_any is_vacant items ≡ true)
 
--- what is asked of a client's command: it was admitted over the client's table and sessions, and there is room for what it may make
-pub record MayServe {D : Type 0} (contexts : ContextLimits) (seen : D → Seen) (client list : ℕ) (device : D) (held : Held)
+-- what is asked of a client's command: it was admitted over the client's table and sessions, and there
+-- is room for what it may make
+pub record MayServe {D : Type 0} (contexts : ContextLimits) (seen : D → Seen) (client list : ℕ)
+    (device : D) (held : Held)
     (table : List (Option ℕ)) (spare : ℕ) (a : Admitted) (bytes : List ℕ) : Type 0 where
-  pub admitted : client_admitted (tables_seen contexts client table held.sessions.items) bytes ≡ Ok a
+  pub admitted :
+      client_admitted (tables_seen contexts client table held.sessions.items) bytes ≡ Ok a
   pub room : HasRoomFor contexts a bytes spare held.objects.items
   pub own_list : objects.owner_at held.objects.owners list ≡ Some client
   pub own_table : IsTable held.objects.items client table
@@ -549,7 +552,8 @@ pub record Ran {D : Type 0} (contexts : ContextLimits) (seen : D → Seen) (clie
   -- where it needs a slot, one was free when it was sent: without what it made there is room for one object more
   pub spare : needs_slot contexts a.shape bytes ≡ true
       → objects.residents new_held.objects.items + length new_held.objects.left < new_held.objects.slots + objects_told a answer
-  -- where it starts a session, and fewer than may be active are clients' or were left, a place for a loaded one was free when it was sent
+  -- where it starts a session, and fewer than may be active are clients' or were left, a place for a
+  -- loaded one was free when it was sent
   pub place : starts_session a ≡ true → count_by is_held mid < held.sessions.numbers.active
       → sessions.loaded_items mid < held.sessions.numbers.loaded
   -- the broker takes it, by what it held: whether a context that the command loads is kept, and whether no new session can have the handle
@@ -645,11 +649,14 @@ pub record CarriesOut {D : Type 0} (contexts : ContextLimits) (seen : D → Seen
   -- where no renewal was due
   pub stays : gap_kept held.sessions < renewal_gap held.sessions.numbers → StaysIn 1 1 (saved_number a) held new_held
 
--- a client's command that was admitted: what it leaves, what it did unless it failed, and what is sent for it at the most
-pub record ServesCommand {D A : Type 0} (contexts : ContextLimits) (seen : D → Seen) (client : ℕ) (old new : D)
-    (held new_held : Held) (table new_table : List (Option ℕ)) (a : Admitted) (bytes reply : List ℕ) (result : Result A SwapError) : Type 0 where
+-- a client's command that was admitted: what it leaves, what it did unless it failed, and what is
+-- sent for it at the most
+pub record ServesCommand {D A : Type 0} (contexts : ContextLimits) (seen : D → Seen) (client : ℕ)
+    (old new : D) (held new_held : Held) (table new_table : List (Option ℕ)) (a : Admitted)
+    (bytes reply : List ℕ) (result : Result A SwapError) : Type 0 where
   pub serves : Serves contexts seen client old new held new_held table new_table result
-  pub carries : OnOk result (CarriesOut contexts seen client old new held new_held table new_table a bytes reply)
+  pub carries : OnOk result
+      (CarriesOut contexts seen client old new held new_held table new_table a bytes reply)
   -- where all that it names is at hand, one command
   pub at_hand : IsAtHand contexts held table a bytes → SendsUpTo seen 1 old new
   -- where there are no orphans and no renewal is due, what moves that, and the command itself

@@ -598,16 +598,19 @@ pub record RefreshCounts {D : Type 0} (seen : D → Seen) (old new : D) (view : 
   pub few : saved_items view.items ≤ view.numbers.active
 
 -- contexts may be renewed: there is room for them, and there are so many numbers for more of them
-pub record MayRenew (contexts : ContextLimits) (state : Option SlotState) (view : SessionsView) (most : ℕ) : Type 0 where
+pub record MayRenew (contexts : ContextLimits) (state : Option SlotState) (view : SessionsView)
+    (most : ℕ) : Type 0 where
   pub made_for : view.contexts ≡ contexts
   pub stand : Stand state view []
   pub room : HasGapRoom state
   pub numbers : counter_of state + most ≤ CONTEXT_LIMIT
 
--- the session of a handle was renewed, unless the call failed; every other one that was saved stays where it was, also then
-pub record RenewsOne {D : Type 0} (contexts : ContextLimits) (seen : D → Seen) (handle : ℕ) (old new : D) (view new_view : SessionsView)
-    (result : Result (Unit {0}) SwapError) : Type 0 where
-  pub ok : OnOk result (Renews contexts (seen old) (seen new) handle view.items new_view.items × IsSavedAgain view new_view handle)
+-- the session of a handle was renewed, unless the call failed; every other one that was saved stays
+-- where it was, also then
+pub record RenewsOne {D : Type 0} (contexts : ContextLimits) (seen : D → Seen) (handle : ℕ)
+    (old new : D) (view new_view : SessionsView) (result : Result (Unit {0}) SwapError) : Type 0 where
+  pub ok : OnOk result (Renews contexts (seen old) (seen new) handle view.items new_view.items
+      × IsSavedAgain view new_view handle)
   pub others : AreKept (number_of_session handle) view.items new_view.items
   pub moved : Moved seen old new view new_view
   pub counts : RenewalCounts seen old new view
@@ -625,11 +628,13 @@ pub record Refreshes (state new_state : Option SlotState) (view new_view : Sessi
   pub order : new_view.order ≡ drop (min renewed (full_kept view)) view.order
 
 -- contexts were renewed until none is due, unless the call failed
-pub record RefreshesAll {D : Type 0} (contexts : ContextLimits) (seen : D → Seen) (old new : D) (view new_view : SessionsView)
-    (result : Result ℕ SwapError) : Type 0 where
-  pub ok : IfOk result (λ renewed. Refreshes (seen old).state (seen new).state view new_view renewed)
+pub record RefreshesAll {D : Type 0} (contexts : ContextLimits) (seen : D → Seen) (old new : D)
+    (view new_view : SessionsView) (result : Result ℕ SwapError) : Type 0 where
+  pub ok : IfOk result
+      (λ renewed. Refreshes (seen old).state (seen new).state view new_view renewed)
   -- where none is due, nothing is sent
-  pub still : gap_kept view < renewal_gap view.numbers → (new ≡ old) × (new_view ≡ view) × (result ≡ Ok 0)
+  pub still : gap_kept view < renewal_gap view.numbers
+      → (new ≡ old) × (new_view ≡ view) × (result ≡ Ok 0)
   -- a saved session whose context isn't due is as it was
   pub recent : IfSome (seen new).state (λ slots. KeepsRecent slots view.items new_view.items)
   pub moved : Moved seen old new view new_view
