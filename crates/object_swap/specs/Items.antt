@@ -1,13 +1,15 @@
 -- The objects that a swapper holds for its clients: each in a slot of the device, in a context beside it, or both (Part 1,
 -- "Context Management"). What a device that tells its state has of them is said over that state.
-use Rattle.std.specs.Prelude.{◌≡◌, ◌<◌, ◌≤◌, ℕ, ◌+◌, ◌-◌, ◌==◌, ◌&&◌, ◌||◌, not, bytes_eq, Bool, true, false, List, [], ◌∷◌, ◌++◌, length, map, take, get_or, set, Option, Some, None, is_some, IfSome, Result, Ok, OnErr, OnOk, if◌then◌else◌}
+use Rattle.std.specs.Prelude.{◌≡◌, ◌<◌, ◌≤◌, ℕ, ◌+◌, ◌-◌, ◌==◌, ◌&&◌, ◌||◌, not, bytes_eq, Bool, true, false, List, [], ◌∷◌, ◌++◌, length, map, take, get_or, set, Option, Some, None, is_some, IfSome, MatchOption, Result, Ok, OnErr, OnOk, if◌then◌else◌}
 use Rattle.std.specs.List.{AllByRecursion, count_by, list_any}
 use Rattle.tab_spec.specs.declared.TheConstants.{CONTEXT_LIMIT, TRANSIENT_FIRST}
 use Rattle.tab_spec.specs.Object.{Object}
 use Rattle.tab_spec.specs.declared.contexts.ContextLimits.{ContextLimits}
+use Rattle.device_spec.specs.ContextCommands.{flush_context_command}
 use Rattle.device_spec.specs.Slots.{SlotState, IsSlots, is_free, object_at}
 use Rattle.device_port.specs.Device.{Seen, sent_of}
-use Rattle.device_port.specs.Use.{all_used, first_unneeded, is_among, without_first}
+use Rattle.device_port.specs.Own.{Asks, AsksSome}
+use Rattle.device_port.specs.Use.{all_used, first_unneeded, is_among, without_first, without_one}
 use Rattle.device_port.specs.declared.own.SwapError.{SwapError}
 
 -- an item: whose object it is, if anybody's, the number of the slot in which it stands, and the context that it can be
@@ -104,6 +106,11 @@ owner_at owners list = get_or owners list None
 -- whether a client has one
 abbrev pub has_list : List (Option ℕ) → ℕ → Bool
 has_list owners client = list_any (λ owner. is_owner client owner) owners
+
+-- the first object in a list: one of the list's client, or nothing where that client has none
+abbrev pub FindsFirst : ObjectsView → ℕ → Option ℕ → Type 0
+FindsFirst view list first = (client : ℕ) → owner_at view.owners list ≡ Some client
+    → MatchOption first (HasNone view.items client) (λ index. Names view.items index × ((item_at view.items index).client ≡ Some client))
 
 -- whether it is nobody's, and whether any list is
 abbrev pub is_nobodys : Option ℕ → Bool
@@ -307,6 +314,23 @@ pub record Dropped {D : Type 0} (seen : D → Seen) (old new : D) (old_view new_
   pub stand : (others : List ℕ) → Stand (seen old).state old_view.items others → Stand (seen new).state new_view.items others
   pub counter : counter_of (seen new).state ≡ counter_of (seen old).state
   pub rest : KeepsRest seen old new
+
+-- what becomes of an object that is dropped: it is forgotten, and an error changes nothing
+pub record DropsObject {D : Type 0} (contexts : ContextLimits) (seen : D → Seen) (old new : D) (index : ℕ) (old_view new_view : ObjectsView)
+    (result : Result (Unit {0}) SwapError) : Type 0 where
+  pub ok : OnOk result (Forgets index (seen old).state (seen new).state old_view.items new_view.items
+      × (new_view.order ≡ without_one index old_view.order))
+  pub err : OnErr result ((new_view ≡ old_view) × ((seen new).state ≡ (seen old).state))
+  -- exactly one FlushContext is sent where the object is in a slot
+  pub sent : MatchOption (handle_in (item_at old_view.items index).slot) ((result ≡ Ok tt) × (new ≡ old))
+      (λ handle. Asks contexts seen old new (flush_context_command handle) result)
+  pub dropped : Dropped seen old new old_view new_view
+  pub asks : AsksSome contexts seen old new result
+
+-- what becomes of an object that is left to nobody: it leaves its place, and its slot is the last of those of nobody
+abbrev pub OrphansObject : ℕ → ObjectsView → ObjectsView → Type 0
+OrphansObject index old new = (slot : ℕ) → (item_at old.items index).slot ≡ Some slot
+    → new ≡ record old { items = set old.items index no_item; order = without_one index old.order; left = old.left ++ slot ∷ [] }
 
 -- an object of nobody is gone, the last of them, and each other object stands as before
 pub record LosesOrphan (old_state new_state : Option SlotState) (old new : ObjectsView) : Type 0 where

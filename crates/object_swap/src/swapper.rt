@@ -1,17 +1,16 @@
-ghost use Rattle.std.specs.Prelude.{◌≡◌, ◌≤◌, ◌<◌, ◌+◌, ◌*◌, ◌-◌, ◌⊎◌, ◌==◌, [], ◌∷◌, ◌++◌};
-ghost use Rattle.std.specs.Prelude.{List, ℕ, Some, None, length, set, true, false, Ok, IfOk};
-ghost use Rattle.std.specs.Prelude.{OnOk, OnErr, MatchOption};
+ghost use Rattle.std.specs.Prelude.{◌≡◌, ◌≤◌, ◌<◌, ◌+◌, ◌*◌, ◌-◌, ◌⊎◌, ◌==◌, [], ◌∷◌, ◌++◌, List};
+ghost use Rattle.std.specs.Prelude.{ℕ, Some, None, length, set, true, false, Ok, IfOk, OnOk, OnErr};
+ghost use Rattle.std.specs.Prelude.{MatchOption};
 ghost use Rattle.std.specs.List.{list_any};
 ghost use Rattle.tab_spec.specs.declared.TheConstants.{HT_TRANSIENT, TRANSIENT_FIRST};
 ghost use Rattle.tab_spec.specs.Shape.{octet_of};
 ghost use Rattle.device_spec.specs.ContextCommands.{flush_context_command};
 ghost use Rattle.device_port.specs.Own.{Asks, AsksSome};
-ghost use Rattle.device_port.specs.Use.{without_one};
-ghost use Rattle.object_swap.specs.Items.{AreNeeded, Dropped, HasSlots, HaveSlots, KeepsSlots};
-ghost use Rattle.object_swap.specs.Items.{Forgets, HasNone, KeepsRest, LosesOrphan, MakesRoom};
-ghost use Rattle.object_swap.specs.Items.{MayMove, Moved, Names, Stand, handle_in, has_free_list};
-ghost use Rattle.object_swap.specs.Items.{has_list, is_resident, is_vacant, item_at, keeps_context};
-ghost use Rattle.object_swap.specs.Items.{new_item, no_item, owner_at, residents};
+ghost use Rattle.object_swap.specs.Items.{AreNeeded, DropsObject, FindsFirst, HasNone, HasSlots};
+ghost use Rattle.object_swap.specs.Items.{HaveSlots, KeepsRest, KeepsSlots, LosesOrphan, MakesRoom};
+ghost use Rattle.object_swap.specs.Items.{MayMove, Moved, Names, OrphansObject, Stand, handle_in};
+ghost use Rattle.object_swap.specs.Items.{has_free_list, has_list, is_resident, is_vacant, item_at};
+ghost use Rattle.object_swap.specs.Items.{keeps_context, new_item, no_item, owner_at, residents};
 ghost use Rattle.object_swap.specs.declared.TheConstants.{PLACES_MOST};
 
 use crate::PLACES_MOST;
@@ -235,10 +234,7 @@ impl Objects {
     /// An object of the client of a list; nothing where it has none.
     pub fn first(&self, list: u32) -> Option<u32>
         requires { (client : ℕ) × (owner_at self.now.owners list ≡ Some client) }
-        ensures { (client : ℕ) → owner_at self.now.owners list ≡ Some client
-            → MatchOption result (HasNone self.now.items client)
-            (λ item. Names self.now.items item
-            × ((item_at self.now.items item).client ≡ Some client)) }
+        ensures { FindsFirst self.now list result }
     {
         self.first_by(list, &mut Uncounted)
     }
@@ -246,10 +242,7 @@ impl Objects {
     /// `first`, which visits the record that it names: one, or none where the client has none.
     pub fn first_counted<L: Ledger>(&self, list: u32, steps: &mut Steps<L>) -> Option<u32>
         requires { (client : ℕ) × (owner_at self.now.owners list ≡ Some client) }
-        ensures first { (client : ℕ) → owner_at self.now.owners list ≡ Some client
-            → MatchOption result (HasNone self.now.items client)
-            (λ item. Names self.now.items item
-            × ((item_at self.now.items item).client ≡ Some client)) }
+        ensures first { FindsFirst self.now list result }
         ensures steps { MatchOption result
             (steps.new ≡ steps.old) (λ item. steps.new ≡ steps.old + 1) }
     {
@@ -275,18 +268,8 @@ impl Objects {
         requires named { Names self.old.items item }
         requires numbers { HasSlots (D.seen device.old).state self.old.slots }
         requires stand { (others : List ℕ) × Stand (D.seen device.old).state self.old.items others }
-        ensures ok { OnOk result (Forgets item (D.seen device.old).state
-            (D.seen device.new).state self.old.items self.new.items
-            × (self.new.order ≡ without_one item self.old.order)) }
-        ensures err { OnErr result ((self.new ≡ self.old)
-            × ((D.seen device.new).state ≡ (D.seen device.old).state)) }
-        // Exactly one FlushContext is sent where the object is in a slot.
-        ensures sent { MatchOption (handle_in (item_at self.old.items item).slot)
-            ((result ≡ Ok tt) × (device.new ≡ device.old))
-            (λ handle. Asks D.CONTEXTS D.seen device.old device.new (flush_context_command handle)
-            result) }
-        ensures dropped { Dropped D.seen device.old device.new self.old self.new }
-        ensures asks { AsksSome D.CONTEXTS D.seen device.old device.new result }
+        ensures { DropsObject D.CONTEXTS D.seen device.old device.new item
+            self.old self.new result }
     {
         self.drop_by(device, item, scratch, &mut Uncounted)
     }
@@ -302,18 +285,8 @@ impl Objects {
         requires named { Names self.old.items item }
         requires numbers { HasSlots (D.seen device.old).state self.old.slots }
         requires stand { (others : List ℕ) × Stand (D.seen device.old).state self.old.items others }
-        ensures ok { OnOk result (Forgets item (D.seen device.old).state
-            (D.seen device.new).state self.old.items self.new.items
-            × (self.new.order ≡ without_one item self.old.order)) }
-        ensures err { OnErr result ((self.new ≡ self.old)
-            × ((D.seen device.new).state ≡ (D.seen device.old).state)) }
-        // Exactly one FlushContext is sent where the object is in a slot.
-        ensures sent { MatchOption (handle_in (item_at self.old.items item).slot)
-            ((result ≡ Ok tt) × (device.new ≡ device.old))
-            (λ handle. Asks D.CONTEXTS D.seen device.old device.new (flush_context_command handle)
-            result) }
-        ensures dropped { Dropped D.seen device.old device.new self.old self.new }
-        ensures asks { AsksSome D.CONTEXTS D.seen device.old device.new result }
+        ensures drops { DropsObject D.CONTEXTS D.seen device.old device.new item
+            self.old self.new result }
         ensures steps { OnOk result (steps.old + 2 ≤ steps.new)
             × (steps.new ≤ steps.old + 5) }
         ensures few { OnErr result ((steps.old + 1 ≤ steps.new)
@@ -326,12 +299,7 @@ impl Objects {
     pub fn orphan_object(&mut self, item: u32)
         requires named { Names self.old.items item }
         requires slot { is_resident (item_at self.old.items item) ≡ true }
-        ensures { (slot : ℕ) → (item_at self.old.items item).slot ≡ Some slot
-            → self.new ≡ record self.old {
-              items = set self.old.items item no_item;
-              order = without_one item self.old.order;
-              left = self.old.left ++ slot ∷ [];
-            } }
+        ensures { OrphansObject item self.old self.new }
     {
         self.orphan_by(item, &mut Uncounted);
     }
@@ -340,12 +308,7 @@ impl Objects {
     pub fn orphan_object_counted<L: Ledger>(&mut self, item: u32, steps: &mut Steps<L>)
         requires named { Names self.old.items item }
         requires slot { is_resident (item_at self.old.items item) ≡ true }
-        ensures left { (slot : ℕ) → (item_at self.old.items item).slot ≡ Some slot
-            → self.new ≡ record self.old {
-              items = set self.old.items item no_item;
-              order = without_one item self.old.order;
-              left = self.old.left ++ slot ∷ [];
-            } }
+        ensures left { OrphansObject item self.old self.new }
         ensures steps { (steps.old + 1 ≤ steps.new) × (steps.new ≤ steps.old + 3) }
     {
         self.orphan_by(item, steps);
@@ -404,10 +367,7 @@ impl Objects {
     /// `first`, which tells what it visits.
     pub fn first_by<C: Visits>(&self, list: u32, steps: &mut C) -> Option<u32>
         requires { (client : ℕ) × (owner_at self.now.owners list ≡ Some client) }
-        ensures first { (client : ℕ) → owner_at self.now.owners list ≡ Some client
-            → MatchOption result (HasNone self.now.items client)
-            (λ item. Names self.now.items item
-            × ((item_at self.now.items item).client ≡ Some client)) }
+        ensures first { FindsFirst self.now list result }
         ensures steps { MatchOption result (C.count steps.new ≡ C.count steps.old)
             (λ item. C.count steps.new ≡ C.count steps.old + C.weight) }
         ensures few { C.count steps.new ≤ C.count steps.old + 1 }
@@ -426,18 +386,8 @@ impl Objects {
         requires named { Names self.old.items item }
         requires numbers { HasSlots (D.seen device.old).state self.old.slots }
         requires stand { (others : List ℕ) × Stand (D.seen device.old).state self.old.items others }
-        ensures ok { OnOk result (Forgets item (D.seen device.old).state
-            (D.seen device.new).state self.old.items self.new.items
-            × (self.new.order ≡ without_one item self.old.order)) }
-        ensures err { OnErr result ((self.new ≡ self.old)
-            × ((D.seen device.new).state ≡ (D.seen device.old).state)) }
-        // Exactly one FlushContext is sent where the object is in a slot.
-        ensures sent { MatchOption (handle_in (item_at self.old.items item).slot)
-            ((result ≡ Ok tt) × (device.new ≡ device.old))
-            (λ handle. Asks D.CONTEXTS D.seen device.old device.new (flush_context_command handle)
-            result) }
-        ensures dropped { Dropped D.seen device.old device.new self.old self.new }
-        ensures asks { AsksSome D.CONTEXTS D.seen device.old device.new result }
+        ensures drops { DropsObject D.CONTEXTS D.seen device.old device.new item
+            self.old self.new result }
         ensures steps { OnOk result (C.count steps.old + 2 * C.weight ≤ C.count steps.new)
             × (C.count steps.new ≤ C.count steps.old + 5) }
         ensures few { OnErr result ((C.count steps.old + C.weight ≤ C.count steps.new)
@@ -469,12 +419,7 @@ impl Objects {
     pub fn orphan_by<C: Visits>(&mut self, item: u32, steps: &mut C)
         requires named { Names self.old.items item }
         requires slot { is_resident (item_at self.old.items item) ≡ true }
-        ensures left { (slot : ℕ) → (item_at self.old.items item).slot ≡ Some slot
-            → self.new ≡ record self.old {
-              items = set self.old.items item no_item;
-              order = without_one item self.old.order;
-              left = self.old.left ++ slot ∷ [];
-            } }
+        ensures left { OrphansObject item self.old self.new }
         ensures steps { (C.count steps.old + C.weight ≤ C.count steps.new)
             × (C.count steps.new ≤ C.count steps.old + 3) }
     {

@@ -1,4 +1,4 @@
-use Rattle.std.proofs.Common.{◌≡◌, get_or, List, ℕ, ap, sym, ◌∙◌, subst, refl, set}
+use Rattle.std.proofs.Common.{◌≡◌, get_or, List, ℕ, ap, sym, ◌∙◌, subst, refl, set, rules}
 use Rattle.std.specs.Prelude.{Option, Result, Ok, Err, is_some, vec_capacity}
 use Rattle.std.proofs.lemmas.Result.{err_from_is_err_and}
 use Rattle.device_spec.specs.ContextCommands.{flush_context_command}
@@ -34,35 +34,27 @@ invariant_of-self g c =
           left.items (left.sound inside.contexts c.self.invariant.held.sound) left.count (ap (λ (l : List Item). is_resident (item_at l c.args.item)) view ∙ ap (λ (s : Option ℕ). is_some s) out);
     }
 
-pub returns-in_default-clause-ok : goal.returns-in_default-clause-ok
-returns-in_default-clause-ok g c =
+pub returns-in_default-clause-drops : goal.returns-in_default-clause-drops
+returns-in_default-clause-drops g c =
     let is = found c.self.inside.records.items c.deref.result.now c.args.item c.look_up.result.now c.deref.ensures.value c.look_up.ensures.found in
     let view = ap (λ (v : ObjectsView). v.items) c.self.view_is in
     let out = met_out c.self.inside.records.items c.args.self.now.items c.args.item c.look_up.result.now view c.requires.named is c.in_default.is in
     let records = c.self.inside.records.items in
     let flag = flag_at (items_of records) c.args.item ∙ ap (λ (l : List Item). is_resident (item_at l c.args.item)) view ∙ ap (λ (s : Option ℕ). is_some s) out in
     let unlisted = without_unlisted c.args.item c.self.inside.loaded.items (c.self.invariant.held.residents.each c.args.item ∙ ap number flag) in
-    let order = ap (λ (v : ObjectsView). v.order) c.self.view_is in (
-      left_loses _ c.requires.stand.0 c.args.item c.args.self.now.items _ c.requires.stand.1 c.requires.named.inside out
-          (c.release.ensures.items ∙ ap (λ (l : List Item). set l c.args.item no_item) view),
-      sym unlisted ∙ ap (without_one c.args.item) order,
-    )
-
-pub returns-in_default-clause-sent : goal.returns-in_default-clause-sent
-returns-in_default-clause-sent g c =
-    let is = found c.self.inside.records.items c.deref.result.now c.args.item c.look_up.result.now c.deref.ensures.value c.look_up.ensures.found in
-    let out = met_out c.self.inside.records.items c.args.self.now.items c.args.item c.look_up.result.now (ap (λ (v : ObjectsView). v.items) c.self.view_is) c.requires.named is c.in_default.is in
-    unsent _ _ _ out (refl, refl)
-
-pub returns-in_default-clause-dropped : goal.returns-in_default-clause-dropped
-returns-in_default-clause-dropped g c =
-    let is = found c.self.inside.records.items c.deref.result.now c.args.item c.look_up.result.now c.deref.ensures.value c.look_up.ensures.found in
-    let view = ap (λ (v : ObjectsView). v.items) c.self.view_is in
-    let out = met_out c.self.inside.records.items c.args.self.now.items c.args.item c.look_up.result.now view c.requires.named is c.in_default.is in
-    left_dropped g.D.Device.seen c.args.device.now c.args.item c.args.self.now _ c.requires.named.inside out
-    (c.release.ensures.items ∙ ap (λ (l : List Item). set l c.args.item no_item) view) (ap (λ (v : ObjectsView). v.slots) c.self.view_is)
-    (ap (λ (v : ObjectsView). v.owners) c.self.view_is) (ap (λ (v : ObjectsView). v.left) c.self.view_is)
-    (ap (λ (v : ObjectsView). v.contexts) c.self.view_is)
+    let items = c.release.ensures.items ∙ ap (λ (l : List Item). set l c.args.item no_item) view in
+    record {
+      ok = (
+        left_loses _ c.requires.stand.0 c.args.item c.args.self.now.items _ c.requires.stand.1 c.requires.named.inside out items,
+        sym unlisted ∙ ap (λ (v : ObjectsView). without_one c.args.item v.order) c.self.view_is,
+      );
+      err = tt;
+      sent = unsent _ _ _ out (refl, refl);
+      dropped = left_dropped g.D.Device.seen c.args.device.now c.args.item c.args.self.now _ c.requires.named.inside out items
+          (ap (λ (v : ObjectsView). v.slots) c.self.view_is) (ap (λ (v : ObjectsView). v.owners) c.self.view_is)
+          (ap (λ (v : ObjectsView). v.left) c.self.view_is) (ap (λ (v : ObjectsView). v.contexts) c.self.view_is);
+      asks = asks_none g.D.Device.CONTEXTS g.D.Device.seen c.args.device.now;
+    }
 
 pub flush-requires-clause-transient : goal.flush-requires-clause-transient
 flush-requires-clause-transient g c =
@@ -102,50 +94,41 @@ invariant_of-self-2 g c =
           (c.unlist.ensures.listed (residency records) c.self.invariant.held.residents) c.unlist.ensures.capacity;
     }
 
-pub returns-clause-ok : goal.returns-clause-ok
-returns-clause-ok g c =
-    let is = found c.self.inside.records.items c.deref.result.now c.args.item c.look_up.result.now c.deref.ensures.value c.look_up.ensures.found in
-    let view = ap (λ (v : ObjectsView). v.items) c.self.view_is in
-    let met = met c.self.inside.records.items c.args.self.now.items c.args.item c.in-Some.handle c.look_up.result.now c.self.invariant.held.sound view c.requires.named is c.in-Some.is in (
-      flushed_loses _ _ c.requires.stand.0 c.args.item c.in-Some.handle c.args.self.now.items _ c.requires.stand.1 c.requires.named.inside met.slot c.in_ok-flush.ensures.state
-          (c.release-2.ensures.items ∙ ap (λ (l : List Item). set l c.args.item no_item) view),
-      c.unlist.ensures.order ∙ ap (λ (v : ObjectsView). without_one c.args.item v.order) c.self.view_is,
-    )
-
-pub returns-clause-sent : goal.returns-clause-sent
-returns-clause-sent g c =
-    let is = found c.self.inside.records.items c.deref.result.now c.args.item c.look_up.result.now c.deref.ensures.value c.look_up.ensures.found in
-    let met = met c.self.inside.records.items c.args.self.now.items c.args.item c.in-Some.handle c.look_up.result.now c.self.invariant.held.sound (ap (λ (v : ObjectsView). v.items) c.self.view_is) c.requires.named is c.in-Some.is in
-    of_handle _ _ (item_at c.args.self.now.items c.args.item).slot c.in-Some.handle met.slot met.transient c.in_ok-flush.ensures.asks
-
-pub returns-clause-dropped : goal.returns-clause-dropped
-returns-clause-dropped g c =
-    let is = found c.self.inside.records.items c.deref.result.now c.args.item c.look_up.result.now c.deref.ensures.value c.look_up.ensures.found in
-    let view = ap (λ (v : ObjectsView). v.items) c.self.view_is in
-    let met = met c.self.inside.records.items c.args.self.now.items c.args.item c.in-Some.handle c.look_up.result.now c.self.invariant.held.sound view c.requires.named is c.in-Some.is in
-    let asks = c.in_ok-flush.ensures.asks in
-    flushed_dropped g.D.Device.seen c.args.device.now c.flush.new.device c.args.item c.in-Some.handle c.args.self.now _ c.requires.named.inside met.slot c.in_ok-flush.ensures.state asks.base asks.count
-    (c.release-2.ensures.items ∙ ap (λ (l : List Item). set l c.args.item no_item) view) (ap (λ (v : ObjectsView). v.slots) c.self.view_is)
-    (ap (λ (v : ObjectsView). v.owners) c.self.view_is) (ap (λ (v : ObjectsView). v.left) c.self.view_is)
-    (ap (λ (v : ObjectsView). v.contexts) c.self.view_is)
-
-pub returns-in_err-flush-clause-sent : goal.returns-in_err-flush-clause-sent
-returns-in_err-flush-clause-sent g c =
+pub returns-in_err-flush-clause-drops : goal.returns-in_err-flush-clause-drops
+returns-in_err-flush-clause-drops g c =
+    let seen = g.D.Device.seen in
     let is = found c.self.inside.records.items c.deref.result.now c.args.item c.look_up.result.now c.deref.ensures.value c.look_up.ensures.found in
     let met = met c.self.inside.records.items c.args.self.now.items c.args.item c.in-Some.handle c.look_up.result.now c.self.invariant.held.sound (ap (λ (v : ObjectsView). v.items) c.self.view_is) c.requires.named is c.in-Some.is in
     let failed = err_from_is_err_and c.from_residual.result c.from_residual.ensures.1 in
-    let asks = subst (λ (r : Result (Unit {0}) SwapError). Asks g.D.Device.CONTEXTS g.D.Device.seen c.args.device.now c.flush.new.device (flush_context_command c.in-Some.handle) r) (sym (failed.1 ∙ ap (λ (e : SwapError). Err e) failed.2))
+    let asks = subst (λ (r : Result (Unit {0}) SwapError). Asks g.D.Device.CONTEXTS seen c.args.device.now c.flush.new.device (flush_context_command c.in-Some.handle) r) (sym (failed.1 ∙ ap (λ (e : SwapError). Err e) failed.2))
     c.in_err-flush.ensures.asks in
-    of_handle _ _ (item_at c.args.self.now.items c.args.item).slot c.in-Some.handle met.slot met.transient asks
+    record {
+      ok = search rules;
+      err = search rules;
+      sent = of_handle _ _ (item_at c.args.self.now.items c.args.item).slot c.in-Some.handle met.slot met.transient asks;
+      dropped = search rules;
+      asks = some_failed g.D.Device.CONTEXTS seen _ _ _ c.from_residual.result failed
+          (asks_some g.D.Device.CONTEXTS seen _ _ _ (Err _) c.in_err-flush.ensures.asks);
+    }
 
-pub returns-in_default-clause-asks : goal.returns-in_default-clause-asks
-returns-in_default-clause-asks g c = asks_none g.D.Device.CONTEXTS g.D.Device.seen c.args.device.now
-
-pub returns-in_err-flush-clause-asks : goal.returns-in_err-flush-clause-asks
-returns-in_err-flush-clause-asks g c =
+pub returns-clause-drops : goal.returns-clause-drops
+returns-clause-drops g c =
     let seen = g.D.Device.seen in
-    some_failed g.D.Device.CONTEXTS seen _ _ _ c.from_residual.result (err_from_is_err_and c.from_residual.result c.from_residual.ensures.1)
-    (asks_some g.D.Device.CONTEXTS seen _ _ _ (Err _) c.in_err-flush.ensures.asks)
-
-pub returns-clause-asks : goal.returns-clause-asks
-returns-clause-asks g c = asks_some g.D.Device.CONTEXTS g.D.Device.seen _ _ _ (Ok tt) c.in_ok-flush.ensures.asks
+    let is = found c.self.inside.records.items c.deref.result.now c.args.item c.look_up.result.now c.deref.ensures.value c.look_up.ensures.found in
+    let view = ap (λ (v : ObjectsView). v.items) c.self.view_is in
+    let met = met c.self.inside.records.items c.args.self.now.items c.args.item c.in-Some.handle c.look_up.result.now c.self.invariant.held.sound view c.requires.named is c.in-Some.is in
+    let items = c.release-2.ensures.items ∙ ap (λ (l : List Item). set l c.args.item no_item) view in
+    let flushed = c.in_ok-flush.ensures in
+    record {
+      ok = (
+        flushed_loses _ _ c.requires.stand.0 c.args.item c.in-Some.handle c.args.self.now.items _ c.requires.stand.1 c.requires.named.inside met.slot flushed.state items,
+        c.unlist.ensures.order ∙ ap (λ (v : ObjectsView). without_one c.args.item v.order) c.self.view_is,
+      );
+      err = tt;
+      sent = of_handle _ _ (item_at c.args.self.now.items c.args.item).slot c.in-Some.handle met.slot met.transient flushed.asks;
+      dropped = flushed_dropped seen c.args.device.now c.flush.new.device c.args.item c.in-Some.handle c.args.self.now _ c.requires.named.inside met.slot
+          flushed.state flushed.asks.base flushed.asks.count items (ap (λ (v : ObjectsView). v.slots) c.self.view_is)
+          (ap (λ (v : ObjectsView). v.owners) c.self.view_is) (ap (λ (v : ObjectsView). v.left) c.self.view_is)
+          (ap (λ (v : ObjectsView). v.contexts) c.self.view_is);
+      asks = asks_some g.D.Device.CONTEXTS seen _ _ _ (Ok tt) flushed.asks;
+    }
