@@ -16,7 +16,7 @@ returns-in-Ok-clause-ok g c =
     λ client own.
     let held = c.args.self.now.held in
     let item = c.args.item in
-    let done = c.in-Ok.ensures in
+    let done = c.in-Ok.ensures.drops in
     let at : IsNamed held.objects.items client item = record { names = c.requires.named; own = own } in
     record {
       failed = 0;
@@ -45,14 +45,14 @@ returns-in-Ok-clause-ok g c =
 pub returns-in-Ok-clause-disowns : goal.returns-in-Ok-clause-disowns
 returns-in-Ok-clause-disowns g c = record {
   keeps = search rules;
-  made_for = record { objects = c.in-Ok.ensures.dropped.contexts; sessions = refl };
+  made_for = record { objects = c.in-Ok.ensures.drops.dropped.contexts; sessions = refl };
   slots = search rules;
   numbers = search rules;
   length_is = search rules;
   lists = tt;
   left = search rules;
   err = tt;
-  sent = slot_ok g.D.Device.seen c.args.self.now.held.sessions.items (item_at c.args.self.now.held.objects.items c.args.item).slot tt tt _ _ c.in-Ok.ensures.sent;
+  sent = slot_ok g.D.Device.seen c.args.self.now.held.sessions.items (item_at c.args.self.now.held.objects.items c.args.item).slot tt tt _ _ c.in-Ok.ensures.drops.sent;
 }
 
 pub returns-in-Ok-clause-costs : goal.returns-in-Ok-clause-costs
@@ -62,7 +62,7 @@ returns-in-Ok-clause-costs g c =
     let item = c.args.item in
     omega (
       arith,
-      sent_slot _ g.D.Device.seen (item_at items item).slot tt _ _ (Ok tt) c.in-Ok.ensures.sent,
+      sent_slot _ g.D.Device.seen (item_at items item).slot tt _ _ (Ok tt) c.in-Ok.ensures.drops.sent,
       among_residents items client item (record { names = c.requires.named; own = own }),
     )
 
@@ -71,7 +71,7 @@ returns-in-Err-Failed-clause-ok g c =
     λ client own.
     let held = c.args.self.now.held in
     let item = c.args.item in
-    let failed = c.in-Err-Failed.ensures in
+    let failed = c.in-Err-Failed.ensures.drops in
     let cause = failed_cause g.D.Device.CONTEXTS g.D.Device.seen _ c.in-Err-Failed.field-0-0 _ _ c.in-Err-Failed.field-0-is failed.asks.cause in
     let at : IsNamed held.objects.items client item = record { names = c.requires.named; own = own } in
     let slot = is_in_slot _ _ (item_at held.objects.items item).slot tt c.in-Err-Failed.field-0 failed.sent in
@@ -95,7 +95,7 @@ pub returns-in-Err-Failed-clause-rest : goal.returns-in-Err-Failed-clause-rest
 returns-in-Err-Failed-clause-rest g c =
     let held = c.args.self.now.held in
     let item = c.args.item in
-    let failed = c.in-Err-Failed.ensures in
+    let failed = c.in-Err-Failed.ensures.drops in
     let slot = is_in_slot _ _ (item_at held.objects.items item).slot tt c.in-Err-Failed.field-0 failed.sent in
     let view_is = c.orphan_by.ensures.left slot.0 (ap (λ (v : ObjectsView). (item_at v.items item).slot) failed.err.0 ∙ slot.1) in
     (refl, ap (λ (v : ObjectsView). v.owners) view_is ∙ ap (λ (v : ObjectsView). v.owners) failed.err.0)
@@ -104,7 +104,7 @@ pub returns-in-Err-Failed-clause-disowns : goal.returns-in-Err-Failed-clause-dis
 returns-in-Err-Failed-clause-disowns g c =
     let held = c.args.self.now.held in
     let item = c.args.item in
-    let failed = c.in-Err-Failed.ensures in
+    let failed = c.in-Err-Failed.ensures.drops in
     let cause = failed_cause g.D.Device.CONTEXTS g.D.Device.seen _ c.in-Err-Failed.field-0-0 _ _ c.in-Err-Failed.field-0-is failed.asks.cause in
     let slot = is_in_slot _ _ (item_at held.objects.items item).slot tt c.in-Err-Failed.field-0 failed.sent in
     disowns_left _ _ _ held c.orphan_by.new.self item slot.0 tt
@@ -120,21 +120,21 @@ returns-in-Err-Failed-clause-costs g c =
     let item = c.args.item in
     omega (
       arith,
-      sent_slot _ g.D.Device.seen (item_at items item).slot tt _ _ (Err _) c.in-Err-Failed.ensures.sent,
+      sent_slot _ g.D.Device.seen (item_at items item).slot tt _ _ (Err _) c.in-Err-Failed.ensures.drops.sent,
       among_residents items client item (record { names = c.requires.named; own = own }),
     )
 
 pub returns-in-Err-Answer-clause-disowns : goal.returns-in-Err-Answer-clause-disowns
 returns-in-Err-Answer-clause-disowns g c = record {
   keeps = search rules;
-  made_for = record { objects = c.in-Err-Answer.ensures.dropped.contexts; sessions = refl };
+  made_for = record { objects = c.in-Err-Answer.ensures.drops.dropped.contexts; sessions = refl };
   slots = search rules;
   numbers = search rules;
   length_is = search rules;
   lists = search rules;
   left = search rules;
   err = search rules;
-  sent = slot_wrong g.D.Device.seen c.args.self.now.held.sessions.items (item_at c.args.self.now.held.objects.items c.args.item).slot tt _ _ _ c.in-Err-Answer.ensures.sent;
+  sent = slot_wrong g.D.Device.seen c.args.self.now.held.sessions.items (item_at c.args.self.now.held.objects.items c.args.item).slot tt _ _ _ c.in-Err-Answer.ensures.drops.sent;
 }
 
 -- the object stands as it did
@@ -145,6 +145,6 @@ returns-in-Err-Answer-clause-costs g c =
     let item = c.args.item in
     omega (
       arith,
-      sent_slot _ g.D.Device.seen (item_at items item).slot tt _ _ (Err _) c.in-Err-Answer.ensures.sent,
+      sent_slot _ g.D.Device.seen (item_at items item).slot tt _ _ (Err _) c.in-Err-Answer.ensures.drops.sent,
       among_residents items client item (record { names = c.requires.named; own = own }),
     )
