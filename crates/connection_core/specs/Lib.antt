@@ -2,6 +2,7 @@ pub mod Line
 pub mod Held
 pub mod Sides
 pub mod Turns
+pub mod Workers
 pub mod Rounds
 pub mod Links
 pub mod Works

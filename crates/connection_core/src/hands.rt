@@ -12,10 +12,9 @@ ghost use Rattle.tab_spec.specs.Count.{largest_count};
 ghost use Rattle.crossbeam_channel.specs.Claims.{view};
 ghost use Rattle.connection_core.specs.declared.message.Message.TheVariants as messages;
 ghost use Rattle.connection_core.specs.Duties.{KeepsTo};
-ghost use Rattle.connection_core.specs.Hands.{IsHandOf, IsKeeper};
+ghost use Rattle.connection_core.specs.Hands.{IsHandOf, IsKeeper, MaySend};
 ghost use Rattle.connection_core.specs.Keeps.{IsBegun};
 ghost use Rattle.connection_core.specs.Line.{with_sent};
-ghost use Rattle.connection_core.specs.Sides.{IsReaders};
 
 use crate::between::{Between, Side};
 use crate::duty::Duty;
@@ -103,12 +102,11 @@ impl<B: Serves, K: Sink + Drop> Keeper<B, K> {
         command: Buffer,
         alone: bool,
     )
-        requires begun { IsBegun J.begun shared.now link.now.between }
-        requires keeper { IsKeeper B.legal K.written K.ended K.faults J.begun link.now self.old }
-        requires side { IsReaders link.now.between side.old }
+        requires may_send { MaySend B.legal K.written K.ended K.faults J.begun shared.now link.now
+            self.old side.old }
         requires few { length (view side.old.pass).sent < largest_count }
-        ensures keeper { IsKeeper B.legal K.written K.ended K.faults J.begun link.now self.new }
-        ensures side { IsReaders link.now.between side.new }
+        ensures may_send { MaySend B.legal K.written K.ended K.faults J.begun shared.now link.now
+            self.new side.new }
         ensures sent { view side.new.pass
             ≡ with_sent (view side.old.pass) (messages.Command command) }
         ensures seat { side.new.seat ≡ side.old.seat }

@@ -1,7 +1,6 @@
 //! Where a connection's bytes are pulled to, and cut into frames.
-ghost use Rattle.std.specs.Prelude.{◌≡◌, ◌≤◌, [], false, vec_len, IfOk};
-ghost use Rattle.tab_spec.specs.Frame.{frames, meets_bad_size};
-ghost use Rattle.connection_core.specs.Rounds.{IsRound, RoundCounts};
+ghost use Rattle.std.specs.Prelude.{◌≡◌, ◌≤◌, [], vec_len, IfOk};
+ghost use Rattle.connection_core.specs.Rounds.{HasNoFrame, IsRound, RoundCounts};
 
 use crate::message::Ended;
 use link_port::{Failed, Source};
@@ -72,8 +71,7 @@ impl Intake {
 
     // Pulls once what has come, where no whole frame and no bad size is there.
     fn pull_ready<S: Source>(&mut self, source: &mut S) -> Round
-        requires none { (frames self.old.framer).items ≡ [] }
-        requires sound { meets_bad_size self.old.framer ≡ false }
+        requires { HasNoFrame self.old.framer }
         ensures round { (frame : _) → IsRound result (S.left source.old) (S.left source.new)
             self.old.framer self.new.framer frame }
         ensures counts { RoundCounts result (S.faults source.old) (S.faults source.new) }
@@ -92,8 +90,7 @@ impl Intake {
 
     // The same, once some bytes have come.
     fn pull<S: Source>(&mut self, source: &mut S) -> Round
-        requires none { (frames self.old.framer).items ≡ [] }
-        requires sound { meets_bad_size self.old.framer ≡ false }
+        requires { HasNoFrame self.old.framer }
         ensures round { (frame : _) → IsRound result (S.left source.old) (S.left source.new)
             self.old.framer self.new.framer frame }
         ensures counts { RoundCounts result (S.faults source.old) (S.faults source.new) }

@@ -4,12 +4,10 @@ ghost use Rattle.tab_spec.specs.Count.{largest_count};
 ghost use Rattle.crossbeam_channel.specs.Claims.{view};
 ghost use Rattle.connection_core.specs.declared.message.Message.TheVariants as messages;
 ghost use Rattle.connection_core.specs.Duties.{KeepsTo};
-ghost use Rattle.connection_core.specs.Hands.{IsKeeper};
-ghost use Rattle.connection_core.specs.Keeps.{IsBegun};
-ghost use Rattle.connection_core.specs.Leaves.{ReaderLeaves};
+ghost use Rattle.connection_core.specs.Hands.{HasReadAll, IsKeeper, MayRead, MaySend};
 ghost use Rattle.connection_core.specs.Line.{with_held, with_sent};
 ghost use Rattle.connection_core.specs.Rounds.{EndCounts, HasSent};
-ghost use Rattle.connection_core.specs.Sides.{IsFreshReaders, IsReaders};
+ghost use Rattle.connection_core.specs.Sides.{IsReaders};
 
 use crate::between::Side;
 use crate::duty::Duty;
@@ -47,14 +45,9 @@ impl<S: Source> Reader<S> {
         keeper: Keeper<B, K>,
         frame: Buffer,
     ) -> Duty<B, K>
-        requires begun { IsBegun J.begun shared.now link.now.between }
-        requires side { IsFreshReaders link.now.between self.old.side }
-        requires empty { self.old.intake.framer ≡ [] }
-        requires unheld { self.old.held ≡ [] }
-        requires keeper { IsKeeper B.legal K.written K.ended K.faults J.begun link.now keeper }
-        ensures leaves { ReaderLeaves link.now.between self.new.side
-            (S.left self.old.source) (S.left self.new.source)
-            (S.faults self.old.source) (S.faults self.new.source) }
+        requires { MayRead B.legal K.written K.ended K.faults J.begun shared.now link.now keeper
+            self.old }
+        ensures reads { HasReadAll S.left S.faults link.now.between self.old self.new }
         ensures kept { KeepsTo B.legal K.written K.ended K.faults J.begun result }
     {
         let mut keeper = keeper;
@@ -76,11 +69,8 @@ impl<S: Source> Reader<S> {
         keeper: &mut Keeper<B, K>,
         frame: Buffer,
     ) -> Ended
-        requires begun { IsBegun J.begun shared.now link.now.between }
-        requires side { IsFreshReaders link.now.between self.old.side }
-        requires empty { self.old.intake.framer ≡ [] }
-        requires unheld { self.old.held ≡ [] }
-        requires keeper { IsKeeper B.legal K.written K.ended K.faults J.begun link.now keeper.old }
+        requires { MayRead B.legal K.written K.ended K.faults J.begun shared.now link.now keeper.old
+            self.old }
         ensures side { IsReaders link.now.between self.new.side }
         ensures sent { HasSent result (S.left self.old.source) (S.left self.new.source)
             (view self.new.side.pass).sent self.new.side.seat.raised }
@@ -158,12 +148,11 @@ impl<B: Serves, K: Sink + Drop> Keeper<B, K> {
         command: Buffer,
         alone: bool,
     ) -> Buffer
-        requires begun { IsBegun J.begun shared.now link.now.between }
-        requires keeper { IsKeeper B.legal K.written K.ended K.faults J.begun link.now self.old }
-        requires side { IsReaders link.now.between side.old }
+        requires may_send { MaySend B.legal K.written K.ended K.faults J.begun shared.now link.now
+            self.old side.old }
         requires few { length (with_held (view side.old.pass) held.old).sent < largest_count }
-        ensures keeper { IsKeeper B.legal K.written K.ended K.faults J.begun link.now self.new }
-        ensures side { IsReaders link.now.between side.new }
+        ensures may_send { MaySend B.legal K.written K.ended K.faults J.begun shared.now link.now
+            self.new side.new }
         ensures sent { with_held (view side.new.pass) held.new
             ≡ with_sent (with_held (view side.old.pass) held.old) (messages.Command command) }
         ensures seat { side.new.seat ≡ side.old.seat }
@@ -195,12 +184,11 @@ impl<B: Serves, K: Sink + Drop> Keeper<B, K> {
         command: Buffer,
         alone: bool,
     ) -> Buffer
-        requires begun { IsBegun J.begun shared.now link.now.between }
-        requires keeper { IsKeeper B.legal K.written K.ended K.faults J.begun link.now self.old }
-        requires side { IsReaders link.now.between side.old }
+        requires may_send { MaySend B.legal K.written K.ended K.faults J.begun shared.now link.now
+            self.old side.old }
         requires few { length (with_held (view side.old.pass) held.old).sent < largest_count }
-        ensures keeper { IsKeeper B.legal K.written K.ended K.faults J.begun link.now self.new }
-        ensures side { IsReaders link.now.between side.new }
+        ensures may_send { MaySend B.legal K.written K.ended K.faults J.begun shared.now link.now
+            self.new side.new }
         ensures sent { with_held (view side.new.pass) held.new
             ≡ with_sent (with_held (view side.old.pass) held.old) (messages.Command command) }
         ensures seat { side.new.seat ≡ side.old.seat }
@@ -221,12 +209,11 @@ impl<B: Serves, K: Sink + Drop> Keeper<B, K> {
         held: &mut Held,
         alone: bool,
     )
-        requires begun { IsBegun J.begun shared.now link.now.between }
-        requires keeper { IsKeeper B.legal K.written K.ended K.faults J.begun link.now self.old }
-        requires side { IsReaders link.now.between side.old }
+        requires may_send { MaySend B.legal K.written K.ended K.faults J.begun shared.now link.now
+            self.old side.old }
         requires few { length (with_held (view side.old.pass) held.old).sent ≤ largest_count }
-        ensures keeper { IsKeeper B.legal K.written K.ended K.faults J.begun link.now self.new }
-        ensures side { IsReaders link.now.between side.new }
+        ensures may_send { MaySend B.legal K.written K.ended K.faults J.begun shared.now link.now
+            self.new side.new }
         ensures sent { view side.new.pass ≡ with_held (view side.old.pass) held.old }
         ensures none { held.new ≡ [] }
         ensures seat { side.new.seat ≡ side.old.seat }
@@ -251,12 +238,11 @@ impl<B: Serves, K: Sink + Drop> Keeper<B, K> {
         held: &mut Held,
         alone: bool,
     )
-        requires begun { IsBegun J.begun shared.now link.now.between }
-        requires keeper { IsKeeper B.legal K.written K.ended K.faults J.begun link.now self.old }
-        requires side { IsReaders link.now.between side.old }
+        requires may_send { MaySend B.legal K.written K.ended K.faults J.begun shared.now link.now
+            self.old side.old }
         requires few { length (with_held (view side.old.pass) held.old).sent ≤ largest_count }
-        ensures keeper { IsKeeper B.legal K.written K.ended K.faults J.begun link.now self.new }
-        ensures side { IsReaders link.now.between side.new }
+        ensures may_send { MaySend B.legal K.written K.ended K.faults J.begun shared.now link.now
+            self.new side.new }
         ensures sent { with_held (view side.new.pass) held.new
             ≡ with_held (view side.old.pass) held.old }
         ensures seat { side.new.seat ≡ side.old.seat }

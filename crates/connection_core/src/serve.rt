@@ -1,13 +1,13 @@
 //! A connection from its opening to its end.
-ghost use Rattle.std.specs.Prelude.{◌≡◌, [], None, Some, Err, IfOk, IfErr, IfSome};
+ghost use Rattle.std.specs.Prelude.{◌≡◌, [], None, Some, Err, IfOk, IfErr};
 ghost use Rattle.history_spec.specs.Entry.{HasRoomForClient};
 ghost use Rattle.connection_core.specs.declared.ends.Ending.TheVariants as endings;
 ghost use Rattle.connection_core.specs.Duties.{KeepsTo};
-ghost use Rattle.connection_core.specs.Hands.{ClosesTo, IsHandOf, IsKeeper, ServedTo};
+ghost use Rattle.connection_core.specs.Hands.{BothLeave, ClosesTo, IsHandOf, LinkLeaves, MayRead};
+ghost use Rattle.connection_core.specs.Hands.{ServedTo};
 ghost use Rattle.connection_core.specs.Keeps.{IsBegun, start_of};
-ghost use Rattle.connection_core.specs.Leaves.{IsFresh, ReaderLeaves};
-ghost use Rattle.connection_core.specs.Links.{HasCause, IsClosed, IsRefused, KnowsClient};
-ghost use Rattle.connection_core.specs.Sides.{IsFreshReaders};
+ghost use Rattle.connection_core.specs.Leaves.{IsFresh};
+ghost use Rattle.connection_core.specs.Links.{HasCause, IsRefused, KnowsClient};
 ghost use Rattle.connection_core.specs.Turns.{GoesOn};
 ghost use Rattle.link_port.specs.Port.{at_end};
 
@@ -134,15 +134,10 @@ fn read_alone<B: Serves, S: Source, K: Sink + Drop, J: Begins, G: Gate, R: Wait>
     keeper: Keeper<B, K>,
     frame: Buffer,
 ) -> (Reader<S>, Worker<B, K>, Ending)
-    requires begun { IsBegun J.begun shared.now link.now.between }
-    requires side { IsFreshReaders link.now.between reader.side }
-    requires empty { reader.intake.framer ≡ [] }
-    requires unheld { reader.held ≡ [] }
-    requires keeper { IsKeeper B.legal K.written K.ended K.faults J.begun link.now keeper }
-    ensures reader { ReaderLeaves link.now.between result.0.side
-        (S.left reader.source) (S.left result.0.source)
-        (S.faults reader.source) (S.faults result.0.source) }
-    ensures worker { ClosesTo B.legal K.written K.ended K.faults result.2 J.begun result.1 }
+    requires { MayRead B.legal K.written K.ended K.faults J.begun shared.now link.now keeper
+        reader }
+    ensures { BothLeave B.legal S.left S.faults K.written K.ended K.faults J.begun
+        link.now.between reader result.0 result.1 result.2 }
 {
     let mut reader = reader;
     let duty = reader.read(rt, shared, gate, link, keeper, frame);
@@ -170,16 +165,11 @@ fn run_both<
     reader: Reader<S>,
     frame: Buffer,
 ) -> (Reader<S>, Worker<B, K>, Ending)
-    requires begun { IsBegun J.begun shared.now link.now.between }
-    requires side { IsFreshReaders link.now.between reader.side }
-    requires empty { reader.intake.framer ≡ [] }
-    requires unheld { reader.held ≡ [] }
-    requires keeper { IsKeeper B.legal K.written K.ended K.faults J.begun link.now hands.0 }
+    requires may_read { MayRead B.legal K.written K.ended K.faults J.begun shared.now link.now hands.0
+        reader }
     requires helper { IsHandOf link.now hands.1 }
-    ensures reader { ReaderLeaves link.now.between result.0.side
-        (S.left reader.source) (S.left result.0.source)
-        (S.faults reader.source) (S.faults result.0.source) }
-    ensures worker { ClosesTo B.legal K.written K.ended K.faults result.2 J.begun result.1 }
+    ensures { BothLeave B.legal S.left S.faults K.written K.ended K.faults J.begun
+        link.now.between reader result.0 result.1 result.2 }
 {
     let (keeper, helper) = hands;
     if reader.is_prompt(gate) {
@@ -193,14 +183,10 @@ fn run_both<
             requires { IsBegun J.begun shared.now link.now.between × IsHandOf link.now helper }
         { help(rt, shared, gate, link, helper) },
         move || -> (Reader<S>, Worker<B, K>, Ending)
-            requires { IsBegun J.begun shared.now link.now.between
-                × IsFreshReaders link.now.between reader.side × (reader.intake.framer ≡ [])
-                × (reader.held ≡ [])
-                × IsKeeper B.legal K.written K.ended K.faults J.begun link.now keeper }
-            ensures { ReaderLeaves link.entry.now.between result.0.side
-                (S.left reader.source) (S.left result.0.source)
-                (S.faults reader.source) (S.faults result.0.source)
-                × ClosesTo B.legal K.written K.ended K.faults result.2 J.begun result.1 }
+            requires { MayRead B.legal K.written K.ended K.faults J.begun shared.now link.now
+                keeper reader }
+            ensures { BothLeave B.legal S.left S.faults K.written K.ended K.faults J.begun
+                link.entry.now.between reader result.0 result.1 result.2 }
         { read_alone(rt, shared, gate, link, reader, keeper, frame) },
     );
     ended
@@ -223,11 +209,8 @@ fn serve_open<
     reader: Reader<S>,
     frame: Buffer,
 ) -> (LinkEnd<B, S, K>, WordSeat)
-    requires begun { IsBegun J.begun shared.now link.between }
-    requires side { IsFreshReaders link.between reader.side }
-    requires empty { reader.intake.framer ≡ [] }
-    requires unheld { reader.held ≡ [] }
-    requires keeper { IsKeeper B.legal K.written K.ended K.faults J.begun link hands.0 }
+    requires may_read { MayRead B.legal K.written K.ended K.faults J.begun shared.now link hands.0
+        reader }
     requires helper { IsHandOf link hands.1 }
     ensures { ServedTo B.legal S.left S.faults K.written K.ended K.faults J.begun
         reader.source result.0 result.1 }
@@ -310,19 +293,8 @@ fn serve_fitted<
     requires lock { pass.lock ≡ shared.now }
     requires nobody { pass.known ≡ [] }
     requires fresh { IsFresh outfit }
-    ensures pass { GoesOn B.legal pass result.0.pass }
-    ensures closed { IfSome result.0.client
-        (λ client. IsClosed B.legal result.0.ending result.0.pass
-        client result.0.done (S.left source) (S.left result.0.source)
-        (K.written sink) (K.written result.0.sink) result.1) }
-    ensures refused { result.0.client ≡ None → IsRefused result.0.ending result.0.pass
-        result.0.done }
-    ensures no_word { result.0.client ≡ None → result.1 ≡ None }
-    ensures source { result.0.client ≡ None → result.0.source ≡ source }
-    ensures sink { result.0.client ≡ None → K.written result.0.sink ≡ K.written sink }
-    ensures ended { K.ended result.0.sink ≡ at_end (K.ended sink) }
-    ensures cause { HasCause result.0.ending (S.faults source) (S.faults result.0.source)
-        (K.faults sink) (K.faults result.0.sink) }
+    ensures { LinkLeaves B.legal S.left S.faults K.written K.ended K.faults pass source sink
+        result.0 result.1 }
 {
     let Outfit {
         between,
@@ -397,19 +369,8 @@ pub fn serve_link<
 ) -> (LinkEnd<B, S, K>, Option<WordSeat>)
     requires lock { pass.lock ≡ shared.now }
     requires nobody { pass.known ≡ [] }
-    ensures pass { GoesOn B.legal pass result.0.pass }
-    ensures closed { IfSome result.0.client
-        (λ client. IsClosed B.legal result.0.ending result.0.pass
-        client result.0.done (S.left source) (S.left result.0.source)
-        (K.written sink) (K.written result.0.sink) result.1) }
-    ensures refused { result.0.client ≡ None → IsRefused result.0.ending result.0.pass
-        result.0.done }
-    ensures no_word { result.0.client ≡ None → result.1 ≡ None }
-    ensures source { result.0.client ≡ None → result.0.source ≡ source }
-    ensures sink { result.0.client ≡ None → K.written result.0.sink ≡ K.written sink }
-    ensures ended { K.ended result.0.sink ≡ at_end (K.ended sink) }
-    ensures cause { HasCause result.0.ending (S.faults source) (S.faults result.0.source)
-        (K.faults sink) (K.faults result.0.sink) }
+    ensures { LinkLeaves B.legal S.left S.faults K.written K.ended K.faults pass source sink
+        result.0 result.1 }
 {
     let alone = gate.is_open() && source.is_prompt();
     let Ok(outfit) = make_outfit(rt, alloc, alone) else {

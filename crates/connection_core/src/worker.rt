@@ -1,14 +1,13 @@
 //! The side of a connection that has commands run or canceled, and writes what its client is told.
-ghost use Rattle.std.specs.Prelude.{◌≡◌, ◌<◌, ◌+◌, ℕ, [], OnOk, OnErr};
-ghost use Rattle.tab_spec.specs.Count.{Rose, largest_count};
+ghost use Rattle.std.specs.Prelude.{◌≡◌, ◌<◌, ℕ, []};
+ghost use Rattle.tab_spec.specs.Count.{largest_count};
 ghost use Rattle.tab_spec.specs.Reply.{error_reply};
 ghost use Rattle.tab_spec.specs.declared.TheConstants.{RC_COMMAND_SIZE};
-ghost use Rattle.link_port.specs.Port.{with_more};
 ghost use Rattle.broker_lock.specs.declared.calls.Job.TheVariants as jobs;
-ghost use Rattle.broker_lock.specs.Examples.{IsServed};
 ghost use Rattle.cancel_words.specs.View.{of_worker};
 ghost use Rattle.connection_core.specs.Sides.{IsWorkers};
-ghost use Rattle.connection_core.specs.Turns.{Asks, AsksNext, IsNextJob, WroteFront};
+ghost use Rattle.connection_core.specs.Turns.{Asks, IsNextJob, IsPushed};
+ghost use Rattle.connection_core.specs.Workers.{IsOpen, TookUp};
 
 use crate::between::{Between, Side};
 use broker_lock::{Closed, Done, Job, Pass, Serves, Shared, Told};
@@ -43,23 +42,12 @@ impl<B: Serves, K: Sink> Worker<B, K> {
         command: Buffer,
         reply: &mut Buffer,
     ) -> Result<(), Failed>
-        requires lock { self.old.pass.lock ≡ shared.now }
-        requires present { IsServed self.old.pass.known self.old.client self.old.done }
+        requires opened { IsOpen shared.now self.old }
         requires more { self.old.done < largest_count }
         requires side { IsWorkers between.now self.old.side }
-        ensures side { IsWorkers between.now self.new.side }
-        ensures line { self.new.side.pass ≡ self.old.side.pass }
-        ensures client { self.new.client ≡ self.old.client }
-        ensures done { self.new.done ≡ self.old.done + 1 }
-        ensures acts { AsksNext B.legal self.old.pass self.old.client (self.old.done + 1)
-            self.old.side.seat self.new.side.seat command reply.new self.new.pass }
-        ensures ok { OnOk result (K.written self.new.sink
-            ≡ with_more (K.written self.old.sink) reply.new) }
-        ensures front { OnErr result (WroteFront reply.new
-            (K.written self.old.sink) (K.written self.new.sink)) }
-        ensures goes_on { K.ended self.new.sink ≡ K.ended self.old.sink }
-        ensures quiet { OnOk result (K.faults self.new.sink ≡ K.faults self.old.sink) }
-        ensures fault { OnErr result (Rose (K.faults self.old.sink) (K.faults self.new.sink)) }
+        ensures took { TookUp B.legal between.now self.old self.new command reply.new }
+        ensures pushed { IsPushed K.written K.ended K.faults reply.new
+            self.old.sink self.new.sink result }
     {
         self.done += 1;
         gate.before(self.client, self.done);
@@ -76,13 +64,8 @@ impl<B: Serves, K: Sink> Worker<B, K> {
         ensures done { self.new.done ≡ self.old.done }
         ensures pass { self.new.pass ≡ self.old.pass }
         ensures side { self.new.side ≡ self.old.side }
-        ensures ok { OnOk result (K.written self.new.sink
-            ≡ with_more (K.written self.old.sink) (error_reply RC_COMMAND_SIZE)) }
-        ensures front { OnErr result (WroteFront (error_reply RC_COMMAND_SIZE)
-            (K.written self.old.sink) (K.written self.new.sink)) }
-        ensures goes_on { K.ended self.new.sink ≡ K.ended self.old.sink }
-        ensures quiet { OnOk result (K.faults self.new.sink ≡ K.faults self.old.sink) }
-        ensures fault { OnErr result (Rose (K.faults self.old.sink) (K.faults self.new.sink)) }
+        ensures pushed { IsPushed K.written K.ended K.faults (error_reply RC_COMMAND_SIZE)
+            self.old.sink self.new.sink result }
     {
         error_reply(RC_COMMAND_SIZE, reply);
         push_all(&mut self.sink, reply.as_slice())
@@ -96,8 +79,7 @@ impl<B: Serves, K: Sink> Worker<B, K> {
         gate: &G,
         reply: &mut Buffer,
     )
-        requires lock { self.old.pass.lock ≡ shared.now }
-        requires present { IsServed self.old.pass.known self.old.client self.old.done }
+        requires opened { IsOpen shared.now self.old }
         ensures client { self.new.client ≡ self.old.client }
         ensures done { self.new.done ≡ self.old.done }
         ensures sink { self.new.sink ≡ self.old.sink }

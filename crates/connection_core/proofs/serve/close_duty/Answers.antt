@@ -3,11 +3,10 @@ use Rattle.broker_lock.specs.declared.calls.Job.TheVariants as jobs
 use Rattle.connection_core.proofs.Entering.{goes_on_act, goes_on_more}
 use Rattle.connection_core.proofs.serve.close_duty.Goals as goal
 
-pub close-requires-clause-lock : goal.close-requires-clause-lock
-close-requires-clause-lock g c κs lives = (c.finish-ending.ensures c.requires.begun.start c.requires.begun.is).goes_on.lock ∙ c.requires.begun.lock_is
-
-pub close-requires-clause-present : goal.close-requires-clause-present
-close-requires-clause-present g c κs lives = (c.finish-ending.ensures c.requires.begun.start c.requires.begun.is).worked.serves.present
+pub close-requires-clause-opened : goal.close-requires-clause-opened
+close-requires-clause-opened g c κs lives =
+    let f = c.finish-ending.ensures c.requires.begun.start c.requires.begun.is in
+    record { lock_is = f.goes_on.lock ∙ c.requires.begun.lock_is; present = f.worked.serves.present }
 
 pub returns : goal.returns
 returns g c start is =

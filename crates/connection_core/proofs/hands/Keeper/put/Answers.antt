@@ -11,8 +11,7 @@ send_first-requires-clause-few g c =
 pub loop-preserved : goal.loop-preserved
 loop-preserved g c = record {
   goes = (tt, tt);
-  keeper = c.send_first.ensures.keeper;
-  side = c.send_first.ensures.side;
+  may_send = c.send_first.ensures.may_send;
   sent = c.send_first.ensures.sent ∙ held_same _ _ _ _ (c.push.ensures.full c.if-push.false) c.loop.invariant.sent;
   seat = c.send_first.ensures.seat ∙ c.loop.invariant.seat;
 }

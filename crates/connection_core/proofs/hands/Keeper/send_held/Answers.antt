@@ -9,8 +9,7 @@ send_first-requires-clause-few g c = omega (arith, ap (λ (v : LineView). length
 pub loop-preserved : goal.loop-preserved
 loop-preserved g c = record {
   goes = (tt, tt);
-  keeper = c.send_first.ensures.keeper;
-  side = c.send_first.ensures.side;
+  may_send = c.send_first.ensures.may_send;
   sent = c.send_first.ensures.sent ∙ c.loop.invariant.sent;
   seat = c.send_first.ensures.seat ∙ c.loop.invariant.seat;
 }

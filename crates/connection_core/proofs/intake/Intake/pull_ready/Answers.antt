@@ -14,7 +14,7 @@ returns-in-Ok-Some-clause-round g c frame =
     let front = pulled_front c.in-Ok-Some.came c.args.self.now.block.len c.pull_ready.new.into c.args.self.now.block.items c.deref.result.now c.deref.ensures.value whole in
     let small : length piece ≤ 4096 = omega (arith, length-take c.in-Ok-Some.came c.deref.result.now, bound) in
     let pulled = subst (λ (l : List ℕ). Pulled (g.S.Source.left c.args.source.now) (g.S.Source.left c.pull_ready.new.self) (length c.deref_mut.result.now) l) (sym front) told in (
-      record { none = c.requires.none; sound = c.requires.sound },
+      c.requires,
       record {
         piece = piece;
         took = pulled_taken (g.S.Source.left c.args.source.now) (g.S.Source.left c.pull_ready.new.self) (length c.deref_mut.result.now) piece pulled;

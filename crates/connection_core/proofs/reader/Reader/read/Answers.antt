@@ -3,8 +3,8 @@ use Rattle.crossbeam_channel.specs.Claims.{view}
 use Rattle.connection_core.specs.Line.{LineView}
 use Rattle.connection_core.proofs.reader.Reader.read.Goals as goal
 
-pub returns-clause-leaves : goal.returns-clause-leaves
-returns-clause-leaves g c =
+pub returns-clause-reads : goal.returns-clause-reads
+returns-clause-reads g c =
     let all = c.send_commands-ended.ensures in
     record {
       ended = c.send_commands-ended.result;

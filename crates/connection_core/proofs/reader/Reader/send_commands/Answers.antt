@@ -10,7 +10,7 @@ loop-init g c = record {
   goes = (tt, tt);
   rounds = omega arith;
   side = readers_at_first _ _ c.requires.side;
-  keeper = c.requires.keeper;
+  keeper = c.requires.keeps;
   source_count = refl;
   so_far = read_first _ _ _ _ (held_first _ _ c.requires.side.unsent c.requires.unheld) c.requires.side.unraised c.requires.empty;
 }
@@ -19,8 +19,8 @@ pub loop-preserved-in-Command : goal.loop-preserved-in-Command
 loop-preserved-in-Command g c = record {
   goes = (tt, tt);
   rounds = omega (arith, c.loop.invariant.rounds, (c.in-Some.ensures.goes.on tt).2);
-  side = c.put-frame.ensures.side;
-  keeper = c.put-frame.ensures.keeper;
+  side = c.put-frame.ensures.may_send.of;
+  keeper = c.put-frame.ensures.may_send.keeps;
   source_count = c.in-Command.ensures.counts ∙ c.loop.invariant.source_count;
   so_far = read_command _ _ _ _ _ _ _ _ _ _ c.next-in-loop.new.frame c.loop.invariant.so_far c.in-Command.ensures.round c.put-frame.ensures.sent (ap (λ (v : WordView). v.raised) c.put-frame.ensures.seat);
 }
@@ -49,8 +49,8 @@ pub loop-preserved : goal.loop-preserved
 loop-preserved g c = record {
   goes = (tt, tt);
   rounds = omega (arith, c.loop.invariant.rounds, (c.in-Some.ensures.goes.on tt).2);
-  side = c.send_first.ensures.side;
-  keeper = c.send_first.ensures.keeper;
+  side = c.send_first.ensures.may_send.of;
+  keeper = c.send_first.ensures.may_send.keeps;
   source_count = c.in-Nothing.ensures.counts ∙ c.loop.invariant.source_count;
   so_far = read_sent _ _ _ _ _ _ _ _ c.send_first.ensures.sent (ap (λ (v : WordView). v.raised) c.send_first.ensures.seat) (read_nothing _ _ _ _ _ _ _ _ c.next-in-loop.new.frame c.loop.invariant.so_far c.in-Nothing.ensures.round);
 }
