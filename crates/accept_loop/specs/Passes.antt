@@ -1,5 +1,6 @@
 -- What a connection's end tells, and what the ends of all tell, by their passes.
-use Rattle.std.specs.Prelude.{◌≡◌, ℕ, List, Option, Some, None, Result, OnOk, OnErr}
+use Rattle.std.specs.Prelude.{◌≡◌, ◌<◌, ◌≤◌, ℕ, List, [], Option, Some, None, Result, OnOk, OnErr}
+use Rattle.atomic_table.specs.Seated.{TableId}
 use Rattle.tab_spec.specs.Count.{Rose}
 use Rattle.history_spec.specs.Entry.{Entry}
 use Rattle.broker_lock.specs.Known.{IsOwn, Origin}
@@ -8,7 +9,8 @@ use Rattle.cancel_words.specs.View.{WordView}
 use Rattle.connection_core.specs.declared.ends.Ending.{Ending}
 use Rattle.connection_core.specs.Links.{HasCause, IsClosed, IsRefused}
 use Rattle.connection_core.specs.Turns.{GoesOn}
-use Rattle.accept_loop.specs.Connections.{AreEnough, AreServed, Ends}
+use Rattle.accept_loop.specs.Connections.{AreEnough, AreServed, Ends, IsLinkDone, client_of, ends_of}
+use Rattle.accept_loop.specs.declared.serving.LinkDone.{LinkDone}
 
 -- with a client, or without one
 abbrev pub EndsWith : (legal : Origin → List Entry → Type 0) → Option ℕ → PassView → (given left : Ends) (done : ℕ) → Ending → Option WordView → Type 0
@@ -21,6 +23,20 @@ pub record Comes (legal : Origin → List Entry → Type 0) (old new : PassView)
   pub ended : EndsWith legal client new given left done ending word
   pub cause : HasCause ending given.source_faults left.source_faults given.sink_faults left.sink_faults
 
+-- the same by what its two ends tell
+abbrev pub ComesTo : {S K : Type 0} → (legal : Origin → List Entry → Type 0) → (left : S → Option (List ℕ)) → (written : K → Option (List ℕ)) → (source_faults : S → ℕ) → (sink_faults : K → ℕ) → (old new : PassView) → S × K → LinkDone S K → Type 0
+ComesTo legal left written source_faults sink_faults old new given link =
+    Comes legal old new (ends_of left written source_faults sink_faults given.0 given.1) (ends_of left written source_faults sink_faults link.source link.sink)
+    link.client link.done link.ending link.word
+
+-- a pass that knows nobody and room for so many connections, none of which was served yet
+pub record HasRoomForLinks {M : Type 0} (lock : TableId) (most : ℕ) (pass : PassView) (links : List M) (capacity : ℕ) : Type 0 where
+  pub lock_is : pass.lock ≡ lock
+  pub nobody : pass.known ≡ []
+  pub parts : most < pass.parts
+  pub none : links ≡ []
+  pub room : most ≤ capacity
+
 -- what serving all connections that come makes of a pass, and what it answers
 pub record ServesAll {L M X E : Type 0} (legal : Origin → List Entry → Type 0) (is_link : PassView → L → M → Type 0) (client_of : M → Option ℕ) (old new : PassView) (coming coming_new : Option (List L)) (faults faults_new most : ℕ)
     (accepted : Result X E) (links : List M) : Type 0 where
@@ -30,3 +46,8 @@ pub record ServesAll {L M X E : Type 0} (legal : Origin → List Entry → Type 
   pub enough : OnOk accepted (AreEnough most coming_new links)
   pub quiet : OnOk accepted (faults_new ≡ faults)
   pub fault : OnErr accepted (Rose faults faults_new)
+
+-- the same by what the ends of each tell
+abbrev pub ServesLinks : {S K X E : Type 0} → (legal : Origin → List Entry → Type 0) → (left : S → Option (List ℕ)) → (written : K → Option (List ℕ)) → (source_faults : S → ℕ) → (sink_faults : K → ℕ) → (old new : PassView)
+    → (coming coming_new : Option (List (S × K))) → (faults faults_new most : ℕ) → Result X E → List (LinkDone S K) → Type 0
+ServesLinks legal left written source_faults sink_faults = ServesAll legal (λ pass. IsLinkDone left written source_faults sink_faults pass.fixed pass.wrong pass.front) client_of

@@ -6,4 +6,4 @@ mod passing;
 mod serving;
 
 pub use passing::{Lent, Passed, take_back};
-pub use serving::{AcceptError, LinkDone, Served, serve};
+pub use serving::{AcceptError, LinkDone, Served, serve, serve_ends};

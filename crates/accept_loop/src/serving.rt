@@ -1,12 +1,10 @@
-ghost use Rattle.std.specs.Prelude.{◌≡◌, ◌≤◌, ◌<◌, ◌+◌, ℕ, [], None, Ok, Err, IfOk, OnOk, OnErr};
+ghost use Rattle.std.specs.Prelude.{◌≡◌, ◌<◌, [], Ok, IsErrAnd, MatchResult};
 ghost use Rattle.std.specs.VecDeque.{deque_capacity};
 ghost use Rattle.std.specs.Thread.{IsSync};
 ghost use denote.Param.Send.{IsSend};
-ghost use Rattle.tab_spec.specs.Count.{Rose};
-ghost use Rattle.history_spec.specs.Entry.{clients_of};
 ghost use Rattle.broker_lock.specs.Known.{IsLegalOver};
-ghost use Rattle.accept_loop.specs.Connections.{AreEnough, AreServed, IsLink, ends_of};
-ghost use Rattle.accept_loop.specs.Passes.{Comes, ServesAll};
+ghost use Rattle.accept_loop.specs.Connections.{HasServed};
+ghost use Rattle.accept_loop.specs.Passes.{ComesTo, HasRoomForLinks, ServesLinks};
 ghost use Rattle.accept_loop.specs.declared.serving.AcceptError.TheVariants as errors;
 
 use crate::passing::{Lent, Passed, take_back};
@@ -65,8 +63,9 @@ struct Coming<B, A: Passed> {
     links: VecDeque<LinkDone<A::In, A::Out>>,
 }
 
-// Serves a connection.
-fn serve_one<
+/// Serves a connection ([`serve_link`]), and tells what became of it, with the pass that knows its
+/// client now.
+pub fn serve_ends<
     B: Serves + Send,
     S: Source + Send + Drop,
     K: Sink + Send + Drop,
@@ -79,15 +78,29 @@ fn serve_one<
     gate: &G,
     pass: Pass<B>,
     ends: (S, K),
-) -> (LinkEnd<B, S, K>, Option<WordSeat>)
+) -> (Pass<B>, LinkDone<S, K>)
     requires lock { pass.lock ≡ shared.now }
     requires nobody { pass.known ≡ [] }
-    ensures { Comes B.legal pass result.0.pass
-        (ends_of S.left K.written S.faults K.faults ends.0 ends.1)
-        (ends_of S.left K.written S.faults K.faults result.0.source result.0.sink)
-        result.0.client result.0.done result.0.ending result.1 }
+    ensures { ComesTo B.legal S.left K.written S.faults K.faults pass result.0 ends result.1 }
 {
-    serve_link(rt, alloc, shared, pass, ends.0, ends.1, gate)
+    let (end, word) = serve_link(rt, alloc, shared, pass, ends.0, ends.1, gate);
+    let LinkEnd {
+        source,
+        sink,
+        pass,
+        client,
+        done,
+        ending,
+    } = end;
+    let link = LinkDone {
+        source,
+        sink,
+        client,
+        word,
+        done,
+        ending,
+    };
+    (pass, link)
 }
 
 // Accepts so many connections, or as many as come, and serves each by a thread of its own. Where
@@ -100,19 +113,12 @@ fn serve_coming<B: Serves + Send, A: Passed, G: Gate, R: Threads + Wait + Sync>(
     most: u32,
     mut coming: Coming<B, A>,
 ) -> (Coming<B, A>, Result<(), Failed>)
-    requires lock { coming.pass.lock ≡ shared.now }
-    requires nobody { coming.pass.known ≡ [] }
-    requires parts { most < coming.pass.parts }
-    requires none { coming.links.items ≡ [] }
-    requires room { most ≤ deque_capacity coming.links }
+    requires { HasRoomForLinks shared.now most coming.pass coming.links.items
+        (deque_capacity coming.links) }
     ensures room { deque_capacity result.0.links ≡ deque_capacity coming.links }
     ensures name { A.name result.0.acceptor ≡ A.name coming.acceptor }
-    ensures served { ServesAll B.legal (λ pass given link. IsLink pass.fixed pass.wrong pass.front
-        (ends_of A.In.left A.Out.written A.In.faults A.Out.faults given.0 given.1)
-        (ends_of A.In.left A.Out.written A.In.faults A.Out.faults link.source link.sink)
-        link.client link.done link.ending link.word)
-        (λ link. link.client) coming.pass result.0.pass
-        (A.coming coming.acceptor) (A.coming result.0.acceptor)
+    ensures served { ServesLinks B.legal A.In.left A.Out.written A.In.faults A.Out.faults
+        coming.pass result.0.pass (A.coming coming.acceptor) (A.coming result.0.acceptor)
         (A.faults coming.acceptor) (A.faults result.0.acceptor) most result.1
         result.0.links.items }
 {
@@ -126,50 +132,38 @@ fn serve_coming<B: Serves + Send, A: Passed, G: Gate, R: Threads + Wait + Sync>(
     };
     let pass = shared.split(&mut coming.pass);
     let rest = most - 1;
-    let ((end, word), (mut coming, accepted)) = thread::join(
+    let ((pass, link), (mut coming, accepted)) = thread::join(
         rt,
-        move || -> (LinkEnd<B, A::In, A::Out>, Option<WordSeat>)
+        move || -> (Pass<B>, LinkDone<A::In, A::Out>)
             requires { (pass.lock ≡ shared.now) × (pass.known ≡ []) }
-            ensures { Comes B.legal pass result.0.pass
-                (ends_of A.In.left A.Out.written A.In.faults A.Out.faults ends.0 ends.1)
-                (ends_of A.In.left A.Out.written A.In.faults A.Out.faults result.0.source
-                result.0.sink)
-                result.0.client result.0.done result.0.ending result.1 }
-        { serve_one(rt, alloc, shared, gate, pass, ends) },
+            ensures { ComesTo B.legal A.In.left A.Out.written A.In.faults A.Out.faults
+                pass result.0 ends result.1 }
+        { serve_ends(rt, alloc, shared, gate, pass, ends) },
         move || -> (Coming<B, A>, Result<(), Failed>)
-            requires { (coming.pass.lock ≡ shared.now) × (coming.pass.known ≡ [])
-                × (rest < coming.pass.parts) × (coming.links.items ≡ [])
-                × (rest ≤ deque_capacity coming.links) }
+            requires { HasRoomForLinks shared.now rest coming.pass coming.links.items
+                (deque_capacity coming.links) }
             ensures { (deque_capacity result.0.links ≡ deque_capacity coming.links)
                 × (A.name result.0.acceptor ≡ A.name coming.acceptor)
-                × ServesAll B.legal (λ pass given link. IsLink pass.fixed pass.wrong pass.front
-                (ends_of A.In.left A.Out.written A.In.faults A.Out.faults given.0 given.1)
-                (ends_of A.In.left A.Out.written A.In.faults A.Out.faults link.source link.sink)
-                link.client link.done link.ending link.word)
-                (λ link. link.client) coming.pass result.0.pass
-                (A.coming coming.acceptor) (A.coming result.0.acceptor)
+                × ServesLinks B.legal A.In.left A.Out.written A.In.faults A.Out.faults
+                coming.pass result.0.pass (A.coming coming.acceptor) (A.coming result.0.acceptor)
                 (A.faults coming.acceptor) (A.faults result.0.acceptor) rest result.1
                 result.0.links.items }
         { serve_coming(rt, alloc, shared, gate, rest, coming) },
     );
-    let LinkEnd {
-        source,
-        sink,
-        pass,
-        client,
-        done,
-        ending,
-    } = end;
     shared.join(&mut coming.pass, pass);
-    coming.links.push_front_reserved(LinkDone {
-        source,
-        sink,
-        client,
-        word,
-        done,
-        ending,
-    });
+    coming.links.push_front_reserved(link);
     (coming, accepted)
+}
+
+// What accepting came to.
+fn outcome(accepted: Result<(), Failed>) -> Result<(), AcceptError>
+    ensures { MatchResult accepted (λ x. result ≡ Ok x)
+        (λ _. IsErrAnd result (λ error. error ≡ errors.Failed)) }
+{
+    match accepted {
+        Ok(()) => Ok(()),
+        Err(Failed) => Err(AcceptError::Failed),
+    }
 }
 
 // What `serve` does, over a value that each turn moves.
@@ -184,23 +178,9 @@ fn serve_under_lock<B: Serves + Send, A: Acceptor, G: Gate, R: Threads + Wait + 
     requires empty { B.history value ≡ [] }
     requires legal { IsLegalOver B.legal (B.fixed value).base (B.history value) }
     requires most { connections < 1024 }
-    ensures fixed { B.fixed result.value ≡ B.fixed value }
-    ensures legal { IsLegalOver B.legal (B.fixed value).base (B.history result.value) }
-    ensures served { AreServed (λ given link. IsLink (B.fixed value) (B.wrong result.value)
-        (B.history result.value)
-        (ends_of A.In.left A.Out.written A.In.faults A.Out.faults given.0 given.1)
-        (ends_of A.In.left A.Out.written A.In.faults A.Out.faults link.source link.sink)
-        link.client link.done link.ending link.word)
-        (λ link. link.client) (B.history result.value)
-        (A.coming acceptor.old) (A.coming acceptor.new) connections result.links.items }
-    ensures closed { (clients_of (B.history result.value)).present ≡ [] }
-    ensures enough { OnOk result.accepted
-        (AreEnough connections (A.coming acceptor.new) result.links.items) }
-    ensures quiet { OnOk result.accepted (A.faults acceptor.new ≡ A.faults acceptor.old) }
-    ensures failed { result.accepted ≡ Err errors.Failed
-        → Rose (A.faults acceptor.old) (A.faults acceptor.new) }
-    ensures memory { result.accepted ≡ Err errors.Memory → (acceptor.new ≡ acceptor.old)
-        × (result.links.items ≡ []) × (result.value ≡ value) }
+    ensures { HasServed B.legal B.fixed B.wrong B.history A.coming A.faults
+        A.In.left A.Out.written A.In.faults A.Out.faults connections
+        value result.value acceptor.old acceptor.new result.accepted result.links.items }
 {
     let Ok(links) = VecDeque::with_capacity(alloc, connections as usize) else {
         return Served {
@@ -232,7 +212,7 @@ fn serve_under_lock<B: Serves + Send, A: Acceptor, G: Gate, R: Threads + Wait + 
     } = coming;
     take_back(acceptor);
     Served {
-        accepted: accepted.map_err(|_| AcceptError::Failed),
+        accepted: outcome(accepted),
         links: Vec::from(links),
         value: shared.close(pass),
     }
@@ -253,27 +233,9 @@ pub fn serve<B: Serves + Send, A: Acceptor, G: Gate, R: Threads + Wait + Sync>(
 ) -> Served<B, A>
     requires empty { B.history value ≡ [] }
     requires most { connections < 1024 }
-    ensures fixed { B.fixed result.value ≡ B.fixed value }
-    // The history is legal where it is told what it begins from.
-    ensures legal { IsLegalOver B.legal (B.fixed value).base (B.history result.value) }
-    // Each connection that was accepted has its commands in the history once and in order, and was
-    // written what they were told. The history has no other client.
-    ensures served { AreServed (λ given link. IsLink (B.fixed value) (B.wrong result.value)
-        (B.history result.value)
-        (ends_of A.In.left A.Out.written A.In.faults A.Out.faults given.0 given.1)
-        (ends_of A.In.left A.Out.written A.In.faults A.Out.faults link.source link.sink)
-        link.client link.done link.ending link.word)
-        (λ link. link.client) (B.history result.value)
-        (A.coming acceptor.old) (A.coming acceptor.new) connections result.links.items }
-    // All clients are closed.
-    ensures closed { (clients_of (B.history result.value)).present ≡ [] }
-    ensures enough { OnOk result.accepted
-        (AreEnough connections (A.coming acceptor.new) result.links.items) }
-    ensures quiet { OnOk result.accepted (A.faults acceptor.new ≡ A.faults acceptor.old) }
-    ensures failed { result.accepted ≡ Err errors.Failed
-        → Rose (A.faults acceptor.old) (A.faults acceptor.new) }
-    ensures memory { result.accepted ≡ Err errors.Memory → (acceptor.new ≡ acceptor.old)
-        × (result.links.items ≡ []) × (result.value ≡ value) }
+    ensures { HasServed B.legal B.fixed B.wrong B.history A.coming A.faults
+        A.In.left A.Out.written A.In.faults A.Out.faults connections
+        value result.value acceptor.old acceptor.new result.accepted result.links.items }
 {
     value.show_legal();
     match Box::new(alloc, value) {

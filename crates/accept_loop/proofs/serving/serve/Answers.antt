@@ -1,20 +1,22 @@
-use Rattle.std.proofs.Common.{◌∙◌, ap, sym}
-use Rattle.accept_loop.specs.Connections.{IsLink, ends_of}
-use Rattle.accept_loop.proofs.Closing.{served_as, served_nothing}
+use Rattle.std.proofs.Common.{Box, ◌∙◌, ap, rules, sym}
+use Rattle.accept_loop.proofs.Closing.{has_served_as, served_nothing}
 use Rattle.accept_loop.proofs.serving.serve.Goals as goal
 
-pub returns-in-Ok-clause-served : goal.returns-in-Ok-clause-served
-returns-in-Ok-clause-served g c =
-    served_as
-    (λ fixed wrong history given link. IsLink fixed wrong history
-    (ends_of g.A.In.Source.left g.A.Out.Sink.written g.A.In.Source.faults g.A.Out.Sink.faults given.0 given.1)
-    (ends_of g.A.In.Source.left g.A.Out.Sink.written g.A.In.Source.faults g.A.Out.Sink.faults link.source link.sink)
-    link.client link.done link.ending link.word)
-    (λ link. link.client) _ _ _ _ _ _ _ _ _ _
-    (ap (λ v. g.B.Recorded.fixed v) c.in-Ok.ensures.ok) (ap (λ v. g.B.Recorded.wrong v) (sym c.into_inner.ensures))
-    (ap (λ v. g.B.Recorded.history v) (sym c.into_inner.ensures))
-    c.serve_under_lock-accepted.ensures.served
+pub returns-in-Ok : goal.returns-in-Ok
+returns-in-Ok g c =
+    let unboxed = sym c.into_inner.ensures in
+    has_served_as g.B.Recorded.fixed g.B.Recorded.wrong g.B.Recorded.history _ _ _ _
+    (ap (λ v. g.B.Recorded.fixed v) c.in-Ok.ensures.ok) (ap (λ v. g.B.Recorded.fixed v) unboxed) (ap (λ v. g.B.Recorded.wrong v) unboxed) (ap (λ v. g.B.Recorded.history v) unboxed)
+    (λ same. c.into_inner.ensures ∙ ap (λ (b : Box _ _). b.value) same ∙ c.in-Ok.ensures.ok) c.serve_under_lock-accepted.ensures
 
-pub returns-in-Err-clause-served : goal.returns-in-Err-clause-served
-returns-in-Err-clause-served g c =
-    served_nothing _ _ _ _ _ _ (ap (λ v. g.B.Recorded.history v) c.in-Err.ensures.value_returned ∙ c.requires.empty) c.new-in-Err.ensures.items
+pub returns-in-Err : goal.returns-in-Err
+returns-in-Err g c = record {
+  fixed_is = search rules;
+  is_legal = search rules;
+  served = served_nothing _ _ _ _ _ _ (ap (λ v. g.B.Recorded.history v) c.in-Err.ensures.value_returned ∙ c.requires.empty) c.new-in-Err.ensures.items;
+  closed = search rules;
+  enough = search rules;
+  quiet = search rules;
+  failed = search rules;
+  memory = search rules;
+}
