@@ -23,7 +23,7 @@ use Rattle.link_pool.specs.declared.turn.Stage.TheVariants as stages
 use Rattle.link_pool.specs.Hands.{HandView, WeighAlike, with_turn, without_turn}
 use Rattle.link_pool.specs.Outcomes.{outcome_of}
 use Rattle.link_pool.specs.declared.done.Service.{Service}
-use Rattle.link_pool.specs.Servers.{HasEnded, Leaves, ServesAll, Stands}
+use Rattle.link_pool.specs.Servers.{HasEnded, IsServer, Leaves, ServesAll}
 use Rattle.link_pool.specs.Services.{IsEnough, IsServed, client_of, given_of, is_lacking}
 use Rattle.link_pool.specs.Starts.{Start, start_of}
 use Rattle.link_pool.specs.Turns.{HasCome, IsAll, Keeps, is_over}
@@ -85,22 +85,22 @@ module _ {S K : Type 0} (legal : Origin → List Entry → Type 0) (left : S →
   before s = ends_of left written source_faults sink_faults s.given.value.0 s.given.value.1
 
   abbrev after : Done → Ends
-  after s = ends_of left written source_faults sink_faults s.source s.sink
+  after s = ends_of left written source_faults sink_faults s.link.source s.link.sink
 
   abbrev done_of : Done → ℕ
-  done_of s = s.done
+  done_of s = s.link.done
 
   abbrev ending_of : Done → Ending
-  ending_of s = s.ending
+  ending_of s = s.link.ending
 
   abbrev word_of : Done → Option WordView
-  word_of s = s.word
+  word_of s = s.link.word
 
   abbrev is_link_of : Fixed → (wrong : Bool) → List Entry → Done → Type 0
   is_link_of = IsServed left written source_faults sink_faults
 
   abbrev Is : HandView Link → PassView → List Done → Bool → List Link → Type 0
-  Is = Stands legal left written source_faults sink_faults
+  Is = IsServer legal (IsServed left written source_faults sink_faults) given_of client_of is_lacking
 
   -- ---- the turn is taken at the end
 

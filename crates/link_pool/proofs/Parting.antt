@@ -16,8 +16,8 @@ use Rattle.accept_loop.specs.Connections.{Ends, ends_of}
 use Rattle.accept_loop.specs.Passes.{Comes}
 use Rattle.link_pool.specs.Hands.{HandView, Rests, both_of, first_view, handed_on, kept_back, with_more, without_turn}
 use Rattle.link_pool.specs.declared.done.Service.{Service}
-use Rattle.link_pool.specs.Servers.{Leaves, Stands, one_part}
-use Rattle.link_pool.specs.Services.{client_of, given_of, is_lacking}
+use Rattle.link_pool.specs.Servers.{IsServer, Leaves, one_part}
+use Rattle.link_pool.specs.Services.{IsServed, client_of, given_of, is_lacking}
 use Rattle.link_pool.proofs.Together.{knows_both, knows_nobody, knows_one, knows_still}
 
 module _ {S K : Type 0} (legal : Origin → List Entry → Type 0) (left : S → Option (List ℕ)) (written : K → Option (List ℕ)) (source_faults : S → ℕ) (sink_faults : K → ℕ) where
@@ -31,19 +31,19 @@ module _ {S K : Type 0} (legal : Origin → List Entry → Type 0) (left : S →
   before s = ends_of left written source_faults sink_faults s.given.value.0 s.given.value.1
 
   abbrev after : Done → Ends
-  after s = ends_of left written source_faults sink_faults s.source s.sink
+  after s = ends_of left written source_faults sink_faults s.link.source s.link.sink
 
   abbrev done_of : Done → ℕ
-  done_of s = s.done
+  done_of s = s.link.done
 
   abbrev ending_of : Done → Ending
-  ending_of s = s.ending
+  ending_of s = s.link.ending
 
   abbrev word_of : Done → Option WordView
-  word_of s = s.word
+  word_of s = s.link.word
 
   abbrev Is : HandView Link → PassView → List Done → Bool → List Link → Type 0
-  Is = Stands legal left written source_faults sink_faults
+  Is = IsServer legal (IsServed left written source_faults sink_faults) given_of client_of is_lacking
 
   -- nobody was served yet
   pub server_begins : (hand : HandView Link) (pass : PassView) → Rests hand → hand.mine ≡ [] → pass.known ≡ [] → IsLegalOver legal pass.fixed.base pass.front → Is hand pass [] false []

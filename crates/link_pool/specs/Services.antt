@@ -3,7 +3,7 @@ use Rattle.std.specs.Prelude.{◌≡◌, ◌≤◌, ◌⊎◌, ℕ, Bool, cond, 
 use Rattle.std.specs.List.{sum_by}
 use Rattle.history_spec.specs.Entry.{Entry}
 use Rattle.broker_lock.specs.Known.{Fixed, knows}
-use Rattle.accept_loop.specs.Connections.{AreFirst, IsLink, ends_of, links_of}
+use Rattle.accept_loop.specs.Connections.{AreFirst, IsLinkDone, links_of}
 use Rattle.link_pool.specs.declared.done.Service.{Service}
 use Rattle.link_pool.specs.Endings.{lacks_memory}
 
@@ -14,17 +14,15 @@ abbrev pub given_of : {S K : Type 0} → Service S K → S × K
 given_of s = s.given.value
 
 abbrev pub client_of : {S K : Type 0} → Service S K → Option ℕ
-client_of s = s.client
+client_of s = s.link.client
 
 -- whether it ended for want of memory
 abbrev pub is_lacking : {S K : Type 0} → Service S K → Bool
-is_lacking s = lacks_memory s.ending
+is_lacking s = lacks_memory s.link.ending
 
 -- what became of it, by what its ends tell. `wrong` is whether the device gave a wrong answer
 abbrev pub IsServed : {S K : Type 0} → (left : S → Option (List ℕ)) → (written : K → Option (List ℕ)) → (source_faults : S → ℕ) → (sink_faults : K → ℕ) → Fixed → (wrong : Bool) → List Entry → Service S K → Type 0
-IsServed left written source_faults sink_faults fixed wrong journal s =
-    IsLink fixed wrong journal (ends_of left written source_faults sink_faults s.given.value.0 s.given.value.1) (ends_of left written source_faults sink_faults s.source s.sink)
-    s.client s.done s.ending s.word
+IsServed left written source_faults sink_faults fixed wrong journal s = IsLinkDone left written source_faults sink_faults fixed wrong journal s.given.value s.link
 
 -- ---- all of them
 

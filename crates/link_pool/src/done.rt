@@ -2,7 +2,7 @@
 ghost use Rattle.std.specs.Prelude.{◌≡◌, []};
 ghost use Rattle.link_pool.specs.Endings.{lacks_memory};
 
-use cancel_words::WordSeat;
+use accept_loop::LinkDone;
 use connection_core::Ending;
 use ghost_lists::Grows;
 use std::marker::{Model, PhantomData};
@@ -13,18 +13,8 @@ use std::snapshot::Snapshot;
 pub struct Service<S, K> {
     /// Both ends as they were when it was accepted, for contracts alone.
     pub given: Snapshot<(S, K)>,
-    /// The end that its commands came from.
-    pub source: S,
-    /// The end that its replies went to.
-    pub sink: K,
-    /// Its client, which is closed now. `None` where it wasn't opened.
-    pub client: Option<u32>,
-    /// What the word that cancels its commands was raised to, and what was loaded from it before
-    /// each command. `None` where it has no client.
-    pub word: Option<WordSeat>,
-    /// How many commands were taken up.
-    pub done: u64,
-    pub ending: Ending,
+    /// What became of it.
+    pub link: LinkDone<S, K>,
 }
 
 /// The connections that were served, for contracts alone. Nothing is kept of them.

@@ -1,23 +1,18 @@
 //! One server: it waits for the turn, accepts a connection, serves it, and waits again.
 ghost use Rattle.std.specs.Prelude.{◌≡◌, ◌<◌, ◌+◌, ◌∷◌, ◌||◌, []};
 ghost use Rattle.std.specs.Option.{option_to_list};
-ghost use Rattle.crossbeam_channel.specs.Claims.{view, IsSeatAt};
-ghost use Rattle.crossbeam_channel.specs.Ends.{sends_on};
-ghost use Rattle.accept_loop.specs.Connections.{ends_of};
-ghost use Rattle.accept_loop.specs.Passes.{Comes};
 ghost use Rattle.link_pool.specs.Endings.{lacks_memory};
-ghost use Rattle.link_pool.specs.Servers.{Leaves, Stands, one_part};
+ghost use Rattle.link_pool.specs.Servers.{IsOn, KeepsParts, MayServe, ServesOn, Stands, one_part};
 
 use crate::done::{Service, Services, lacks_memory};
 use crate::idle::Fork;
 use crate::turn::Begins;
 use crate::way::{Hand, Way};
-use accept_loop::Passed;
+use accept_loop::{Passed, serve_ends};
 use broker_lock::{Pass, Serves, Shared};
-use cancel_words::WordSeat;
-use connection_core::{Ending, LinkEnd, serve_link};
+use connection_core::Ending;
 use ghost_lists::grow;
-use link_port::{Gate, Sink, Source};
+use link_port::Gate;
 use std::alloc::Global;
 use std::snapshot::Snapshot;
 use std::sync::Wait;
@@ -33,31 +28,6 @@ pub(crate) struct Server<B, A, S, K> {
     pub served: Snapshot<Services<S, K>>,
     // Whether one of them ended for want of memory.
     pub lacked: bool,
-}
-
-// Serves a connection.
-fn serve_ends<
-    B: Serves + Send,
-    S: Source + Send + Drop,
-    K: Sink + Send + Drop,
-    G: Gate,
-    R: Threads + Wait + Sync,
->(
-    rt: &R,
-    alloc: Global,
-    shared: &Shared<B>,
-    gate: &G,
-    pass: Pass<B>,
-    ends: (S, K),
-) -> (LinkEnd<B, S, K>, Option<WordSeat>)
-    requires lock { pass.lock ≡ shared.now }
-    requires nobody { pass.known ≡ [] }
-    ensures { Comes B.legal pass result.0.pass
-        (ends_of S.left K.written S.faults K.faults ends.0 ends.1)
-        (ends_of S.left K.written S.faults K.faults result.0.source result.0.sink)
-        result.0.client result.0.done result.0.ending result.1 }
-{
-    serve_link(rt, alloc, shared, pass, ends.0, ends.1, gate)
 }
 
 // Whether memory lacked before, or for this connection.
@@ -78,15 +48,11 @@ pub(crate) fn accept_one<B: Serves, A: Passed, J: Begins<A::In, A::Out>, R: Wait
     newest: bool,
     server: &mut Server<B, A, A::In, A::Out>,
 ) -> Option<(A::In, A::Out)>
-    requires way { IsSeatAt (sends_on way.now.sender) server.old.hand }
-    requires server { Stands B.legal A.In.left A.Out.written A.In.faults A.Out.faults
-        (view server.old.hand) server.old.pass server.old.served.value server.old.lacked [] }
-    ensures way { IsSeatAt (sends_on way.now.sender) server.new.hand }
-    ensures server { Stands B.legal A.In.left A.Out.written A.In.faults A.Out.faults
-        (view server.new.hand) server.new.pass server.new.served.value server.new.lacked
-        (option_to_list result) }
-    ensures leaves { Leaves (view server.old.hand) (view server.new.hand)
-        server.old.pass server.new.pass 0 }
+    requires on { IsOn B.legal A.In.left A.Out.written A.In.faults A.Out.faults
+        way.now server.old [] }
+    ensures on { IsOn B.legal A.In.left A.Out.written A.In.faults A.Out.faults
+        way.now server.new (option_to_list result) }
+    ensures leaves { KeepsParts server.old server.new 0 }
     ensures served { server.new.served.value ≡ server.old.served.value }
     ensures pass { server.new.pass ≡ server.old.pass }
 {
@@ -109,35 +75,17 @@ fn serve_one<B: Serves + Send, A: Passed, G: Gate, R: Threads + Wait + Sync>(
     requires lock { server.old.pass.lock ≡ shared.now }
     requires beside { pass ≡ one_part server.old.pass }
     requires server { Stands B.legal A.In.left A.Out.written A.In.faults A.Out.faults
-        (view server.old.hand) server.old.pass server.old.served.value server.old.lacked
-        (ends ∷ []) }
+        server.old (ends ∷ []) }
     ensures server { Stands B.legal A.In.left A.Out.written A.In.faults A.Out.faults
-        (view server.new.hand) server.new.pass server.new.served.value server.new.lacked [] }
-    ensures leaves { Leaves (view server.old.hand) (view server.new.hand)
-        server.old.pass server.new.pass 1 }
+        server.new [] }
+    ensures leaves { KeepsParts server.old server.new 1 }
     ensures hand { server.new.hand ≡ server.old.hand }
 {
     let given = Snapshot::of(&ends);
-    let (end, word) = serve_ends(rt, alloc, shared, gate, pass, ends);
-    let LinkEnd {
-        source,
-        sink,
-        pass,
-        client,
-        done,
-        ending,
-    } = end;
+    let (pass, link) = serve_ends(rt, alloc, shared, gate, pass, ends);
     shared.join(&mut server.pass, pass);
-    server.lacked = has_lacked(server.lacked, ending);
-    let service = Service {
-        given,
-        source,
-        sink,
-        client,
-        word,
-        done,
-        ending,
-    };
+    server.lacked = has_lacked(server.lacked, link.ending);
+    let service = Service { given, link };
     grow(&mut server.served, &service);
 }
 
@@ -153,12 +101,10 @@ fn serve_next<B: Serves + Send, A: Passed, G: Gate, R: Threads + Wait + Sync>(
     requires lock { server.old.pass.lock ≡ shared.now }
     requires parts { 1 < server.old.pass.parts }
     requires server { Stands B.legal A.In.left A.Out.written A.In.faults A.Out.faults
-        (view server.old.hand) server.old.pass server.old.served.value server.old.lacked
-        (ends ∷ []) }
+        server.old (ends ∷ []) }
     ensures server { Stands B.legal A.In.left A.Out.written A.In.faults A.Out.faults
-        (view server.new.hand) server.new.pass server.new.served.value server.new.lacked [] }
-    ensures leaves { Leaves (view server.old.hand) (view server.new.hand)
-        server.old.pass server.new.pass 0 }
+        server.new [] }
+    ensures leaves { KeepsParts server.old server.new 0 }
     ensures hand { server.new.hand ≡ server.old.hand }
 {
     let pass = shared.split(&mut server.pass);
@@ -182,15 +128,12 @@ pub(crate) fn serve_turns<
     fork: &Fork,
     mut server: Server<B, A, A::In, A::Out>,
 ) -> Server<B, A, A::In, A::Out>
-    requires way { IsSeatAt (sends_on way.now.sender) server.hand }
+    requires on { IsOn B.legal A.In.left A.Out.written A.In.faults A.Out.faults
+        way.now server [] }
     requires lock { server.pass.lock ≡ shared.now }
     requires parts { 1 < server.pass.parts }
-    requires server { Stands B.legal A.In.left A.Out.written A.In.faults A.Out.faults
-        (view server.hand) server.pass server.served.value server.lacked [] }
-    ensures way { IsSeatAt (sends_on way.now.sender) result.hand }
-    ensures server { Stands B.legal A.In.left A.Out.written A.In.faults A.Out.faults
-        (view result.hand) result.pass result.served.value result.lacked [] }
-    ensures leaves { Leaves (view server.hand) (view result.hand) server.pass result.pass 0 }
+    ensures { ServesOn B.legal A.In.left A.Out.written A.In.faults A.Out.faults
+        way.now server result 0 }
 {
     let mut served: u64 = 0;
     for _ in rt.forever() {
@@ -224,16 +167,10 @@ pub(crate) fn serve_from<
     pass: Pass<B>,
     ends: (A::In, A::Out),
 ) -> Server<B, A, A::In, A::Out>
-    requires way { IsSeatAt (sends_on way.now.sender) server.hand }
-    requires lock { server.pass.lock ≡ shared.now }
-    requires parts { 0 < server.pass.parts }
-    requires beside { pass ≡ one_part server.pass }
-    requires server { Stands B.legal A.In.left A.Out.written A.In.faults A.Out.faults
-        (view server.hand) server.pass server.served.value server.lacked (ends ∷ []) }
-    ensures way { IsSeatAt (sends_on way.now.sender) result.hand }
-    ensures server { Stands B.legal A.In.left A.Out.written A.In.faults A.Out.faults
-        (view result.hand) result.pass result.served.value result.lacked [] }
-    ensures leaves { Leaves (view server.hand) (view result.hand) server.pass result.pass 1 }
+    requires { MayServe B.legal A.In.left A.Out.written A.In.faults A.Out.faults
+        way.now shared.now server pass ends }
+    ensures { ServesOn B.legal A.In.left A.Out.written A.In.faults A.Out.faults
+        way.now server result 1 }
 {
     serve_one(rt, alloc, shared, gate, &mut server, pass, ends);
     let server = serve_turns(rt, alloc, shared, gate, way, fork, server);

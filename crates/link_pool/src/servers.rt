@@ -1,10 +1,9 @@
 //! Servers side by side: there are more of them as more connections are served at once.
-ghost use Rattle.std.specs.Prelude.{◌≡◌, ◌<◌, ◌+◌, ◌-◌, ◌*◌, ◌∷◌, ◌||◌, []};
+ghost use Rattle.std.specs.Prelude.{◌≡◌, ◌<◌, ◌+◌, ◌*◌, ◌∷◌, ◌||◌, []};
 ghost use Rattle.std.specs.Thread.{IsSync};
 ghost use denote.Param.Send.{IsSend};
-ghost use Rattle.crossbeam_channel.specs.Claims.{view, IsSeatAt};
-ghost use Rattle.crossbeam_channel.specs.Ends.{sends_on};
-ghost use Rattle.link_pool.specs.Servers.{HasBoth, IsParted, Leaves, Stands, one_part};
+ghost use Rattle.crossbeam_channel.specs.Claims.{view};
+ghost use Rattle.link_pool.specs.Servers.{HasBoth, IsOn, IsParted, MayGrow, MayServe, ServesOn};
 
 use crate::done::Services;
 use crate::idle::Fork;
@@ -31,19 +30,14 @@ fn part<B: Serves, A: Passed, J: Begins<A::In, A::Out>>(
 ) -> (Server<B, A, A::In, A::Out>, Pass<B>)
     requires room { (0 < more) × (more < (view server.old.hand).parts)
         × (2 * more + 1 < server.old.pass.parts) }
-    requires way { IsSeatAt (sends_on way.now.sender) server.old.hand }
+    requires on { IsOn B.legal A.In.left A.Out.written A.In.faults A.Out.faults
+        way.now server.old (ends.now ∷ []) }
     requires lock { server.old.pass.lock ≡ shared.now }
-    requires server { Stands B.legal A.In.left A.Out.written A.In.faults A.Out.faults
-        (view server.old.hand) server.old.pass server.old.served.value server.old.lacked
-        (ends.now ∷ []) }
     requires served { server.old.served.value ≡ [] }
-    ensures way { IsSeatAt (sends_on way.now.sender) server.new.hand }
-    ensures server { Stands B.legal A.In.left A.Out.written A.In.faults A.Out.faults
-        (view server.new.hand) server.new.pass server.new.served.value server.new.lacked []
-        × (server.new.served.value ≡ []) }
-    ensures given_way { IsSeatAt (sends_on way.now.sender) result.0.hand }
-    ensures given { Stands B.legal A.In.left A.Out.written A.In.faults A.Out.faults
-        (view result.0.hand) result.0.pass result.0.served.value result.0.lacked (ends.now ∷ []) }
+    ensures on { IsOn B.legal A.In.left A.Out.written A.In.faults A.Out.faults
+        way.now server.new [] × (server.new.served.value ≡ []) }
+    ensures given { IsOn B.legal A.In.left A.Out.written A.In.faults A.Out.faults
+        way.now result.0 (ends.now ∷ []) }
     ensures parted { IsParted more shared.now (view server.old.hand) (view server.new.hand)
         (view result.0.hand) server.old.pass server.new.pass result.0.pass result.1 }
 {
@@ -69,18 +63,15 @@ fn join_servers<B: Serves, A: Passed, J: Begins<A::In, A::Out>>(
     mut server: Server<B, A, A::In, A::Out>,
     ended: Server<B, A, A::In, A::Out>,
 ) -> Server<B, A, A::In, A::Out>
-    requires way { IsSeatAt (sends_on way.now.sender) server.hand }
-    requires ended_way { IsSeatAt (sends_on way.now.sender) ended.hand }
+    requires on { IsOn B.legal A.In.left A.Out.written A.In.faults A.Out.faults
+        way.now server [] }
+    requires ended { IsOn B.legal A.In.left A.Out.written A.In.faults A.Out.faults
+        way.now ended [] }
     requires lock { server.pass.lock ≡ shared.now }
     requires ended_lock { ended.pass.lock ≡ shared.now }
-    requires server { Stands B.legal A.In.left A.Out.written A.In.faults A.Out.faults
-        (view server.hand) server.pass server.served.value server.lacked [] }
-    requires ended { Stands B.legal A.In.left A.Out.written A.In.faults A.Out.faults
-        (view ended.hand) ended.pass ended.served.value ended.lacked [] }
     requires fixed { ended.pass.fixed ≡ server.pass.fixed }
-    ensures way { IsSeatAt (sends_on way.now.sender) result.hand }
-    ensures server { Stands B.legal A.In.left A.Out.written A.In.faults A.Out.faults
-        (view result.hand) result.pass result.served.value result.lacked [] }
+    ensures on { IsOn B.legal A.In.left A.Out.written A.In.faults A.Out.faults
+        way.now result [] }
     ensures both { HasBoth (view server.hand) (view ended.hand) (view result.hand)
         server.pass ended.pass result.pass }
 {
@@ -127,17 +118,10 @@ pub(crate) fn serve_as_needed<
     more: u32,
     mut server: Server<B, A, A::In, A::Out>,
 ) -> Server<B, A, A::In, A::Out>
-    requires way { IsSeatAt (sends_on way.now.sender) server.hand }
-    requires lock { server.pass.lock ≡ shared.now }
-    requires hand { more < (view server.hand).parts }
-    requires parts { 2 * more + 1 < server.pass.parts }
-    requires server { Stands B.legal A.In.left A.Out.written A.In.faults A.Out.faults
-        (view server.hand) server.pass server.served.value server.lacked [] }
-    requires served { server.served.value ≡ [] }
-    ensures way { IsSeatAt (sends_on way.now.sender) result.hand }
-    ensures server { Stands B.legal A.In.left A.Out.written A.In.faults A.Out.faults
-        (view result.hand) result.pass result.served.value result.lacked [] }
-    ensures leaves { Leaves (view server.hand) (view result.hand) server.pass result.pass 0 }
+    requires may_grow { MayGrow B.legal A.In.left A.Out.written A.In.faults A.Out.faults
+        way.now shared.now more server }
+    ensures { ServesOn B.legal A.In.left A.Out.written A.In.faults A.Out.faults
+        way.now server result 0 }
 {
     last.begin();
     if more == 0 {
@@ -152,29 +136,16 @@ pub(crate) fn serve_as_needed<
     let (server, first) = thread::join(
         rt,
         move || -> Server<B, A, A::In, A::Out>
-            requires { IsSeatAt (sends_on way.now.sender) server.hand
-                × (server.pass.lock ≡ shared.now)
-                × (rest < (view server.hand).parts)
-                × (2 * rest + 1 < server.pass.parts)
-                × Stands B.legal A.In.left A.Out.written A.In.faults A.Out.faults
-                (view server.hand) server.pass server.served.value server.lacked []
-                × (server.served.value ≡ []) }
-            ensures { IsSeatAt (sends_on way.entry.now.sender) result.hand
-                × Stands B.legal A.In.left A.Out.written A.In.faults A.Out.faults
-                (view result.hand) result.pass result.served.value result.lacked []
-                × Leaves (view server.hand) (view result.hand) server.pass result.pass 0 }
+            requires { MayGrow B.legal A.In.left A.Out.written A.In.faults A.Out.faults
+                way.now shared.now rest server }
+            ensures { ServesOn B.legal A.In.left A.Out.written A.In.faults A.Out.faults
+                way.entry.now server result 0 }
         { serve_as_needed(rt, alloc, shared, gate, way, fork, rest, server) },
         move || -> Server<B, A, A::In, A::Out>
-            requires { IsSeatAt (sends_on way.now.sender) first.hand
-                × (first.pass.lock ≡ shared.now)
-                × (0 < first.pass.parts)
-                × (pass ≡ one_part first.pass)
-                × Stands B.legal A.In.left A.Out.written A.In.faults A.Out.faults
-                (view first.hand) first.pass first.served.value first.lacked (ends ∷ []) }
-            ensures { IsSeatAt (sends_on way.entry.now.sender) result.hand
-                × Stands B.legal A.In.left A.Out.written A.In.faults A.Out.faults
-                (view result.hand) result.pass result.served.value result.lacked []
-                × Leaves (view first.hand) (view result.hand) first.pass result.pass 1 }
+            requires { MayServe B.legal A.In.left A.Out.written A.In.faults A.Out.faults
+                way.now shared.now first pass ends }
+            ensures { ServesOn B.legal A.In.left A.Out.written A.In.faults A.Out.faults
+                way.entry.now first result 1 }
         { serve_from(rt, alloc, shared, gate, way, fork, first, pass, ends) },
     );
     join_servers(shared, way, server, first)

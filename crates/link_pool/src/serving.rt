@@ -1,9 +1,7 @@
 ghost use Rattle.std.specs.Prelude.{◌≡◌, ◌≤◌, ◌<◌, [], false, true, Err};
-ghost use Rattle.crossbeam_channel.specs.Claims.{view, IsSeatAt};
-ghost use Rattle.crossbeam_channel.specs.Ends.{sends_on};
-ghost use Rattle.broker_lock.specs.Known.{IsLegalOver};
+ghost use Rattle.crossbeam_channel.specs.Claims.{view};
 ghost use Rattle.accept_loop.specs.declared.serving.AcceptError.TheVariants as errors;
-ghost use Rattle.link_pool.specs.Servers.{HasEnded, ServesAll, Stands};
+ghost use Rattle.link_pool.specs.Servers.{HasEnded, IsOn, MayServeAll, ServesLinks};
 ghost use Rattle.link_pool.specs.Services.{IsServed, client_of, given_of, is_lacking};
 ghost use Rattle.link_pool.specs.Starts.{start_of};
 ghost use Rattle.link_pool.specs.Outcomes.{outcome_of};
@@ -91,12 +89,11 @@ fn end_all<
     way: &Way<A, J>,
     mut server: Server<B, A, A::In, A::Out>,
 ) -> Ended<B, A, A::In, A::Out>
-    requires way { IsSeatAt (sends_on way.now.sender) server.hand }
+    requires on { IsOn B.legal A.In.left A.Out.written A.In.faults A.Out.faults
+        way.now server [] }
     requires lock { server.pass.lock ≡ shared.now }
     requires hand { (view server.hand).parts ≡ 1024 }
     requires parts { 1 < server.pass.parts }
-    requires server { Stands B.legal A.In.left A.Out.written A.In.faults A.Out.faults
-        (view server.hand) server.pass server.served.value server.lacked [] }
     ensures kept { IsKept A.coming A.faults A.name J.begun result.turn }
     ensures over { is_over result.turn.stage ≡ true }
     ensures ended { HasEnded B.legal
@@ -144,19 +141,11 @@ fn serve_passed<
 ) -> (A, ServedAll<B, A::In, A::Out>)
     requires begun { J.begun ≡ start_of (A.coming acceptor) (A.faults acceptor) (A.name acceptor)
         connections }
-    requires empty { B.history value ≡ [] }
-    requires legal { IsLegalOver B.legal (B.fixed value).base (B.history value) }
-    requires some { 0 < servers }
-    requires few { servers ≤ 256 }
+    requires may_serve { MayServeAll B.legal (B.fixed value) (B.history value) servers }
     ensures name { A.name result.0 ≡ A.name acceptor }
-    ensures served { ServesAll B.legal
-        (IsServed A.In.left A.Out.written A.In.faults A.Out.faults) given_of client_of is_lacking
-        (B.fixed value) (B.fixed result.1.value) (B.wrong result.1.value)
-        (B.history result.1.value)
-        (A.coming acceptor) (A.coming result.0) (A.faults acceptor) (A.faults result.0)
-        connections result.1.accepted result.1.count result.1.lacked result.1.served.value }
-    ensures memory { result.1.accepted ≡ Err errors.Memory → (result.0 ≡ acceptor)
-        × (result.1.served.value ≡ []) × (result.1.value ≡ value) }
+    ensures serves { ServesLinks B.legal B.fixed B.wrong B.history A.coming A.faults
+        A.In.left A.Out.written A.In.faults A.Out.faults connections
+        value acceptor result.0 result.1 }
 {
     let Ok((way, mut hand)) = Way::<A, J>::with_first_hand(alloc) else {
         return (acceptor, serve_nobody(value));
@@ -218,18 +207,10 @@ fn serve_under_lock<B: Serves + Send, A: Acceptor + Send, G: Gate, R: Threads + 
     connections: u32,
     servers: u32,
 ) -> ServedAll<B, A::In, A::Out>
-    requires empty { B.history value ≡ [] }
-    requires legal { IsLegalOver B.legal (B.fixed value).base (B.history value) }
-    requires some { 0 < servers }
-    requires few { servers ≤ 256 }
-    ensures served { ServesAll B.legal
-        (IsServed A.In.left A.Out.written A.In.faults A.Out.faults) given_of client_of is_lacking
-        (B.fixed value) (B.fixed result.value) (B.wrong result.value) (B.history result.value)
-        (A.coming acceptor.old) (A.coming acceptor.new)
-        (A.faults acceptor.old) (A.faults acceptor.new)
-        connections result.accepted result.count result.lacked result.served.value }
-    ensures memory { result.accepted ≡ Err errors.Memory → (acceptor.new ≡ acceptor.old)
-        × (result.served.value ≡ []) × (result.value ≡ value) }
+    requires may_serve { MayServeAll B.legal (B.fixed value) (B.history value) servers }
+    ensures { ServesLinks B.legal B.fixed B.wrong B.history A.coming A.faults
+        A.In.left A.Out.written A.In.faults A.Out.faults connections
+        value acceptor.old acceptor.new result }
 {
     let lent = Lent { acceptor };
     let (lent, all) = serve_passed::<B, _, Brand, G, R>(
@@ -256,18 +237,10 @@ fn serve_legal<B: Serves + Send, A: Acceptor + Send, G: Gate, R: Threads + Wait 
     connections: u32,
     servers: u32,
 ) -> ServedAll<B, A::In, A::Out>
-    requires empty { B.history value ≡ [] }
-    requires legal { IsLegalOver B.legal (B.fixed value).base (B.history value) }
-    requires some { 0 < servers }
-    requires few { servers ≤ 256 }
-    ensures served { ServesAll B.legal
-        (IsServed A.In.left A.Out.written A.In.faults A.Out.faults) given_of client_of is_lacking
-        (B.fixed value) (B.fixed result.value) (B.wrong result.value) (B.history result.value)
-        (A.coming acceptor.old) (A.coming acceptor.new)
-        (A.faults acceptor.old) (A.faults acceptor.new)
-        connections result.accepted result.count result.lacked result.served.value }
-    ensures memory { result.accepted ≡ Err errors.Memory → (acceptor.new ≡ acceptor.old)
-        × (result.served.value ≡ []) × (result.value ≡ value) }
+    requires may_serve { MayServeAll B.legal (B.fixed value) (B.history value) servers }
+    ensures { ServesLinks B.legal B.fixed B.wrong B.history A.coming A.faults
+        A.In.left A.Out.written A.In.faults A.Out.faults connections
+        value acceptor.old acceptor.new result }
 {
     match Box::new(alloc, value) {
         Ok(value) => {
@@ -311,14 +284,9 @@ pub fn serve_all<B: Serves + Send, A: Acceptor + Send, G: Gate, R: Threads + Wai
     // The history is legal where it is told what it begins from. Each connection that was accepted
     // was served once, has its commands in the history once and in order, and was written what they
     // were told. The history has no other client, and all clients are closed.
-    ensures served { ServesAll B.legal
-        (IsServed A.In.left A.Out.written A.In.faults A.Out.faults) given_of client_of is_lacking
-        (B.fixed value) (B.fixed result.value) (B.wrong result.value) (B.history result.value)
-        (A.coming acceptor.old) (A.coming acceptor.new)
-        (A.faults acceptor.old) (A.faults acceptor.new)
-        connections result.accepted result.count result.lacked result.served.value }
-    ensures memory { result.accepted ≡ Err errors.Memory → (acceptor.new ≡ acceptor.old)
-        × (result.served.value ≡ []) × (result.value ≡ value) }
+    ensures { ServesLinks B.legal B.fixed B.wrong B.history A.coming A.faults
+        A.In.left A.Out.written A.In.faults A.Out.faults connections
+        value acceptor.old acceptor.new result }
 {
     value.show_legal();
     serve_legal(rt, alloc, value, acceptor, gate, connections, servers)

@@ -5,7 +5,7 @@ use Rattle.link_pool.proofs.Parting.{leaves_none, leaves_then, leaves_turn}
 use Rattle.link_pool.proofs.server.serve_turns.Goals as goal
 
 pub loop-init : goal.loop-init
-loop-init g c = record { goes = (tt, tt); way = c.requires.way; server = c.requires.server; leaves = leaves_none _ _ }
+loop-init g c = record { goes = (tt, tt); on = c.requires.on; leaves = leaves_none _ _ }
 
 pub serve_next-requires-clause-lock : goal.serve_next-requires-clause-lock
 serve_next-requires-clause-lock g c κs lives = c.accept_one.ensures.leaves.lock_is ∙ (c.loop.invariant.leaves.lock_is ∙ c.requires.lock)
@@ -16,10 +16,12 @@ serve_next-requires-clause-parts g c = omega (arith, c.requires.parts, c.loop.in
 pub loop-preserved : goal.loop-preserved
 loop-preserved g c = record {
   goes = (tt, tt);
-  way = subst (λ h. IsSeatAt (sends_on c.args.way.now.sender) h) (sym c.serve_next.ensures.hand) c.accept_one.ensures.way;
-  server = c.serve_next.ensures.server;
+  on = record {
+    hand = subst (λ h. IsSeatAt (sends_on c.args.way.now.sender) h) (sym c.serve_next.ensures.hand) c.accept_one.ensures.on.hand;
+    stands = c.serve_next.ensures.server;
+  };
   leaves = leaves_turn _ _ _ _ _ _ _ _ c.loop.invariant.leaves c.accept_one.ensures.leaves c.serve_next.ensures.leaves;
 }
 
-pub returns-in-None-accept_one-clause-leaves : goal.returns-in-None-accept_one-clause-leaves
-returns-in-None-accept_one-clause-leaves g c = leaves_then _ _ _ _ _ _ 0 0 c.loop.invariant.leaves c.accept_one.ensures.leaves
+pub returns-in-None-accept_one : goal.returns-in-None-accept_one
+returns-in-None-accept_one g c = record { on = c.in-None-accept_one.ensures.on; leaves = leaves_then _ _ _ _ _ _ 0 0 c.loop.invariant.leaves c.accept_one.ensures.leaves }

@@ -7,21 +7,21 @@ use Rattle.link_pool.proofs.Turning.{has_parts, held_whole, leaves_back}
 use Rattle.link_pool.proofs.serving.end_all.Goals as goal
 
 pub loop-init : goal.loop-init
-loop-init g c = record { goes = (tt, tt); way = c.requires.way; server = c.requires.server; leaves = leaves_none _ _ }
+loop-init g c = record { goes = (tt, tt); on = c.requires.on; leaves = leaves_none _ _ }
 
 pub take-turn-requires-clause-rests : goal.take-turn-requires-clause-rests
-take-turn-requires-clause-rests g c κs lives = c.loop.invariant.server.rests
+take-turn-requires-clause-rests g c κs lives = c.loop.invariant.on.stands.rests
 
 pub returns-then-is_over-clause-over : goal.returns-then-is_over-clause-over
 returns-then-is_over-clause-over g c = sym c.is_over.ensures ∙ c.if-is_over.true
 
 pub returns-then-is_over-clause-ended : goal.returns-then-is_over-clause-ended
 returns-then-is_over-clause-ended g c =
-    has_ended g.B.Recorded.legal g.A.In.Source.left g.A.Out.Sink.written g.A.In.Source.faults g.A.Out.Sink.faults (view c.loop.server.hand) _ _ c.take-turn.result.accepted.value _ _ (view c.args.server.hand) c.loop.invariant.server c.loop.invariant.leaves
+    has_ended g.B.Recorded.legal g.A.In.Source.left g.A.Out.Sink.written g.A.In.Source.faults g.A.Out.Sink.faults (view c.loop.server.hand) _ _ c.take-turn.result.accepted.value _ _ (view c.args.server.hand) c.loop.invariant.on.stands c.loop.invariant.leaves
     (c.take-turn.ensures.all (c.loop.invariant.leaves.hand_parts ∙ c.requires.hand))
 
 pub give-requires-clause-parts : goal.give-requires-clause-parts
-give-requires-clause-parts g c κs lives = has_parts (view c.loop.server.hand) (view c.take-turn.new.hand) c.take-turn.result.accepted.value c.take-turn.ensures.turn c.loop.invariant.server.rests
+give-requires-clause-parts g c κs lives = has_parts (view c.loop.server.hand) (view c.take-turn.new.hand) c.take-turn.result.accepted.value c.take-turn.ensures.turn c.loop.invariant.on.stands.rests
 
 pub give-requires-clause-has : goal.give-requires-clause-has
 give-requires-clause-has g c κs lives = ap (λ (v : HandView _). v.turns) c.take-turn.ensures.turn
@@ -35,15 +35,16 @@ serve_turns-next-requires-clause-lock g c κs lives = c.loop.invariant.leaves.lo
 pub serve_turns-next-requires-clause-parts : goal.serve_turns-next-requires-clause-parts
 serve_turns-next-requires-clause-parts g c = omega (arith, c.requires.parts, c.loop.invariant.leaves.parts)
 
-pub serve_turns-next-requires-clause-server : goal.serve_turns-next-requires-clause-server
-serve_turns-next-requires-clause-server g c κs lives =
-    gives_back g.B.Recorded.legal g.A.In.Source.left g.A.Out.Sink.written g.A.In.Source.faults g.A.Out.Sink.faults (view c.loop.server.hand) (view c.take-turn.new.hand) (view c.give.new.hand) _ c.take-turn.result.accepted.value _ _ c.loop.invariant.server c.take-turn.ensures.turn c.give.ensures.given
+pub serve_turns-next-requires-clause-on : goal.serve_turns-next-requires-clause-on
+serve_turns-next-requires-clause-on g c κs lives = record {
+  hand = c.give.ensures.way;
+  stands = gives_back g.B.Recorded.legal g.A.In.Source.left g.A.Out.Sink.written g.A.In.Source.faults g.A.Out.Sink.faults (view c.loop.server.hand) (view c.take-turn.new.hand) (view c.give.new.hand) _ c.take-turn.result.accepted.value _ _ c.loop.invariant.on.stands c.take-turn.ensures.turn c.give.ensures.given;
+}
 
 pub loop-preserved : goal.loop-preserved
 loop-preserved g c = record {
   goes = (tt, tt);
-  way = c.serve_turns-next.ensures.way;
-  server = c.serve_turns-next.ensures.server;
+  on = c.serve_turns-next.ensures.on;
   leaves = leaves_turn _ _ _ _ _ _ _ _ c.loop.invariant.leaves
       (leaves_back (view c.loop.server.hand) (view c.take-turn.new.hand) (view c.give.new.hand) c.take-turn.result.accepted.value c.loop.server.pass c.take-turn.ensures.turn c.give.ensures.given)
       c.serve_turns-next.ensures.leaves;
