@@ -2,7 +2,7 @@
 use Rattle.std.proofs.Common.{◌≡◌, ◌<◌, ◌≤◌, ◌+◌, ◌-◌, ℕ, Bool, true, false, List, [], ◌∷◌, ◌++◌, length, Option, Some, None, refl, sym, ap, subst, ◌∙◌, arith, inl}
 use Rattle.std.specs.Prelude.{is_some, set}
 use Rattle.std.specs.List.{list_any}
-use Rattle.std.proofs.lemmas.List.{length-set}
+use Rattle.std.proofs.lemmas.List.{append-nil, length-set, nil_from_length}
 use Rattle.tab_spec.specs.Numbers.{AreInRange, leave_limit}
 use Rattle.tab_spec.specs.declared.contexts.ContextLimits.{ContextLimits}
 use Rattle.tab_spec.specs.declared.contexts.TheConstants.{PROFILE_CONTEXTS}
@@ -17,7 +17,7 @@ use Rattle.world_laws.proofs.Clients.{once}
 use Rattle.world_laws.proofs.Histories.{clients_of-push, world_of-push}
 use Rattle.client_machine.specs.declared.held.Held.{Held}
 use Rattle.broker_core.specs.Broker.{BrokerView, HeldHolds, Holds, JournalHolds, StandsFor, times_open}
-use Rattle.client_machine.specs.Dropping.{Drops, LeavesThem, SendsFlushes}
+use Rattle.client_machine.specs.Dropping.{Drops, LeavesMore, LeavesThem, SendsFlushes}
 use Rattle.client_machine.specs.Moves.{CountsOn, CountsOnBy, MayMove, StaysFor}
 use Rattle.client_machine.specs.Settled.{orphan_count}
 use Rattle.client_machine.specs.Tables.{AreOpenOwners}
@@ -30,6 +30,11 @@ use Rattle.client_machine.proofs.Settling.{settled_at}
 use Rattle.broker_core.proofs.Tabling.{open_inside, owners-close, tables-close}
 use Rattle.broker_core.proofs.Listing.{lists-close, lists_same}
 use Rattle.broker_core.proofs.WorldStands.{stands-close}
+
+-- where no flush failed, no orphan was added
+pub no_more : (left new_left : List ℕ) (failed : ℕ) → failed ≡ 0 → LeavesMore failed left new_left → new_left ≡ left
+no_more left new_left failed none added =
+    added.1 ∙ ap (λ (more : List ℕ). left ++ more) (nil_from_length added.0 (omega (arith, added.2, none))) ∙ append-nil left
 
 -- no context is numbered
 counts_on : (old new : Option SlotState) → CountsOnBy 0 old new → CountsOn old new

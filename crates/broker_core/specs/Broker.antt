@@ -1,5 +1,5 @@
 -- What is seen of a broker, and what holds of each one.
-use Rattle.std.specs.Prelude.{◌≡◌, ◌<◌, ◌≤◌, ◌⊎◌, ℕ, ◌+◌, ◌^◌, ◌==◌, true, List, [], ◌∷◌, ◌++◌, get_or, length, set, Option, Some, None, is_some, IsSome, IfSome, Result, Ok, Err}
+use Rattle.std.specs.Prelude.{◌≡◌, ◌<◌, ◌≤◌, ◌↔◌, ◌⊎◌, ℕ, ◌+◌, ◌^◌, ◌==◌, true, List, [], ◌∷◌, ◌++◌, get_or, length, set, Option, Some, None, is_some, IsSome, IfSome, Result, Ok, Err}
 use Rattle.std.specs.List.{AllByRecursion, count_by, list_any}
 use Rattle.tab_spec.specs.declared.TheConstants.{MOST_BYTES, RC_CANCELED, RC_DEVICE_ANSWER, RC_DEVICE_FAULT, RC_JOURNAL_FULL}
 use Rattle.tab_spec.specs.declared.Admitted.{Admitted}
@@ -22,16 +22,16 @@ use Rattle.history_spec.specs.declared.EntryKind.TheVariants.{Open, Command, Fau
 use Rattle.history_spec.specs.declared.TheConstants.{ENTRY_BYTES, SILENT_LIMIT}
 use Rattle.object_swap.specs.declared.TheConstants.{PLACES_MOST}
 use Rattle.history_spec.specs.declared.Pick.TheVariants.{Nothing}
-use Rattle.history_spec.specs.Entry.{Entry, HasRoom, LacksRoom, command_entry, fault_entry, clients_of, kept, reserved, canceled_entry}
+use Rattle.history_spec.specs.Entry.{Entry, HasRoom, LacksRoom, close_entry, command_entry, fault_entry, clients_of, kept, reserved, canceled_entry}
 use Rattle.history_spec.specs.Told.{IsToldMemory}
 use Rattle.audit_journal.specs.Counts.{faults_in}
 use Rattle.audit_journal.specs.Journal.{JournalView}
 use Rattle.world_spec.specs.Legal.{Legal}
 use Rattle.world_spec.specs.World.{world_of}
 use Rattle.client_machine.specs.declared.held.Held.{Held}
-use Rattle.client_machine.specs.Costs.{SendsUpTo, StaysIn, new_bound}
-use Rattle.client_machine.specs.Dropping.{KeepsOthers, LeavesThem, left_after}
-use Rattle.client_machine.specs.Moves.{Executes, FailsAtLast, IsAtHand, IsCalm, IsFor, KeepsOwners, any_client, moves_for, pick_of, saved_number}
+use Rattle.client_machine.specs.Costs.{SendsUpTo, StaysIn, close_bound, new_bound}
+use Rattle.client_machine.specs.Dropping.{AreLeftByFaults, KeepsOthers, LeavesThem, SendsFlushes, left_after}
+use Rattle.client_machine.specs.Moves.{Executes, FailsAtLast, IsAtHand, IsCalm, IsFor, Keeps, KeepsOwners, any_client, moves_for, pick_of, saved_number}
 use Rattle.client_machine.specs.Settled.{orphan_count}
 use Rattle.broker_core.specs.Stands.{Stands}
 use Rattle.client_machine.specs.Tables.{AreOpenOwners, owned_handles, tables_seen}
@@ -39,6 +39,7 @@ use Rattle.broker_core.specs.Tables.{ListsStand, TablesStand, table_of}
 use Rattle.broker_core.specs.declared.broker.BeginError.{BeginError}
 use Rattle.broker_core.specs.declared.broker.BeginError.TheVariants as begin_errors
 use Rattle.broker_lock.specs.Known.{Origin, origin_of}
+use Rattle.broker_lock.specs.Serves.{closes_wrong}
 use Rattle.broker_lock.specs.declared.calls.Closed.{Closed}
 use Rattle.broker_lock.specs.declared.calls.Closed.TheVariants as closes
 use Rattle.broker_lock.specs.declared.calls.Told.{Told}
@@ -290,6 +291,23 @@ pub record LeavesSessions (client : ℕ) (told : Closed) (held new_held : Held) 
   pub others : KeepsOthers client held.sessions.items new_held.sessions.items
   pub left : (told ≡ closes.Answer → ⊥) → new_held.sessions.left ≡ left_after client held.sessions
   pub behind : LeavesThem held.sessions.items new_held.sessions.items
+
+-- what becomes of a close
+pub record Closes {D : Type 0} (contexts : ContextLimits) (seen : D → Seen) (client : ℕ) (told : Closed) (old new : BrokerView D) : Type 0 where
+  pub closed : (new.journal ≡ old.journal ++ close_entry client ∷ []) × (new.tables ≡ set old.tables client [])
+  pub answer : (told ≡ closes.Answer) ↔ IsSome new.wrong_code
+  -- after a wrong answer nothing is sent, and nothing else changes
+  pub unsent : IsSome old.wrong_code
+      → new ≡ record old { journal = old.journal ++ close_entry client ∷ []; tables = set old.tables client [] }
+  pub left : TellsLeft told old.held new.held
+  -- no more orphans are added than transmissions failed
+  pub more : AreLeftByFaults (orphan_count old.held) (seen old.device).faults (orphan_count new.held) (seen new.device).faults
+  pub sessions : LeavesSessions client told old.held new.held
+  pub keeps : Keeps seen old.device new.device
+  pub costs : SendsUpTo seen (close_bound client old.held) old.device new.device
+  -- nothing is sent but flushes, no wrong answer to one is passed over, and each session that is gone was flushed
+  pub sent : SendsFlushes contexts seen old.device new.device old.held.sessions.items new.held.sessions.items (closes_wrong told)
+  pub fixed : (new.began ≡ old.began) × (new.limit ≡ old.limit) × (new.held.sessions.numbers ≡ old.held.sessions.numbers)
 
 -- the device was started and flushed, its numbers are in range, and memory lacked for what is kept of its objects and sessions
 abbrev pub LackedMemory : (old new : Seen) → Type 0

@@ -1,6 +1,6 @@
 ghost use Rattle.std.specs.Prelude.{IsTrue};
 ghost use Rattle.std.specs.Prelude.{◌≡◌, true, false, ◌≤◌, ◌<◌, ◌+◌, ◌*◌, ◌↔◌, ℕ, [], ◌∷◌, ◌++◌};
-ghost use Rattle.std.specs.Prelude.{Some, None, Ok, Err, length, set};
+ghost use Rattle.std.specs.Prelude.{Some, None, Ok, Err, length};
 ghost use Rattle.std.specs.Prelude.{IsSome, IfOk, IfErr, OnOk, OnErr, IfSome};
 ghost use Rattle.tab_spec.specs.declared.TheConstants.{RC_CANCELED, RC_DEVICE_FAULT};
 ghost use Rattle.tab_spec.specs.Numbers.{AreInRange};
@@ -9,7 +9,6 @@ ghost use Rattle.device_spec.specs.Answers.{IsWrongAnswer};
 ghost use Rattle.device_port.specs.Device.{asked_of, last_of, sent_of};
 ghost use Rattle.device_start.specs.Start.{ClearedIf, HoldsNoMoreIf, IsStarted};
 ghost use Rattle.session_swap.specs.Items.{no_items};
-ghost use Rattle.client_machine.specs.Dropping.{AreLeftByFaults, SendsFlushes};
 ghost use Rattle.client_machine.specs.Settled.{orphan_count};
 ghost use Rattle.history_spec.specs.declared.TheConstants.{ENTRY_BYTES, SILENT_LIMIT};
 ghost use Rattle.history_spec.specs.Entry.{open_entry, close_entry, canceled_entry, command_entry};
@@ -17,15 +16,14 @@ ghost use Rattle.history_spec.specs.Entry.{fault_entry, clients_of, HasRoom, Has
 ghost use Rattle.history_spec.specs.Entry.{IsLimit};
 ghost use Rattle.history_spec.specs.Entry.{kept, IsOpen, IsNextNumber};
 ghost use Rattle.history_spec.specs.declared.Pick.TheVariants.{Nothing};
-ghost use Rattle.broker_lock.specs.Serves.{closes_wrong};
 ghost use Rattle.broker_lock.specs.declared.calls.OpenClientError.TheVariants as open_errors;
 ghost use Rattle.broker_lock.specs.declared.calls.Told.TheVariants as tolds;
 ghost use Rattle.broker_lock.specs.declared.calls.Closed.TheVariants as closes;
-ghost use Rattle.broker_core.specs.Broker.{AnswersHold, AreWhole, Costs, FaultsCounted};
-ghost use Rattle.broker_core.specs.Broker.{HasCause, HoldsLeft, IsAtBase, IsReadyFor, LeavesSessions};
-ghost use Rattle.broker_core.specs.Broker.{StandsFor, Tells, TellsCanceled, TellsLeft, TellsNoRoom};
+ghost use Rattle.broker_core.specs.Broker.{AnswersHold, AreWhole, Closes, Costs, FaultsCounted};
+ghost use Rattle.broker_core.specs.Broker.{HasCause, HoldsLeft, IsAtBase, IsReadyFor, StandsFor};
+ghost use Rattle.broker_core.specs.Broker.{Tells, TellsCanceled, TellsNoRoom};
 ghost use Rattle.broker_core.specs.Tables.{AddsList, with_owners};
-ghost use Rattle.client_machine.specs.Costs.{SendsUpTo, close_bound, own_objects};
+ghost use Rattle.client_machine.specs.Costs.{own_objects};
 ghost use Rattle.client_machine.specs.Moves as moves;
 ghost use Rattle.client_machine.specs.Moves.{Keeps, tells_context};
 ghost use Rattle.client_laws.specs.Ready.{tells_session};
@@ -498,29 +496,7 @@ impl<D: Device> Broker<D> {
     /// device flushes it first. Objects of other clients aren't looked at. It takes no memory.
     pub fn close_client(&mut self, client: u32) -> Closed
         requires { IsOpen self.old.journal client }
-        ensures closed { (self.new.journal ≡ self.old.journal ++ close_entry client ∷ [])
-            × (self.new.tables ≡ set self.old.tables client []) }
-        ensures answer { (result ≡ closes.Answer) ↔ IsSome self.new.wrong_code }
-        // After a wrong answer nothing is sent, and nothing else changes.
-        ensures unsent { IsSome self.old.wrong_code → self.new ≡ record self.old {
-          journal = self.old.journal ++ close_entry client ∷ [];
-          tables = set self.old.tables client [];
-        } }
-        ensures left { TellsLeft result self.old.held self.new.held }
-        // No more orphans are added than transmissions failed.
-        ensures more { AreLeftByFaults (orphan_count self.old.held) (D.seen self.old.device).faults
-            (orphan_count self.new.held) (D.seen self.new.device).faults }
-        // The sessions of other clients stay where they are, and those that it saved are left.
-        ensures sessions { LeavesSessions client result self.old.held self.new.held }
-        ensures keeps { Keeps D.seen self.old.device self.new.device }
-        ensures costs { SendsUpTo D.seen (close_bound client self.old.held)
-            self.old.device self.new.device }
-        // Nothing is sent but flushes, no wrong answer to one is passed over, and each session that
-        // is gone was flushed.
-        ensures sent { SendsFlushes D.CONTEXTS D.seen self.old.device self.new.device
-            self.old.held.sessions.items self.new.held.sessions.items (closes_wrong result) }
-        ensures fixed { (self.new.began ≡ self.old.began) × (self.new.limit ≡ self.old.limit)
-            × (self.new.held.sessions.numbers ≡ self.old.held.sessions.numbers) }
+        ensures { Closes D.CONTEXTS D.seen client result self.old self.new }
     {
         self.close_by(client, &mut Uncounted)
     }
@@ -529,29 +505,7 @@ impl<D: Device> Broker<D> {
     /// six after a wrong answer.
     pub fn close_client_counted<L: Ledger>(&mut self, client: u32, steps: &mut Steps<L>) -> Closed
         requires { IsOpen self.old.journal client }
-        ensures closed { (self.new.journal ≡ self.old.journal ++ close_entry client ∷ [])
-            × (self.new.tables ≡ set self.old.tables client []) }
-        ensures answer { (result ≡ closes.Answer) ↔ IsSome self.new.wrong_code }
-        // After a wrong answer nothing is sent, and nothing else changes.
-        ensures unsent { IsSome self.old.wrong_code → self.new ≡ record self.old {
-          journal = self.old.journal ++ close_entry client ∷ [];
-          tables = set self.old.tables client [];
-        } }
-        ensures left { TellsLeft result self.old.held self.new.held }
-        // No more orphans are added than transmissions failed.
-        ensures more { AreLeftByFaults (orphan_count self.old.held) (D.seen self.old.device).faults
-            (orphan_count self.new.held) (D.seen self.new.device).faults }
-        // The sessions of other clients stay where they are, and those that it saved are left.
-        ensures sessions { LeavesSessions client result self.old.held self.new.held }
-        ensures keeps { Keeps D.seen self.old.device self.new.device
-            × (self.new.began ≡ self.old.began) × (self.new.limit ≡ self.old.limit)
-            × (self.new.held.sessions.numbers ≡ self.old.held.sessions.numbers) }
-        ensures costs { SendsUpTo D.seen (close_bound client self.old.held)
-            self.old.device self.new.device }
-        // Nothing is sent but flushes, no wrong answer to one is passed over, and each session that
-        // is gone was flushed.
-        ensures sent { SendsFlushes D.CONTEXTS D.seen self.old.device self.new.device
-            self.old.held.sessions.items self.new.held.sessions.items (closes_wrong result) }
+        ensures closes { Closes D.CONTEXTS D.seen client result self.old self.new }
         ensures steps { (steps.new ≤ steps.old + 6 * own_objects client self.old.held.objects.items)
             × ((result ≡ closes.Answer → ⊥)
             → steps.old + 3 * own_objects client self.old.held.objects.items ≤ steps.new) }
@@ -625,29 +579,7 @@ impl<D: Device> Broker<D> {
     // `close_client`, which tells what it visits.
     fn close_by<C: Visits>(&mut self, client: u32, steps: &mut C) -> Closed
         requires { IsOpen self.old.journal client }
-        ensures closed { (self.new.journal ≡ self.old.journal ++ close_entry client ∷ [])
-            × (self.new.tables ≡ set self.old.tables client []) }
-        ensures answer { (result ≡ closes.Answer) ↔ IsSome self.new.wrong_code }
-        // After a wrong answer nothing is sent, and nothing else changes.
-        ensures unsent { IsSome self.old.wrong_code → self.new ≡ record self.old {
-          journal = self.old.journal ++ close_entry client ∷ [];
-          tables = set self.old.tables client [];
-        } }
-        ensures left { TellsLeft result self.old.held self.new.held }
-        // No more orphans are added than transmissions failed.
-        ensures more { AreLeftByFaults (orphan_count self.old.held) (D.seen self.old.device).faults
-            (orphan_count self.new.held) (D.seen self.new.device).faults }
-        // The sessions of other clients stay where they are, and those that it saved are left.
-        ensures sessions { LeavesSessions client result self.old.held self.new.held }
-        ensures keeps { Keeps D.seen self.old.device self.new.device
-            × (self.new.began ≡ self.old.began) × (self.new.limit ≡ self.old.limit)
-            × (self.new.held.sessions.numbers ≡ self.old.held.sessions.numbers) }
-        ensures costs { SendsUpTo D.seen (close_bound client self.old.held)
-            self.old.device self.new.device }
-        // Nothing is sent but flushes, no wrong answer to one is passed over, and each session that
-        // is gone was flushed.
-        ensures sent { SendsFlushes D.CONTEXTS D.seen self.old.device self.new.device
-            self.old.held.sessions.items self.new.held.sessions.items (closes_wrong result) }
+        ensures closes { Closes D.CONTEXTS D.seen client result self.old self.new }
         ensures steps { (C.count steps.new
             ≤ C.count steps.old + 6 * own_objects client self.old.held.objects.items)
             × ((result ≡ closes.Answer → ⊥) → C.count steps.old
