@@ -10,3 +10,4 @@ mod Places
 mod Running
 mod Standing
 mod Starting
+mod Telling
