@@ -260,6 +260,22 @@ pub record Costs {D : Type 0} (contexts : ContextLimits) (seen : D → Seen) (ol
   pub few : (a : Admitted) → checked contexts old client bytes ≡ Ok a → IsCalm old.held
       → SendsUpTo seen (moves_for contexts old.held (table_of old.tables client) a bytes + 1) old.device new.device
 
+-- what becomes of a command
+pub record Commands {D : Type 0} (contexts : ContextLimits) (seen : D → Seen) (told_is : Told) (old new : BrokerView D) (client number : ℕ)
+    (bytes reply : List ℕ) : Type 0 where
+  -- the entry is a refusal of the broker's own, a failed transmission, or what came back from the device, with the client's handle for a
+  -- new object
+  pub told : Tells contexts seen told_is old new client number bytes reply
+  -- `Answer` comes exactly after a wrong answer. A device that tells its state gives none.
+  pub answer : (told_is ≡ tolds.Answer) ↔ IsSome new.wrong_code
+  pub last_answer : AnswersHold contexts (seen new.device) new.wrong_code
+  -- after a wrong answer a call changes nothing
+  pub unchanged : IsSome old.wrong_code → new ≡ old
+  pub keeps : Keeps seen old.device new.device
+  pub costs : Costs contexts seen old new client bytes
+  pub left : orphan_count new.held ≤ orphan_count old.held
+  pub fixed : (new.began ≡ old.began) × (new.limit ≡ old.limit) × (new.held.sessions.numbers ≡ old.held.sessions.numbers)
+
 -- The command was canceled, and wasn't run: it has an entry, and nothing else changed.
 pub record IsCanceled {D : Type 0} (old new : BrokerView D) (client number upto : ℕ) (bytes reply : List ℕ) : Type 0 where
   pub reply_is : reply ≡ error_reply RC_CANCELED

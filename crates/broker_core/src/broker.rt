@@ -19,9 +19,9 @@ ghost use Rattle.history_spec.specs.declared.Pick.TheVariants.{Nothing};
 ghost use Rattle.broker_lock.specs.declared.calls.OpenClientError.TheVariants as open_errors;
 ghost use Rattle.broker_lock.specs.declared.calls.Told.TheVariants as tolds;
 ghost use Rattle.broker_lock.specs.declared.calls.Closed.TheVariants as closes;
-ghost use Rattle.broker_core.specs.Broker.{AnswersHold, AreWhole, Closes, Costs, FaultsCounted};
+ghost use Rattle.broker_core.specs.Broker.{AnswersHold, AreWhole, Closes, Commands, FaultsCounted};
 ghost use Rattle.broker_core.specs.Broker.{HasCause, HoldsLeft, IsAtBase, IsReadyFor, StandsFor};
-ghost use Rattle.broker_core.specs.Broker.{Tells, TellsCanceled, TellsNoRoom};
+ghost use Rattle.broker_core.specs.Broker.{TellsCanceled, TellsNoRoom};
 ghost use Rattle.broker_core.specs.Tables.{AddsList, with_owners};
 ghost use Rattle.client_machine.specs.Costs.{own_objects};
 ghost use Rattle.client_machine.specs.Moves as moves;
@@ -393,20 +393,8 @@ impl<D: Device> Broker<D> {
     pub fn command(&mut self, client: u32, number: u64, bytes: &[u8], reply: &mut Buffer) -> Told
         requires present { IsOpen self.old.journal client }
         requires number { IsNextNumber self.old.journal client number }
-        // The entry is a refusal of the broker's own, a failed transmission, or what came back from
-        // the device, with the client's handle for a new object.
-        ensures told { Tells D.CONTEXTS D.seen result self.old self.new client number
+        ensures { Commands D.CONTEXTS D.seen result self.old self.new client number
             bytes.now reply.new }
-        // `Answer` comes exactly after a wrong answer. A device that tells its state gives none.
-        ensures answer { (result ≡ tolds.Answer) ↔ IsSome self.new.wrong_code }
-        ensures last_answer { AnswersHold D.CONTEXTS (D.seen self.new.device) self.new.wrong_code }
-        // After a wrong answer a call changes nothing.
-        ensures unchanged { IsSome self.old.wrong_code → self.new ≡ self.old }
-        ensures keeps { Keeps D.seen self.old.device self.new.device }
-        ensures costs { Costs D.CONTEXTS D.seen self.old self.new client bytes.now }
-        ensures left { orphan_count self.new.held ≤ orphan_count self.old.held }
-        ensures fixed { (self.new.began ≡ self.old.began) × (self.new.limit ≡ self.old.limit)
-            × (self.new.held.sessions.numbers ≡ self.old.held.sessions.numbers) }
     {
         if self.wrong_code.is_some() {
             tab_wire::error_reply(RC_DEVICE_ANSWER, reply);

@@ -1,4 +1,4 @@
-use Rattle.std.proofs.Common.{inl, refl, ◌≡◌, ◌≤◌, List, None, sym, ap, subst, arith, ◌∙◌}
+use Rattle.std.proofs.Common.{rules, inl, refl, ◌≡◌, ◌≤◌, List, None, sym, ap, subst, arith, ◌∙◌}
 use Rattle.std.proofs.lemmas.List.{length-set}
 use Rattle.tab_spec.specs.Admission.{client_admitted}
 use Rattle.tab_spec.specs.declared.TheConstants.{RC_DEVICE_FAULT}
@@ -23,11 +23,20 @@ use Rattle.broker_core.proofs.Holding.{are_more, few_more, held_same, holds_refu
 use Rattle.broker_core.proofs.Placing.{kept_same, open_there, tables_same}
 use Rattle.broker_core.proofs.broker.Broker.command.Goals as goal
 
-pub returns-in-Err-clause-told : goal.returns-in-Err-clause-told
-returns-in-Err-clause-told g c =
-    told_unentered g.D.Device.CONTEXTS g.D.Device.seen c.in-Err.told c.args.self.now c.args.self.now c.args.client c.args.number c.args.bytes.now c.find_room.new.reply
-    (subst (λ (v : BrokerView g.row.D.Denot). TellsNoRoom c.in-Err.told v.limit v.journal c.args.bytes.now c.find_room.new.reply) c.self.view_is c.in-Err.ensures.err)
-    refl
+pub returns-in-Err : goal.returns-in-Err
+returns-in-Err g c = record {
+  told =
+      told_unentered g.D.Device.CONTEXTS g.D.Device.seen c.in-Err.told c.args.self.now c.args.self.now c.args.client c.args.number c.args.bytes.now c.find_room.new.reply
+      (subst (λ (v : BrokerView g.row.D.Denot). TellsNoRoom c.in-Err.told v.limit v.journal c.args.bytes.now c.find_room.new.reply) c.self.view_is c.in-Err.ensures.err)
+      refl;
+  answer = search rules;
+  last_answer = search rules;
+  unchanged = search rules;
+  keeps = search rules;
+  costs = search rules;
+  left = search rules;
+  fixed = search rules;
+}
 
 pub table-requires : goal.table-requires
 table-requires g c =
@@ -45,23 +54,32 @@ invariant_of-self g c =
       kept_same c.self.inside.journal.entries (command_entry c.args.client c.args.number Nothing c.args.bytes.now (error_reply c.in-Err-admit_client.code)) refl c.self.invariant.1,
     )
 
-pub returns-in-Err-admit_client-clause-told : goal.returns-in-Err-admit_client-clause-told
-returns-in-Err-admit_client-clause-told g c =
-    let ready = c.in_default.ensures.ok in
-    let refused = admitted_read g.D.Device.CONTEXTS c.CONTEXTS.result c.args.client _ _ c.self.inside.machine.held.sessions.items c.args.bytes.now c.admit_client.result c.CONTEXTS.ensures c.table.ensures c.admit_client.ensures.value ∙ c.in-Err-admit_client.is in
-    let e : Entry = command_entry c.args.client c.args.number Nothing c.args.bytes.now c.enter_refusal.new.reply in
-    let old : BrokerView g.row.D.Denot = record {
-      device = c.self.inside.machine.device;
-      journal = c.self.inside.journal.entries;
-      limit = c.self.inside.journal.limit;
-      tables = c.self.inside.tables.items;
-      held = c.self.inside.machine.held;
-      wrong_code = c.self.inside.wrong_code;
-      began = c.self.inside.began;
-    } in
-    entered_seen g.D.Device.seen {old = old} c.self.view_is
-    (entered_refused g.D.Device.seen old _ c.args.client c.args.number c.args.bytes.now c.enter_refusal.new.reply c.in-Err-admit_client.code refused c.enter_refusal.ensures.reply ready.0
-    (view_entered old c.enter_refusal.new.journal.entries c.enter_refusal.new.journal.limit e c.enter_refusal.ensures.entered c.enter_refusal.ensures.limit))
+pub returns-in-Err-admit_client : goal.returns-in-Err-admit_client
+returns-in-Err-admit_client g c = record {
+  told =
+      let ready = c.in_default.ensures.ok in
+      let refused = admitted_read g.D.Device.CONTEXTS c.CONTEXTS.result c.args.client _ _ c.self.inside.machine.held.sessions.items c.args.bytes.now c.admit_client.result c.CONTEXTS.ensures c.table.ensures c.admit_client.ensures.value ∙ c.in-Err-admit_client.is in
+      let e : Entry = command_entry c.args.client c.args.number Nothing c.args.bytes.now c.enter_refusal.new.reply in
+      let old : BrokerView g.row.D.Denot = record {
+        device = c.self.inside.machine.device;
+        journal = c.self.inside.journal.entries;
+        limit = c.self.inside.journal.limit;
+        tables = c.self.inside.tables.items;
+        held = c.self.inside.machine.held;
+        wrong_code = c.self.inside.wrong_code;
+        began = c.self.inside.began;
+      } in
+      entered_seen g.D.Device.seen {old = old} c.self.view_is
+      (entered_refused g.D.Device.seen old _ c.args.client c.args.number c.args.bytes.now c.enter_refusal.new.reply c.in-Err-admit_client.code refused c.enter_refusal.ensures.reply ready.0
+      (view_entered old c.enter_refusal.new.journal.entries c.enter_refusal.new.journal.limit e c.enter_refusal.ensures.entered c.enter_refusal.ensures.limit));
+  answer = search rules;
+  last_answer = search rules;
+  unchanged = search rules;
+  keeps = search rules;
+  costs = search rules;
+  left = search rules;
+  fixed = search rules;
+}
 
 pub invariant_of-seen : goal.invariant_of-seen
 invariant_of-seen g c =
@@ -82,21 +100,30 @@ invariant_of-self-then-is_err g c =
     let held = held_same c.self.inside.machine.held c.reserve.new.self.held items c.reserve.ensures.same.1 c.reserve.ensures.same.2 in
     rw (device, held, kept) c.self.invariant
 
-pub returns-then-is_err-clause-told : goal.returns-then-is_err-clause-told
-returns-then-is_err-clause-told g c =
-    let ready = c.in_default.ensures.ok in
-    let admitted = admitted_read g.D.Device.CONTEXTS c.CONTEXTS.result c.args.client _ _ c.self.inside.machine.held.sessions.items c.args.bytes.now c.admit_client.result c.CONTEXTS.ensures c.table.ensures c.admit_client.ensures.value ∙ c.in-Ok.is in
-    let failed = sym c.is_err.ensures.value ∙ c.if-is_err.true in
-    let grows = from_err c.reserve.result _ c.reserve.ensures.grows failed in
-    let kept = tables_same c.self.inside.tables.items c.args.client c.reserve.new.table.items (c.reserve.ensures.same.3 ∙ c.table_mut-table.ensures.value) in
-    let device = c.reserve.ensures.same.0 in
-    let items = from_err c.reserve.result _ c.reserve.ensures.err failed in
-    let held = held_same c.self.inside.machine.held c.reserve.new.self.held items c.reserve.ensures.same.1 c.reserve.ensures.same.2 in (
-      rw (device, held, kept) c.self.view_is,
-      record { reply_is = c.error_reply-then-is_err.ensures; makes = made_by g.D.Device.CONTEXTS _ c.args.bytes.now c.in-Ok.admitted admitted grows.0 },
-      subst (λ (v : BrokerView g.row.D.Denot). HasRoom v.limit v.journal c.args.bytes.now) c.self.view_is ready.0,
-      subst (λ (v : BrokerView g.row.D.Denot). IsAdmitted g.D.Device.CONTEXTS v c.args.client c.args.bytes.now) c.self.view_is (c.in-Ok.admitted, admitted),
-    )
+pub returns-then-is_err : goal.returns-then-is_err
+returns-then-is_err g c = record {
+  told =
+      let ready = c.in_default.ensures.ok in
+      let admitted = admitted_read g.D.Device.CONTEXTS c.CONTEXTS.result c.args.client _ _ c.self.inside.machine.held.sessions.items c.args.bytes.now c.admit_client.result c.CONTEXTS.ensures c.table.ensures c.admit_client.ensures.value ∙ c.in-Ok.is in
+      let failed = sym c.is_err.ensures.value ∙ c.if-is_err.true in
+      let grows = from_err c.reserve.result _ c.reserve.ensures.grows failed in
+      let kept = tables_same c.self.inside.tables.items c.args.client c.reserve.new.table.items (c.reserve.ensures.same.3 ∙ c.table_mut-table.ensures.value) in
+      let device = c.reserve.ensures.same.0 in
+      let items = from_err c.reserve.result _ c.reserve.ensures.err failed in
+      let held = held_same c.self.inside.machine.held c.reserve.new.self.held items c.reserve.ensures.same.1 c.reserve.ensures.same.2 in (
+        rw (device, held, kept) c.self.view_is,
+        record { reply_is = c.error_reply-then-is_err.ensures; makes = made_by g.D.Device.CONTEXTS _ c.args.bytes.now c.in-Ok.admitted admitted grows.0 },
+        subst (λ (v : BrokerView g.row.D.Denot). HasRoom v.limit v.journal c.args.bytes.now) c.self.view_is ready.0,
+        subst (λ (v : BrokerView g.row.D.Denot). IsAdmitted g.D.Device.CONTEXTS v c.args.client c.args.bytes.now) c.self.view_is (c.in-Ok.admitted, admitted),
+      );
+  answer = search rules;
+  last_answer = search rules;
+  unchanged = search rules;
+  keeps = search rules;
+  costs = search rules;
+  left = search rules;
+  fixed = search rules;
+}
 
 pub list-list-requires : goal.list-list-requires
 list-list-requires g c =
@@ -204,113 +231,122 @@ invariant_of-self-in-Err-Answer g c =
       c.self.invariant.1,
     )
 
-pub returns-in-Ok-answer-clause-told : goal.returns-in-Ok-answer-clause-told
-returns-in-Ok-answer-clause-told g c =
-    let opened = subst (λ (v : _). IsOpen v.journal c.args.client) (sym c.self.view_is) c.requires.present in
-    let ready = c.in_default.ensures.ok in
-    let is = sym (c.reserve.ensures.same.3 ∙ c.table_mut-table.ensures.value) in
-    let are = are_more _ _ c.reserve.ensures.items in
-    let device = c.reserve.ensures.same.0 in
-    let admitted = admitted_read g.D.Device.CONTEXTS c.CONTEXTS.result c.args.client _ _ c.self.inside.machine.held.sessions.items c.args.bytes.now c.admit_client.result c.CONTEXTS.ensures c.table.ensures c.admit_client.ensures.value ∙ c.in-Ok.is in
-    let done = c.in-Ok-answer.ensures in
-    let is_held = with_items_is c.self.inside.machine.held c.reserve.new.self.held c.reserve.ensures.same.1 c.reserve.ensures.same.2 in
-    let e : Entry = command_entry c.args.client c.args.number (pick_of c.in-Ok.admitted c.answer.new.reply) c.args.bytes.now c.answer.new.reply in
-    let old : BrokerView g.row.D.Denot = record {
-      device = c.self.inside.machine.device;
-      journal = c.self.inside.journal.entries;
-      limit = c.self.inside.journal.limit;
-      tables = c.self.inside.tables.items;
-      held = c.self.inside.machine.held;
-      wrong_code = c.self.inside.wrong_code;
-      began = c.self.inside.began;
-    } in
-    entered_seen g.D.Device.seen {old = old} c.self.view_is
-    (entered_carried g.D.Device.seen old _ c.args.client c.args.number c.args.bytes.now c.answer.new.reply c.in-Ok.admitted c.reserve.new.self.device c.reserve.new.self.held.objects.items _ c.answer.new.table.items
-    admitted ready.0 c.enter_reply.ensures.entered
-    (inside_tables c.args.client c.self.invariant.0 opened) device are c.reserve.ensures.none is_held is refl done.carries.did done.carries.stays)
+pub returns-in-Ok-answer : goal.returns-in-Ok-answer
+returns-in-Ok-answer g c = record {
+  told =
+      let opened = subst (λ (v : _). IsOpen v.journal c.args.client) (sym c.self.view_is) c.requires.present in
+      let ready = c.in_default.ensures.ok in
+      let is = sym (c.reserve.ensures.same.3 ∙ c.table_mut-table.ensures.value) in
+      let are = are_more _ _ c.reserve.ensures.items in
+      let device = c.reserve.ensures.same.0 in
+      let admitted = admitted_read g.D.Device.CONTEXTS c.CONTEXTS.result c.args.client _ _ c.self.inside.machine.held.sessions.items c.args.bytes.now c.admit_client.result c.CONTEXTS.ensures c.table.ensures c.admit_client.ensures.value ∙ c.in-Ok.is in
+      let done = c.in-Ok-answer.ensures in
+      let is_held = with_items_is c.self.inside.machine.held c.reserve.new.self.held c.reserve.ensures.same.1 c.reserve.ensures.same.2 in
+      let e : Entry = command_entry c.args.client c.args.number (pick_of c.in-Ok.admitted c.answer.new.reply) c.args.bytes.now c.answer.new.reply in
+      let old : BrokerView g.row.D.Denot = record {
+        device = c.self.inside.machine.device;
+        journal = c.self.inside.journal.entries;
+        limit = c.self.inside.journal.limit;
+        tables = c.self.inside.tables.items;
+        held = c.self.inside.machine.held;
+        wrong_code = c.self.inside.wrong_code;
+        began = c.self.inside.began;
+      } in
+      entered_seen g.D.Device.seen {old = old} c.self.view_is
+      (entered_carried g.D.Device.seen old _ c.args.client c.args.number c.args.bytes.now c.answer.new.reply c.in-Ok.admitted c.reserve.new.self.device c.reserve.new.self.held.objects.items _ c.answer.new.table.items
+      admitted ready.0 c.enter_reply.ensures.entered
+      (inside_tables c.args.client c.self.invariant.0 opened) device are c.reserve.ensures.none is_held is refl done.carries.did done.carries.stays);
+  answer = search rules;
+  last_answer = search rules;
+  unchanged = search rules;
+  keeps = search rules;
+  costs =
+      let is = sym (c.reserve.ensures.same.3 ∙ c.table_mut-table.ensures.value) in
+      let admitted = admitted_read g.D.Device.CONTEXTS c.CONTEXTS.result c.args.client _ _ c.self.inside.machine.held.sessions.items c.args.bytes.now c.admit_client.result c.CONTEXTS.ensures c.table.ensures c.admit_client.ensures.value ∙ c.in-Ok.is in
+      let is_held = with_items_is c.self.inside.machine.held c.reserve.new.self.held c.reserve.ensures.same.1 c.reserve.ensures.same.2 in
+      costs_admitted g.D.Device.seen c.args.client c.args.bytes.now c.in-Ok.admitted c.reserve.new.self.held.objects.items c.self.view_is admitted
+      c.reserve.ensures.same.0 (are_more _ _ c.reserve.ensures.items) is_held is c.in-Ok-answer.ensures.serves.costs c.in-Ok-answer.ensures.at_hand
+      c.in-Ok-answer.ensures.few;
+  left =
+      let are = are_more _ _ c.reserve.ensures.items in
+      let is_held = with_items_is c.self.inside.machine.held c.reserve.new.self.held c.reserve.ensures.same.1 c.reserve.ensures.same.2 in
+      subst (λ (v : BrokerView g.row.D.Denot). orphan_count c.answer.new.self.held ≤ orphan_count v.held) c.self.view_is
+      (left_more c.self.inside.machine.held c.reserve.new.self.held c.answer.new.self.held are is_held c.in-Ok-answer.ensures.serves.moves.orphans);
+  fixed = search rules;
+}
 
-pub returns-in-Err-Failed-clause-told : goal.returns-in-Err-Failed-clause-told
-returns-in-Err-Failed-clause-told g c =
-    let ready = c.in_default.ensures.ok in
-    let is = sym (c.reserve.ensures.same.3 ∙ c.table_mut-table.ensures.value) in
-    let device = c.reserve.ensures.same.0 in
-    let admitted = admitted_read g.D.Device.CONTEXTS c.CONTEXTS.result c.args.client _ _ c.self.inside.machine.held.sessions.items c.args.bytes.now c.admit_client.result c.CONTEXTS.ensures c.table.ensures c.admit_client.ensures.value ∙ c.in-Ok.is in
-    let done = c.in-Err-Failed.ensures in
-    let cause = subst (λ (e : SwapError). HasCause g.D.Device.CONTEXTS g.D.Device.seen e c.reserve.new.self.device c.answer.new.self.device) c.in-Err-Failed.field-0-is done.serves.cause in
-    let e : Entry = fault_entry c.args.client c.args.number c.fault_count-faults.result c.args.bytes.now c.enter_fault.new.reply in
-    let old : BrokerView g.row.D.Denot = record {
-      device = c.self.inside.machine.device;
-      journal = c.self.inside.journal.entries;
-      limit = c.self.inside.journal.limit;
-      tables = c.self.inside.tables.items;
-      held = c.self.inside.machine.held;
-      wrong_code = c.self.inside.wrong_code;
-      began = c.self.inside.began;
-    } in
-    let tables = tables_same c.self.inside.tables.items c.args.client c.answer.new.table.items (done.serves.stays.table_is ∙ sym is) in
-    let are = are_more _ _ c.reserve.ensures.items in
-    let sessions = done.serves.stays.sessions ∙ ap (λ (v : SessionsView). owned_handles v.items) c.reserve.ensures.same.2 in
-    let left = done.serves.stays.left ∙ ap (λ (v : SessionsView). v.left) c.reserve.ensures.same.2 in
-    let objects = owners_more c.self.inside.machine.held.objects.items c.reserve.new.self.held.objects.items c.answer.new.self.held.objects.items are done.serves.stays.objects in
-    let failed = subst (λ (d : _). Rose (g.D.Device.seen d).faults (g.D.Device.seen c.answer.new.self.device).faults × (last_of (g.D.Device.seen c.answer.new.self.device) ≡ None)) device cause in
-    let sent = subst (λ (d : _). FailsAtLast g.D.Device.CONTEXTS g.D.Device.seen d c.answer.new.self.device) device done.serves.fails in
-    entered_seen g.D.Device.seen {old = old} c.self.view_is
-    (entered_faulted g.D.Device.seen old _ c.args.client c.args.number c.fault_count-faults.result c.args.bytes.now c.enter_fault.new.reply c.in-Ok.admitted
-    admitted c.enter_fault.ensures.reply c.fault_count-faults.ensures ready.0 c.enter_fault.ensures.entered failed sent tables sessions left objects)
+pub returns-in-Err-Failed : goal.returns-in-Err-Failed
+returns-in-Err-Failed g c = record {
+  told =
+      let ready = c.in_default.ensures.ok in
+      let is = sym (c.reserve.ensures.same.3 ∙ c.table_mut-table.ensures.value) in
+      let device = c.reserve.ensures.same.0 in
+      let admitted = admitted_read g.D.Device.CONTEXTS c.CONTEXTS.result c.args.client _ _ c.self.inside.machine.held.sessions.items c.args.bytes.now c.admit_client.result c.CONTEXTS.ensures c.table.ensures c.admit_client.ensures.value ∙ c.in-Ok.is in
+      let done = c.in-Err-Failed.ensures in
+      let cause = subst (λ (e : SwapError). HasCause g.D.Device.CONTEXTS g.D.Device.seen e c.reserve.new.self.device c.answer.new.self.device) c.in-Err-Failed.field-0-is done.serves.cause in
+      let e : Entry = fault_entry c.args.client c.args.number c.fault_count-faults.result c.args.bytes.now c.enter_fault.new.reply in
+      let old : BrokerView g.row.D.Denot = record {
+        device = c.self.inside.machine.device;
+        journal = c.self.inside.journal.entries;
+        limit = c.self.inside.journal.limit;
+        tables = c.self.inside.tables.items;
+        held = c.self.inside.machine.held;
+        wrong_code = c.self.inside.wrong_code;
+        began = c.self.inside.began;
+      } in
+      let tables = tables_same c.self.inside.tables.items c.args.client c.answer.new.table.items (done.serves.stays.table_is ∙ sym is) in
+      let are = are_more _ _ c.reserve.ensures.items in
+      let sessions = done.serves.stays.sessions ∙ ap (λ (v : SessionsView). owned_handles v.items) c.reserve.ensures.same.2 in
+      let left = done.serves.stays.left ∙ ap (λ (v : SessionsView). v.left) c.reserve.ensures.same.2 in
+      let objects = owners_more c.self.inside.machine.held.objects.items c.reserve.new.self.held.objects.items c.answer.new.self.held.objects.items are done.serves.stays.objects in
+      let failed = subst (λ (d : _). Rose (g.D.Device.seen d).faults (g.D.Device.seen c.answer.new.self.device).faults × (last_of (g.D.Device.seen c.answer.new.self.device) ≡ None)) device cause in
+      let sent = subst (λ (d : _). FailsAtLast g.D.Device.CONTEXTS g.D.Device.seen d c.answer.new.self.device) device done.serves.fails in
+      entered_seen g.D.Device.seen {old = old} c.self.view_is
+      (entered_faulted g.D.Device.seen old _ c.args.client c.args.number c.fault_count-faults.result c.args.bytes.now c.enter_fault.new.reply c.in-Ok.admitted
+      admitted c.enter_fault.ensures.reply c.fault_count-faults.ensures ready.0 c.enter_fault.ensures.entered failed sent tables sessions left objects);
+  answer = search rules;
+  last_answer = search rules;
+  unchanged = search rules;
+  keeps = search rules;
+  costs =
+      let is = sym (c.reserve.ensures.same.3 ∙ c.table_mut-table.ensures.value) in
+      let admitted = admitted_read g.D.Device.CONTEXTS c.CONTEXTS.result c.args.client _ _ c.self.inside.machine.held.sessions.items c.args.bytes.now c.admit_client.result c.CONTEXTS.ensures c.table.ensures c.admit_client.ensures.value ∙ c.in-Ok.is in
+      let is_held = with_items_is c.self.inside.machine.held c.reserve.new.self.held c.reserve.ensures.same.1 c.reserve.ensures.same.2 in
+      costs_admitted g.D.Device.seen c.args.client c.args.bytes.now c.in-Ok.admitted c.reserve.new.self.held.objects.items c.self.view_is admitted
+      c.reserve.ensures.same.0 (are_more _ _ c.reserve.ensures.items) is_held is c.in-Err-Failed.ensures.serves.costs c.in-Err-Failed.ensures.at_hand
+      c.in-Err-Failed.ensures.few;
+  left =
+      let are = are_more _ _ c.reserve.ensures.items in
+      let is_held = with_items_is c.self.inside.machine.held c.reserve.new.self.held c.reserve.ensures.same.1 c.reserve.ensures.same.2 in
+      subst (λ (v : BrokerView g.row.D.Denot). orphan_count c.answer.new.self.held ≤ orphan_count v.held) c.self.view_is
+      (left_more c.self.inside.machine.held c.reserve.new.self.held c.answer.new.self.held are is_held c.in-Err-Failed.ensures.serves.moves.orphans);
+  fixed = search rules;
+}
 
-pub returns-in-Err-Answer-clause-told : goal.returns-in-Err-Answer-clause-told
-returns-in-Err-Answer-clause-told g c =
-    let is = sym (c.reserve.ensures.same.3 ∙ c.table_mut-table.ensures.value) in
-    let tables = tables_same c.self.inside.tables.items c.args.client c.answer.new.table.items (c.in-Err-Answer.ensures.serves.stays.table_is ∙ sym is) in (
-      ap (λ (v : BrokerView g.row.D.Denot). v.journal) c.self.view_is,
-      c.error_reply-in-Err-Answer.ensures,
-      tables ∙ ap (λ (v : BrokerView g.row.D.Denot). v.tables) c.self.view_is,
-    )
-
-pub returns-in-Ok-answer-clause-left : goal.returns-in-Ok-answer-clause-left
-returns-in-Ok-answer-clause-left g c =
-    let are = are_more _ _ c.reserve.ensures.items in
-    let is_held = with_items_is c.self.inside.machine.held c.reserve.new.self.held c.reserve.ensures.same.1 c.reserve.ensures.same.2 in
-    subst (λ (v : BrokerView g.row.D.Denot). orphan_count c.answer.new.self.held ≤ orphan_count v.held) c.self.view_is
-    (left_more c.self.inside.machine.held c.reserve.new.self.held c.answer.new.self.held are is_held c.in-Ok-answer.ensures.serves.moves.orphans)
-
-pub returns-in-Err-Failed-clause-left : goal.returns-in-Err-Failed-clause-left
-returns-in-Err-Failed-clause-left g c =
-    let are = are_more _ _ c.reserve.ensures.items in
-    let is_held = with_items_is c.self.inside.machine.held c.reserve.new.self.held c.reserve.ensures.same.1 c.reserve.ensures.same.2 in
-    subst (λ (v : BrokerView g.row.D.Denot). orphan_count c.answer.new.self.held ≤ orphan_count v.held) c.self.view_is
-    (left_more c.self.inside.machine.held c.reserve.new.self.held c.answer.new.self.held are is_held c.in-Err-Failed.ensures.serves.moves.orphans)
-
-pub returns-in-Err-Answer-clause-left : goal.returns-in-Err-Answer-clause-left
-returns-in-Err-Answer-clause-left g c =
-    let are = are_more _ _ c.reserve.ensures.items in
-    let is_held = with_items_is c.self.inside.machine.held c.reserve.new.self.held c.reserve.ensures.same.1 c.reserve.ensures.same.2 in
-    subst (λ (v : BrokerView g.row.D.Denot). orphan_count c.answer.new.self.held ≤ orphan_count v.held) c.self.view_is
-    (left_more c.self.inside.machine.held c.reserve.new.self.held c.answer.new.self.held are is_held c.in-Err-Answer.ensures.serves.moves.orphans)
-
-pub returns-in-Ok-answer-clause-costs : goal.returns-in-Ok-answer-clause-costs
-returns-in-Ok-answer-clause-costs g c =
-    let is = sym (c.reserve.ensures.same.3 ∙ c.table_mut-table.ensures.value) in
-    let admitted = admitted_read g.D.Device.CONTEXTS c.CONTEXTS.result c.args.client _ _ c.self.inside.machine.held.sessions.items c.args.bytes.now c.admit_client.result c.CONTEXTS.ensures c.table.ensures c.admit_client.ensures.value ∙ c.in-Ok.is in
-    let is_held = with_items_is c.self.inside.machine.held c.reserve.new.self.held c.reserve.ensures.same.1 c.reserve.ensures.same.2 in
-    costs_admitted g.D.Device.seen c.args.client c.args.bytes.now c.in-Ok.admitted c.reserve.new.self.held.objects.items c.self.view_is admitted
-    c.reserve.ensures.same.0 (are_more _ _ c.reserve.ensures.items) is_held is c.in-Ok-answer.ensures.serves.costs c.in-Ok-answer.ensures.at_hand
-    c.in-Ok-answer.ensures.few
-
-pub returns-in-Err-Failed-clause-costs : goal.returns-in-Err-Failed-clause-costs
-returns-in-Err-Failed-clause-costs g c =
-    let is = sym (c.reserve.ensures.same.3 ∙ c.table_mut-table.ensures.value) in
-    let admitted = admitted_read g.D.Device.CONTEXTS c.CONTEXTS.result c.args.client _ _ c.self.inside.machine.held.sessions.items c.args.bytes.now c.admit_client.result c.CONTEXTS.ensures c.table.ensures c.admit_client.ensures.value ∙ c.in-Ok.is in
-    let is_held = with_items_is c.self.inside.machine.held c.reserve.new.self.held c.reserve.ensures.same.1 c.reserve.ensures.same.2 in
-    costs_admitted g.D.Device.seen c.args.client c.args.bytes.now c.in-Ok.admitted c.reserve.new.self.held.objects.items c.self.view_is admitted
-    c.reserve.ensures.same.0 (are_more _ _ c.reserve.ensures.items) is_held is c.in-Err-Failed.ensures.serves.costs c.in-Err-Failed.ensures.at_hand
-    c.in-Err-Failed.ensures.few
-
-pub returns-in-Err-Answer-clause-costs : goal.returns-in-Err-Answer-clause-costs
-returns-in-Err-Answer-clause-costs g c =
-    let is = sym (c.reserve.ensures.same.3 ∙ c.table_mut-table.ensures.value) in
-    let admitted = admitted_read g.D.Device.CONTEXTS c.CONTEXTS.result c.args.client _ _ c.self.inside.machine.held.sessions.items c.args.bytes.now c.admit_client.result c.CONTEXTS.ensures c.table.ensures c.admit_client.ensures.value ∙ c.in-Ok.is in
-    let is_held = with_items_is c.self.inside.machine.held c.reserve.new.self.held c.reserve.ensures.same.1 c.reserve.ensures.same.2 in
-    costs_admitted g.D.Device.seen c.args.client c.args.bytes.now c.in-Ok.admitted c.reserve.new.self.held.objects.items c.self.view_is admitted
-    c.reserve.ensures.same.0 (are_more _ _ c.reserve.ensures.items) is_held is c.in-Err-Answer.ensures.serves.costs c.in-Err-Answer.ensures.at_hand
-    c.in-Err-Answer.ensures.few
+pub returns-in-Err-Answer : goal.returns-in-Err-Answer
+returns-in-Err-Answer g c = record {
+  told =
+      let is = sym (c.reserve.ensures.same.3 ∙ c.table_mut-table.ensures.value) in
+      let tables = tables_same c.self.inside.tables.items c.args.client c.answer.new.table.items (c.in-Err-Answer.ensures.serves.stays.table_is ∙ sym is) in (
+        ap (λ (v : BrokerView g.row.D.Denot). v.journal) c.self.view_is,
+        c.error_reply-in-Err-Answer.ensures,
+        tables ∙ ap (λ (v : BrokerView g.row.D.Denot). v.tables) c.self.view_is,
+      );
+  answer = search rules;
+  last_answer = search rules;
+  unchanged = search rules;
+  keeps = search rules;
+  costs =
+      let is = sym (c.reserve.ensures.same.3 ∙ c.table_mut-table.ensures.value) in
+      let admitted = admitted_read g.D.Device.CONTEXTS c.CONTEXTS.result c.args.client _ _ c.self.inside.machine.held.sessions.items c.args.bytes.now c.admit_client.result c.CONTEXTS.ensures c.table.ensures c.admit_client.ensures.value ∙ c.in-Ok.is in
+      let is_held = with_items_is c.self.inside.machine.held c.reserve.new.self.held c.reserve.ensures.same.1 c.reserve.ensures.same.2 in
+      costs_admitted g.D.Device.seen c.args.client c.args.bytes.now c.in-Ok.admitted c.reserve.new.self.held.objects.items c.self.view_is admitted
+      c.reserve.ensures.same.0 (are_more _ _ c.reserve.ensures.items) is_held is c.in-Err-Answer.ensures.serves.costs c.in-Err-Answer.ensures.at_hand
+      c.in-Err-Answer.ensures.few;
+  left =
+      let are = are_more _ _ c.reserve.ensures.items in
+      let is_held = with_items_is c.self.inside.machine.held c.reserve.new.self.held c.reserve.ensures.same.1 c.reserve.ensures.same.2 in
+      subst (λ (v : BrokerView g.row.D.Denot). orphan_count c.answer.new.self.held ≤ orphan_count v.held) c.self.view_is
+      (left_more c.self.inside.machine.held c.reserve.new.self.held c.answer.new.self.held are is_held c.in-Err-Answer.ensures.serves.moves.orphans);
+  fixed = search rules;
+}
