@@ -197,21 +197,34 @@ view_closed old seen client journal limit tables is_journal is_limit is_tables i
 
 -- ---- what is kept of the sessions, and what was sent
 
-pub behind_from : {D : Type 0} {old seen : BrokerView D} (new_items : List (Option sessions.Item)) → old ≡ seen
+pub behind_from : {D : Type 0} {old seen : BrokerView D} (new_items : List (Option sessions.Item))
+    → old ≡ seen
     → LeavesThem old.held.sessions.items new_items → LeavesThem seen.held.sessions.items new_items
-behind_from {D = D} new_items is behind = subst (λ (v : BrokerView D). LeavesThem v.held.sessions.items new_items) is behind
+behind_from {D = D} new_items is behind =
+    subst (λ (v : BrokerView D). LeavesThem v.held.sessions.items new_items) is behind
 
 pub leaves_same : (items : List (Option sessions.Item)) → LeavesThem items items
-leaves_same items = leaves_them PROFILE_CONTEXTS [] items items (λ number. remains_same PROFILE_CONTEXTS [] (sessions.item_at items number))
+leaves_same items =
+    leaves_them PROFILE_CONTEXTS [] items items (λ number. remains_same PROFILE_CONTEXTS [] (sessions.item_at items number))
 
-pub sent_from : {contexts : ContextLimits} {D : Type 0} {seen : D → Seen} {old now : BrokerView D} {device : D} {new_items : List (Option sessions.Item)} {wrong : Bool}
-    → old ≡ now → SendsFlushes contexts seen old.device device old.held.sessions.items new_items wrong
+pub sent_from : {contexts : ContextLimits} {D : Type 0} {seen : D → Seen} {old now : BrokerView D}
+    {device : D} {new_items : List (Option sessions.Item)} {wrong : Bool}
+    → old ≡ now
+    → SendsFlushes contexts seen old.device device old.held.sessions.items new_items wrong
     → SendsFlushes contexts seen now.device device now.held.sessions.items new_items wrong
-sent_from {contexts = contexts} {D = D} {seen = seen} {device = device} {new_items = new_items} {wrong = wrong} is sent =
-    subst (λ (v : BrokerView D). SendsFlushes contexts seen v.device device v.held.sessions.items new_items wrong) is sent
+sent_from {contexts = contexts} {D = D} {seen = seen} {device = device} {new_items = new_items}
+    {wrong = wrong} is sent =
+    subst (λ (v : BrokerView D). SendsFlushes contexts seen v.device device v.held.sessions.items
+        new_items wrong) is sent
 
 -- nothing, after a wrong answer
-pub none_sent : {contexts : ContextLimits} {D : Type 0} (seen : D → Seen) (device : D) (items : List (Option sessions.Item))
+pub none_sent : {contexts : ContextLimits} {D : Type 0} (seen : D → Seen) (device : D)
+    (items : List (Option sessions.Item))
     → SendsFlushes contexts seen device device items items true
 none_sent {contexts = contexts} seen device items =
-    record { sent = []; trace_is = refl; each = tt; flushed = λ number. remains_same contexts [] (sessions.item_at items number) }
+    record {
+      sent = [];
+      trace_is = refl;
+      each = tt;
+      flushed = λ number. remains_same contexts [] (sessions.item_at items number);
+    }

@@ -301,8 +301,9 @@ TellsLeft (closes.Orphans count) held new_held =
     (count ≡ orphan_count new_held) × (orphan_count held < orphan_count new_held) × HasLeft held new_held
 TellsLeft closes.Answer held new_held = Unit {0}
 
--- what a close leaves of all sessions: those of other clients stay where they are, each that is left is what it was, and without a wrong
--- answer those that this client saved are left behind the ones that were left already, without the longest left ones past the limit
+-- what a close leaves of all sessions: those of other clients stay where they are, each that is left
+-- is what it was, and without a wrong answer those that this client saved are left behind the ones
+-- that were left already, without the longest left ones past the limit
 pub record LeavesSessions (client : ℕ) (told : Closed) (held new_held : Held) : Type 0 where
   pub others : KeepsOthers client held.sessions.items new_held.sessions.items
   pub left : (told ≡ closes.Answer → ⊥) → new_held.sessions.left ≡ left_after client held.sessions
