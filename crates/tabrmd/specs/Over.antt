@@ -1,8 +1,6 @@
--- What words came to over a device of which no more is said than what its contexts may be, and what its history begins from.
-use Rattle.std.specs.Prelude.{◌≤◌, ◌<◌, ℕ, List, Option}
-use Rattle.tab_spec.specs.declared.contexts.ContextLimits.{ContextLimits}
+-- What words came to over the device of a target.
+use Rattle.std.specs.Prelude.{◌≡◌, ◌≤◌, ◌<◌, ℕ, List, Option, IfNone}
 use Rattle.history_spec.specs.Entry.{Entry}
-use Rattle.broker_lock.specs.Known.{Origin}
 use Rattle.device_port.specs.Device.{Seen}
 use Rattle.accept_loop.specs.Connections.{Ends}
 use Rattle.accept_loop.specs.declared.serving.LinkDone.{LinkDone}
@@ -10,34 +8,82 @@ use Rattle.link_pool.specs.Services.{IsServed, client_of, given_of}
 use Rattle.link_pool.specs.declared.done.Service.{Service}
 use Rattle.command_line.specs.declared.words.Plan.{Plan}
 use Rattle.tab_server.specs.Done.{IsServe, LeavesPlan}
-use Rattle.tab_server.specs.Run.{after_of, before_of}
+use Rattle.tab_server.specs.Run.{After, Before, after_of, before_of}
 use Rattle.tab_server.specs.Serving.{IsLinkDone, LeavesPool, LeavesServe}
+use Rattle.tab_server.specs.Status.{EndsStart}
 use Rattle.tab_server.specs.declared.serving.TheConstants.{LINKS_MOST}
+use Rattle.broker_lock.specs.Known.{Fixed}
+use Rattle.tabrmd.specs.declared.target.Target.{Target}
+use Rattle.tabrmd.specs.Found.{contexts_of, origin_at, seen_at}
 
--- What a plan came to is what the top call leaves over a device with these contexts, whose history begins from `base`. `old` and `new`
--- are what the input and the output tell before and after, and `left`, `written`, `source_faults` and `sink_faults` are what the two
--- ends of a connection tell.
-pub record IsOver {S K : Type 0} (contexts : ContextLimits) (base : Option Origin) (plan : Plan) (left : S → Option (List ℕ)) (written : K → Option (List ℕ))
-    (source_faults : S → ℕ) (sink_faults : K → ℕ) (old new : Ends) (coming coming_new : Option (List (S × K)))
-    (accept accept_new status detail : ℕ) : Type 0 where
-  -- The device's fault count at first, what it tells at the end, the journal, and the connections.
-  pub began : ℕ
+-- what is told around the device: by the input and the output, and by the acceptor, the connections
+-- that are still to come and
+-- how often it has failed
+pub record Around (L : Type 0) : Type 0 where
+  pub ends : Ends
+  pub coming : Option (List L)
+  pub accept : ℕ
+
+abbrev pub around : {A I O L : Type 0} → (ends : I → O → Ends) → (coming : A → Option (List L))
+    → (accept : A → ℕ) → A → I → O → Around L
+around ends coming accept acceptor input output = record {
+  ends = ends input output;
+  coming =
+      coming acceptor;
+  accept = accept acceptor;
+}
+
+-- what there was before, over the device of this target
+abbrev pub before_at : {S K L : Type 0} → Target S K → Around L → Before
+before_at target old = before_of (contexts_of target) (origin_at target)
+    (seen_at target).faults old.ends.left old.ends.source_faults old.ends.written
+    old.ends.sink_faults
+
+-- what there is after it, where the device tells this
+abbrev pub after_at : {L : Type 0} → Seen → Around L → After
+after_at seen new = after_of seen new.ends.left new.ends.source_faults new.ends.written
+    new.ends.sink_faults
+
+-- what stays as it is while connections are served over it
+abbrev pub fixed_at : {S K : Type 0} → Target S K → Plan → Fixed
+fixed_at target plan = record {
+  base = origin_at target;
+  limit = plan.limit;
+  began =
+      (seen_at target).faults;
+  contexts = contexts_of target;
+}
+
+-- What a plan came to is what the top call leaves over the device of this target. `left`,
+-- `written`, `source_faults` and `sink_faults`
+-- are what the two ends of a connection tell, and `old` and `new` what is told around the device
+-- before and after.
+pub record IsOver {S K In Out : Type 0} (target : Target S K) (plan : Plan) (left : In
+    → Option (List ℕ)) (written : Out → Option (List ℕ))
+    (source_faults : In → ℕ) (sink_faults : Out
+    → ℕ) (old new : Around (In × Out)) (status detail : ℕ) : Type 0 where
+  -- What the device tells at the end, the journal, and the connections.
   pub seen : Seen
   pub journal : Option (List Entry)
-  pub links : List (LinkDone S K)
-  pub served : List (Service S K)
-  -- Words of `run` and `workload`, those of `serve`, and those of `serve` where nothing is kept of a connection that is over.
-  pub leaves : (IsServe plan.job → ⊥) → LeavesPlan plan (before_of contexts base began old.left old.source_faults old.written old.sink_faults)
-      (after_of seen new.left new.source_faults new.written new.sink_faults) status detail journal
+  pub links : List (LinkDone In Out)
+  pub served : List (Service In Out)
+  -- Words of `run` and `workload`, those of `serve`, and those of `serve` where nothing is kept of
+  -- a connection that is over.
+  pub leaves : (IsServe plan.job → ⊥) → LeavesPlan plan (before_at target old)
+      (after_at seen new) status detail journal
   pub serves : IsServe plan.job → plan.connections ≤ LINKS_MOST
-      → LeavesServe (IsLinkDone left written source_faults sink_faults (record { base = base; limit = plan.limit; began = began; contexts = contexts }))
+      → LeavesServe (IsLinkDone left written source_faults sink_faults (fixed_at target plan))
       (λ link. link.client) (λ link. link.ending) plan.audit plan.connections
-      (before_of contexts base began old.left old.source_faults old.written old.sink_faults)
-      (after_of seen new.left new.source_faults new.written new.sink_faults)
-      coming coming_new accept accept_new status detail journal links
+      (before_at target old) (after_at seen new)
+      old.coming new.coming old.accept new.accept status detail journal links
   pub pool : IsServe plan.job → LINKS_MOST < plan.connections
-      → LeavesPool (IsServed left written source_faults sink_faults (record { base = base; limit = plan.limit; began = began; contexts = contexts }))
-      given_of client_of (λ s. s.ending) plan.audit plan.connections
-      (before_of contexts base began old.left old.source_faults old.written old.sink_faults)
-      (after_of seen new.left new.source_faults new.written new.sink_faults)
-      coming coming_new accept accept_new status detail journal served
+      → LeavesPool (IsServed left written source_faults sink_faults (fixed_at target plan))
+      given_of client_of (λ s. s.ending) plan.audit plan.connections (before_at target old)
+      (after_at seen new)
+      old.coming new.coming old.accept new.accept status detail journal served
+  -- Words of `run` and `workload` accept nobody.
+  pub accepts : (IsServe plan.job → ⊥) → (new.coming ≡ old.coming) × (new.accept ≡ old.accept)
+  -- Where the broker didn't begin, the status tells how far the start came, and all around the
+  -- device is as it was.
+  pub none : IfNone journal (EndsStart (contexts_of target) (λ s. s) status detail
+      (seen_at target) seen × (new ≡ old))

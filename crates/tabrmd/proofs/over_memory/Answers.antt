@@ -1,5 +1,5 @@
 use Rattle.std.proofs.Common.{Some, [], ap, arith, map, subst}
-use Rattle.std.specs.Prelude.{◌≡◌, ◌≢◌, ◌≤◌, ◌<◌, IfSome}
+use Rattle.std.specs.Prelude.{◌≡◌, ◌≢◌, ◌≤◌, ◌<◌, IfNone, IfSome}
 use Rattle.std.specs.Option.{option_map}
 use Rattle.std.specs.String.{string_bytes}
 use Rattle.tab_spec.specs.Numbers.{profile_numbers}
@@ -10,6 +10,7 @@ use Rattle.link_pool.specs.Services.{IsServed, client_of, given_of}
 use Rattle.command_line.specs.Words.{accepted}
 use Rattle.tab_server.specs.Done.{IsServe, LeavesPlan}
 use Rattle.tab_server.specs.Run.{after_of, before_of}
+use Rattle.tab_server.specs.Status.{EndsStart}
 use Rattle.tab_server.specs.Serving.{IsLinkDone, LeavesPool, LeavesServe}
 use Rattle.tab_server.specs.declared.serving.TheConstants.{LINKS_MOST}
 use Rattle.tab_server.proofs.Doing.{cause_by, sound_by}
@@ -65,6 +66,15 @@ returns-clause-pool g c =
     (g.A.Acceptor.faults c.args.acceptor.now) (g.A.Acceptor.faults c.tabrmd.new.acceptor)
     ran.status ran.detail (option_map (λ (journal : JournalView). journal.entries) ran.journal) ran.served.value))
     c.in_ok-device.ensures c.tabrmd.ensures.pool
+
+pub returns-clause-none : goal.returns-clause-none
+returns-clause-none g c =
+    let ran = c.tabrmd.result in
+    subst
+    (λ (device : DeviceInMemory). IfNone ran.journal (EndsStart PROFILE_CONTEXTS told_by ran.status ran.detail device ran.device
+    × (c.tabrmd.new.acceptor ≡ c.args.acceptor.now) × (c.tabrmd.new.input ≡ c.args.input.now) × (c.tabrmd.new.output ≡ c.args.output.now)
+    × (ran.links.items ≡ [])))
+    c.in_ok-device.ensures c.tabrmd.ensures.none
 
 -- a device in memory shows its state, and its numbers stay in range
 pub returns-clause-right : goal.returns-clause-right
