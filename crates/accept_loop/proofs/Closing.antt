@@ -14,7 +14,8 @@ use Rattle.cancel_words.specs.View.{WordView}
 use Rattle.connection_core.specs.declared.ends.Ending.{Ending}
 use Rattle.broker_lock.specs.Serves.{IsAnswered, IsFailed}
 use Rattle.connection_core.specs.Links.{AreEntriesFrom, IsCanceledUpTo, IsEntryOf}
-use Rattle.accept_loop.specs.Connections.{AreEnough, AreServed, Ends, HasClient, HasPerhapsClient, HasServed, IsLink, IsLinkDone, client_of, is_of, links_of}
+use Rattle.accept_loop.specs.Connections.{AreEnough, AreServed, Ends, HasClient, HasPerhapsClient}
+use Rattle.accept_loop.specs.Connections.{HasServed, IsLink, IsLinkDone, client_of, is_of, links_of}
 use Rattle.accept_loop.specs.declared.serving.AcceptError.{AcceptError}
 use Rattle.accept_loop.specs.declared.serving.LinkDone.{LinkDone}
 use Rattle.accept_loop.specs.Passes.{ServesAll}
@@ -166,25 +167,43 @@ module _ {X E F : Type 0} (P : E → F → Type 0) (one : Result X E) (other : R
   failed_mapped faults faults_new faults_given f given_is err fault = subst (λ (n : ℕ). Rose faults n) given_is (on_err_mapped (Rose faults faults_new) f err fault)
 
 -- an error that each error becomes is no other one
-pub never_mapped : {X E F : Type 0} (one : Result X E) (other : Result X F) (always never : F) → MatchResult one (λ x. other ≡ Ok x) (λ e. IsErrAnd other (λ f. f ≡ always)) → (always ≡ never → ⊥) → other ≡ Err never → ⊥
-never_mapped {X} {E} {F} (Ok x) other always never is apart err = let no : Ok x ≡ Err never = sym is ∙ err in cc
+pub never_mapped : {X E F : Type 0} (one : Result X E) (other : Result X F) (always never : F)
+    → MatchResult one (λ x. other ≡ Ok x) (λ e. IsErrAnd other (λ f. f ≡ always))
+    → (always ≡ never → ⊥) → other ≡ Err never → ⊥
+never_mapped {X} {E} {F} (Ok x) other always never is apart err =
+    let no : Ok x ≡ Err never = sym is ∙ err in cc
 never_mapped (Err e) (Ok y) always never is apart err = absurd is
-never_mapped (Err e) (Err f) always never is apart err = apart (sym is ∙ (let same : Err f ≡ Err never = err in cc))
+never_mapped (Err e) (Err f) always never is apart err =
+    apart (sym is ∙ (let same : Err f ≡ Err never = err in cc))
 
 -- ---- a value in a box
 
 -- what serving leaves over a value in a box, told of the value itself
-pub has_served_as : {A B C S K : Type 0} {legal : Origin → List Entry → Type 0} {fixed : B → Fixed} {wrong : B → Bool} {history : B → List Entry} {coming : A → Option (List (S × K))} {faults : A → ℕ}
-    {left : S → Option (List ℕ)} {written : K → Option (List ℕ)} {source_faults : S → ℕ} {sink_faults : K → ℕ} {most : ℕ} {acceptor acceptor_new : A} {accepted : Result (Unit {0}) AcceptError} {links : List (LinkDone S K)}
-    (fixed_of : C → Fixed) (wrong_of : C → Bool) (history_of : C → List Entry) (value value_new : B) (other other_new : C)
-    → fixed value ≡ fixed_of other → fixed value_new ≡ fixed_of other_new → wrong value_new ≡ wrong_of other_new → history value_new ≡ history_of other_new → (value_new ≡ value → other_new ≡ other)
-    → HasServed legal fixed wrong history coming faults left written source_faults sink_faults most value value_new acceptor acceptor_new accepted links
-    → HasServed legal fixed_of wrong_of history_of coming faults left written source_faults sink_faults most other other_new acceptor acceptor_new accepted links
-has_served_as {legal = legal} {fixed = fixed} {wrong = wrong} {history = history} {coming = coming} {left = left} {written = written} {source_faults = source_faults} {sink_faults = sink_faults} {most = most}
-    {acceptor = acceptor} {acceptor_new = acceptor_new} {links = links} fixed_of wrong_of history_of value value_new other other_new begins same same_wrong words back s = record {
+pub has_served_as : {A B C S K : Type 0} {legal : Origin → List Entry → Type 0} {fixed : B → Fixed}
+    {wrong : B → Bool} {history : B → List Entry} {coming : A → Option (List (S × K))}
+    {faults : A → ℕ} {left : S → Option (List ℕ)} {written : K → Option (List ℕ)}
+    {source_faults : S → ℕ} {sink_faults : K → ℕ} {most : ℕ} {acceptor acceptor_new : A}
+    {accepted : Result (Unit {0}) AcceptError} {links : List (LinkDone S K)}
+    (fixed_of : C → Fixed) (wrong_of : C → Bool) (history_of : C → List Entry) (value value_new : B)
+    (other other_new : C)
+    → fixed value ≡ fixed_of other → fixed value_new ≡ fixed_of other_new
+    → wrong value_new ≡ wrong_of other_new → history value_new ≡ history_of other_new
+    → (value_new ≡ value → other_new ≡ other)
+    → HasServed legal fixed wrong history coming faults left written source_faults sink_faults most
+    value value_new acceptor acceptor_new accepted links
+    → HasServed legal fixed_of wrong_of history_of coming faults left written source_faults
+    sink_faults most other other_new acceptor acceptor_new accepted links
+has_served_as {legal = legal} {fixed = fixed} {wrong = wrong} {history = history} {coming = coming}
+    {left = left} {written = written} {source_faults = source_faults} {sink_faults = sink_faults}
+    {most = most}
+    {acceptor = acceptor} {acceptor_new = acceptor_new} {links = links} fixed_of wrong_of history_of
+    value value_new other other_new begins same same_wrong words back s = record {
       fixed_is = sym same ∙ s.fixed_is ∙ begins;
-      is_legal = subst (λ (f : Fixed). IsLegalOver legal f.base (history_of other_new)) begins (subst (λ (h : List Entry). IsLegalOver legal (fixed value).base h) words s.is_legal);
-      served = served_as (IsLinkDone left written source_faults sink_faults) client_of (fixed value) (fixed_of other) (wrong value_new) (wrong_of other_new) (history value_new) (history_of other_new)
+      is_legal = subst (λ (f : Fixed). IsLegalOver legal f.base (history_of other_new)) begins
+          (subst (λ (h : List Entry). IsLegalOver legal (fixed value).base h) words s.is_legal);
+      served = served_as (IsLinkDone left written source_faults sink_faults) client_of (fixed value)
+          (fixed_of other) (wrong value_new) (wrong_of other_new) (history value_new)
+          (history_of other_new)
           (coming acceptor) (coming acceptor_new) most links begins same_wrong words s.served;
       closed = subst (λ (h : List Entry). (clients_of h).present ≡ []) words s.closed;
       enough = s.enough;
@@ -193,9 +212,18 @@ has_served_as {legal = legal} {fixed = fixed} {wrong = wrong} {history = history
       memory = λ err. let none = s.memory err in (none.0, none.1, back none.2);
     }
   where
-    served_as : {L M : Type 0} (is_link : Fixed → Bool → List Entry → L → M → Type 0) (client_of : M → Option ℕ) (fixed other : Fixed) (wrong other_wrong : Bool) (history told : List Entry) (coming coming_new : Option (List L)) (most : ℕ) (links : List M)
-        → fixed ≡ other → wrong ≡ other_wrong → history ≡ told → AreServed (is_link fixed wrong history) client_of history coming coming_new most links → AreServed (is_link other other_wrong told) client_of told coming coming_new most links
-    served_as is_link client_of fixed other wrong other_wrong history told coming coming_new most links same same_wrong words served =
-        subst (λ (f : Fixed). AreServed (is_link f other_wrong told) client_of told coming coming_new most links) same
-        (subst (λ (w : Bool). AreServed (is_link fixed w told) client_of told coming coming_new most links) same_wrong
-        (subst (λ (h : List Entry). AreServed (is_link fixed wrong h) client_of h coming coming_new most links) words served))
+    served_as : {L M : Type 0} (is_link : Fixed → Bool → List Entry → L → M → Type 0)
+        (client_of : M → Option ℕ) (fixed other : Fixed) (wrong other_wrong : Bool)
+        (history told : List Entry) (coming coming_new : Option (List L)) (most : ℕ)
+        (links : List M)
+        → fixed ≡ other → wrong ≡ other_wrong → history ≡ told
+        → AreServed (is_link fixed wrong history) client_of history coming coming_new most links
+        → AreServed (is_link other other_wrong told) client_of told coming coming_new most links
+    served_as is_link client_of fixed other wrong other_wrong history told coming coming_new most
+        links same same_wrong words served =
+        subst (λ (f : Fixed). AreServed (is_link f other_wrong told) client_of told coming
+        coming_new most links) same
+        (subst (λ (w : Bool). AreServed (is_link fixed w told) client_of told coming coming_new most
+        links) same_wrong
+        (subst (λ (h : List Entry). AreServed (is_link fixed wrong h) client_of h coming coming_new
+        most links) words served))

@@ -1,8 +1,10 @@
 -- What comes of serving the connections that an acceptor hands out, by the journal at the end.
-use Rattle.std.specs.Prelude.{◌≡◌, ◌≤◌, ◌⊎◌, ℕ, ◌==◌, Bool, true, false, cond, List, [], ◌∷◌, ◌++◌, length, Option, Some, None, Result, Err, OnOk}
+use Rattle.std.specs.Prelude.{◌≡◌, ◌≤◌, ◌⊎◌, ℕ, ◌==◌, Bool, true, false, cond, List, [], ◌∷◌, ◌++◌}
+use Rattle.std.specs.Prelude.{length, Option, Some, None, Result, Err, OnOk}
 use Rattle.std.specs.List.{AllZip, count_by}
 use Rattle.tab_spec.specs.Count.{Rose}
-use Rattle.history_spec.specs.Entry.{Entry, HasRoomForClient, clients_of, close_entry, kept, open_entry, own}
+use Rattle.history_spec.specs.Entry.{Entry, HasRoomForClient, clients_of, close_entry, kept}
+use Rattle.history_spec.specs.Entry.{open_entry, own}
 use Rattle.broker_lock.specs.Known.{Fixed, IsLegalOver, IsUntold, Origin, knows}
 use Rattle.cancel_words.specs.View.{WordView}
 use Rattle.connection_core.specs.declared.ends.Ending.{Ending}
@@ -63,9 +65,12 @@ pub record IsLink (fixed : Fixed) (wrong : Bool) (journal : List Entry) (given l
   pub cause : HasCause ending given.source_faults left.source_faults given.sink_faults left.sink_faults
 
 -- the same by what its two ends tell, as they were accepted and as they were left
-abbrev pub IsLinkDone : {S K : Type 0} → (left : S → Option (List ℕ)) → (written : K → Option (List ℕ)) → (source_faults : S → ℕ) → (sink_faults : K → ℕ) → Fixed → (wrong : Bool) → List Entry → S × K → LinkDone S K → Type 0
+abbrev pub IsLinkDone : {S K : Type 0} → (left : S → Option (List ℕ))
+    → (written : K → Option (List ℕ)) → (source_faults : S → ℕ) → (sink_faults : K → ℕ) → Fixed
+    → (wrong : Bool) → List Entry → S × K → LinkDone S K → Type 0
 IsLinkDone left written source_faults sink_faults fixed wrong journal given link =
-    IsLink fixed wrong journal (ends_of left written source_faults sink_faults given.0 given.1) (ends_of left written source_faults sink_faults link.source link.sink)
+    IsLink fixed wrong journal (ends_of left written source_faults sink_faults given.0 given.1)
+    (ends_of left written source_faults sink_faults link.source link.sink)
     link.client link.done link.ending link.word
 
 abbrev pub client_of : {S K : Type 0} → LinkDone S K → Option ℕ
@@ -99,19 +104,26 @@ pub record AreServed {L M : Type 0} (is_link : L → M → Type 0) (client_of : 
 abbrev pub AreEnough : {L M : Type 0} → (most : ℕ) (coming_new : Option (List L)) → List M → Type 0
 AreEnough {L} most coming_new links = (length links ≡ most) ⊎ ((rest : List L) → coming_new ≡ Some rest → rest ≡ [])
 
--- what serving all that come leaves, over a value that keeps a history. `wrong` tells whether its device gave a wrong answer
-pub record HasServed {A B S K : Type 0} (legal : Origin → List Entry → Type 0) (fixed : B → Fixed) (wrong : B → Bool) (history : B → List Entry) (coming : A → Option (List (S × K))) (faults : A → ℕ)
-    (left : S → Option (List ℕ)) (written : K → Option (List ℕ)) (source_faults : S → ℕ) (sink_faults : K → ℕ) (most : ℕ)
-    (value value_new : B) (acceptor acceptor_new : A) (accepted : Result (Unit {0}) AcceptError) (links : List (LinkDone S K)) : Type 0 where
+-- what serving all that come leaves, over a value that keeps a history. `wrong` tells whether its
+-- device gave a wrong answer
+pub record HasServed {A B S K : Type 0} (legal : Origin → List Entry → Type 0) (fixed : B → Fixed)
+    (wrong : B → Bool) (history : B → List Entry) (coming : A → Option (List (S × K)))
+    (faults : A → ℕ) (left : S → Option (List ℕ)) (written : K → Option (List ℕ))
+    (source_faults : S → ℕ) (sink_faults : K → ℕ) (most : ℕ) (value value_new : B)
+    (acceptor acceptor_new : A) (accepted : Result (Unit {0}) AcceptError)
+    (links : List (LinkDone S K)) : Type 0 where
   pub fixed_is : fixed value_new ≡ fixed value
   -- the history is legal where it is told what it begins from
   pub is_legal : IsLegalOver legal (fixed value).base (history value_new)
-  -- Each connection that was accepted has its commands in the history once and in order, and was written what they were told. The
-  -- history has no other client.
-  pub served : AreServed (IsLinkDone left written source_faults sink_faults (fixed value) (wrong value_new) (history value_new)) client_of (history value_new) (coming acceptor) (coming acceptor_new) most links
+  -- Each connection that was accepted has its commands in the history once and in order, and was
+  -- written what they were told. The history has no other client.
+  pub served : AreServed (IsLinkDone left written source_faults sink_faults (fixed value)
+      (wrong value_new) (history value_new)) client_of (history value_new) (coming acceptor)
+      (coming acceptor_new) most links
   -- all clients are closed
   pub closed : (clients_of (history value_new)).present ≡ []
   pub enough : OnOk accepted (AreEnough most (coming acceptor_new) links)
   pub quiet : OnOk accepted (faults acceptor_new ≡ faults acceptor)
   pub failed : accepted ≡ Err errors.Failed → Rose (faults acceptor) (faults acceptor_new)
-  pub memory : accepted ≡ Err errors.Memory → (acceptor_new ≡ acceptor) × (links ≡ []) × (value_new ≡ value)
+  pub memory : accepted ≡ Err errors.Memory
+      → (acceptor_new ≡ acceptor) × (links ≡ []) × (value_new ≡ value)

@@ -9,7 +9,8 @@ use Rattle.cancel_words.specs.View.{WordView}
 use Rattle.connection_core.specs.declared.ends.Ending.{Ending}
 use Rattle.connection_core.specs.Links.{HasCause, IsClosed, IsRefused}
 use Rattle.connection_core.specs.Turns.{GoesOn}
-use Rattle.accept_loop.specs.Connections.{AreEnough, AreServed, Ends, IsLinkDone, client_of, ends_of}
+use Rattle.accept_loop.specs.Connections.{AreEnough, AreServed, Ends, IsLinkDone, client_of}
+use Rattle.accept_loop.specs.Connections.{ends_of}
 use Rattle.accept_loop.specs.declared.serving.LinkDone.{LinkDone}
 
 -- with a client, or without one
@@ -24,13 +25,17 @@ pub record Comes (legal : Origin → List Entry → Type 0) (old new : PassView)
   pub cause : HasCause ending given.source_faults left.source_faults given.sink_faults left.sink_faults
 
 -- the same by what its two ends tell
-abbrev pub ComesTo : {S K : Type 0} → (legal : Origin → List Entry → Type 0) → (left : S → Option (List ℕ)) → (written : K → Option (List ℕ)) → (source_faults : S → ℕ) → (sink_faults : K → ℕ) → (old new : PassView) → S × K → LinkDone S K → Type 0
+abbrev pub ComesTo : {S K : Type 0} → (legal : Origin → List Entry → Type 0)
+    → (left : S → Option (List ℕ)) → (written : K → Option (List ℕ)) → (source_faults : S → ℕ)
+    → (sink_faults : K → ℕ) → (old new : PassView) → S × K → LinkDone S K → Type 0
 ComesTo legal left written source_faults sink_faults old new given link =
-    Comes legal old new (ends_of left written source_faults sink_faults given.0 given.1) (ends_of left written source_faults sink_faults link.source link.sink)
+    Comes legal old new (ends_of left written source_faults sink_faults given.0 given.1)
+    (ends_of left written source_faults sink_faults link.source link.sink)
     link.client link.done link.ending link.word
 
 -- a pass that knows nobody and room for so many connections, none of which was served yet
-pub record HasRoomForLinks {M : Type 0} (lock : TableId) (most : ℕ) (pass : PassView) (links : List M) (capacity : ℕ) : Type 0 where
+pub record HasRoomForLinks {M : Type 0} (lock : TableId) (most : ℕ) (pass : PassView)
+    (links : List M) (capacity : ℕ) : Type 0 where
   pub lock_is : pass.lock ≡ lock
   pub nobody : pass.known ≡ []
   pub parts : most < pass.parts
@@ -48,6 +53,11 @@ pub record ServesAll {L M X E : Type 0} (legal : Origin → List Entry → Type 
   pub fault : OnErr accepted (Rose faults faults_new)
 
 -- the same by what the ends of each tell
-abbrev pub ServesLinks : {S K X E : Type 0} → (legal : Origin → List Entry → Type 0) → (left : S → Option (List ℕ)) → (written : K → Option (List ℕ)) → (source_faults : S → ℕ) → (sink_faults : K → ℕ) → (old new : PassView)
-    → (coming coming_new : Option (List (S × K))) → (faults faults_new most : ℕ) → Result X E → List (LinkDone S K) → Type 0
-ServesLinks legal left written source_faults sink_faults = ServesAll legal (λ pass. IsLinkDone left written source_faults sink_faults pass.fixed pass.wrong pass.front) client_of
+abbrev pub ServesLinks : {S K X E : Type 0} → (legal : Origin → List Entry → Type 0)
+    → (left : S → Option (List ℕ)) → (written : K → Option (List ℕ)) → (source_faults : S → ℕ)
+    → (sink_faults : K → ℕ) → (old new : PassView)
+    → (coming coming_new : Option (List (S × K))) → (faults faults_new most : ℕ) → Result X E
+    → List (LinkDone S K) → Type 0
+ServesLinks legal left written source_faults sink_faults = ServesAll legal
+    (λ pass. IsLinkDone left written source_faults sink_faults pass.fixed pass.wrong pass.front)
+    client_of

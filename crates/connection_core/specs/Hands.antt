@@ -36,13 +36,19 @@ pub record IsKeeper {B K J : Type 0} (legal : Origin → List Entry → Type 0) 
   pub duty : IfSome keeper.duty (λ duty. KeepsTo legal written ended faults begun duty)
 
 -- the reader may send: its connection has begun, and its hand and its side are of that connection
-pub record MaySend {B K J : Type 0} (legal : Origin → List Entry → Type 0) (written : K → Option (List ℕ)) (ended : K → Option Bool) (faults : K → ℕ) (begun : Option Start) (lock : TableId) (link : Link B K J) (keeper : Keeper B K) (side : Side) : Type 0 where
+pub record MaySend {B K J : Type 0} (legal : Origin → List Entry → Type 0)
+    (written : K → Option (List ℕ)) (ended : K → Option Bool) (faults : K → ℕ)
+    (begun : Option Start) (lock : TableId) (link : Link B K J) (keeper : Keeper B K)
+    (side : Side) : Type 0 where
   pub begins : IsBegun begun lock link.between
   pub keeps : IsKeeper legal written ended faults begun link keeper
   pub of : IsReaders link.between side
 
 -- the same before the reader has pulled, held or sent anything
-pub record MayRead {B K J S : Type 0} (legal : Origin → List Entry → Type 0) (written : K → Option (List ℕ)) (ended : K → Option Bool) (faults : K → ℕ) (begun : Option Start) (lock : TableId) (link : Link B K J) (keeper : Keeper B K) (reader : Reader S) : Type 0 where
+pub record MayRead {B K J S : Type 0} (legal : Origin → List Entry → Type 0)
+    (written : K → Option (List ℕ)) (ended : K → Option Bool) (faults : K → ℕ)
+    (begun : Option Start) (lock : TableId) (link : Link B K J) (keeper : Keeper B K)
+    (reader : Reader S) : Type 0 where
   pub begins : IsBegun begun lock link.between
   pub keeps : IsKeeper legal written ended faults begun link keeper
   pub side : IsFreshReaders link.between reader.side
@@ -50,8 +56,10 @@ pub record MayRead {B K J S : Type 0} (legal : Origin → List Entry → Type 0)
   pub unheld : reader.held ≡ []
 
 -- what the reader leaves
-abbrev pub HasReadAll : {S : Type 0} → (left : S → Option (List ℕ)) → (failed : S → ℕ) → Between → (reader reader_new : Reader S) → Type 0
-HasReadAll left failed between reader reader_new = ReaderLeaves between reader_new.side (left reader.source) (left reader_new.source) (failed reader.source) (failed reader_new.source)
+abbrev pub HasReadAll : {S : Type 0} → (left : S → Option (List ℕ)) → (failed : S → ℕ) → Between
+    → (reader reader_new : Reader S) → Type 0
+HasReadAll left failed between reader reader_new = ReaderLeaves between reader_new.side
+    (left reader.source) (left reader_new.source) (failed reader.source) (failed reader_new.source)
 
 -- what the worker of a duty that is over leaves, once its client is closed
 pub record Closes {B K : Type 0} (legal : Origin → List Entry → Type 0) (written : K → Option (List ℕ)) (ended : K → Option Bool) (faults : K → ℕ) (ending : Ending) (start : Start) (worker : Worker B K) : Type 0 where
@@ -62,7 +70,10 @@ abbrev pub ClosesTo : {B K : Type 0} → (legal : Origin → List Entry → Type
 ClosesTo legal written ended faults ending begun worker = (start : Start) → begun ≡ Some start → Closes legal written ended faults ending start worker
 
 -- what both leave
-pub record BothLeave {B K S : Type 0} (legal : Origin → List Entry → Type 0) (left : S → Option (List ℕ)) (failed : S → ℕ) (written : K → Option (List ℕ)) (ended : K → Option Bool) (faults : K → ℕ) (begun : Option Start) (between : Between) (reader reader_new : Reader S) (worker : Worker B K) (ending : Ending) : Type 0 where
+pub record BothLeave {B K S : Type 0} (legal : Origin → List Entry → Type 0)
+    (left : S → Option (List ℕ)) (failed : S → ℕ) (written : K → Option (List ℕ))
+    (ended : K → Option Bool) (faults : K → ℕ) (begun : Option Start) (between : Between)
+    (reader reader_new : Reader S) (worker : Worker B K) (ending : Ending) : Type 0 where
   pub reads : HasReadAll left failed between reader reader_new
   pub closes : ClosesTo legal written ended faults ending begun worker
 
@@ -78,13 +89,20 @@ pub record Served {B S K : Type 0} (legal : Origin → List Entry → Type 0) (l
 abbrev pub ServedTo : {B S K : Type 0} → (legal : Origin → List Entry → Type 0) → (left : S → Option (List ℕ)) → (failed : S → ℕ) → (written : K → Option (List ℕ)) → (ended : K → Option Bool) → (faults : K → ℕ) → Option Start → S → LinkEnd B S K → WordView → Type 0
 ServedTo legal left failed written ended faults begun source end seat = (start : Start) → begun ≡ Some start → Served legal left failed written ended faults start source end seat
 
--- What a connection leaves, with a client or without one. `word` is what the seat of its cancel word holds.
-pub record LinkLeaves {B S K : Type 0} (legal : Origin → List Entry → Type 0) (left : S → Option (List ℕ)) (failed : S → ℕ) (written : K → Option (List ℕ)) (ended : K → Option Bool) (faults : K → ℕ) (pass : PassView) (source : S) (sink : K) (end : LinkEnd B S K) (word : Option WordView) : Type 0 where
+-- What a connection leaves, with a client or without one. `word` is what the seat of its cancel
+-- word holds.
+pub record LinkLeaves {B S K : Type 0} (legal : Origin → List Entry → Type 0)
+    (left : S → Option (List ℕ)) (failed : S → ℕ) (written : K → Option (List ℕ))
+    (ended : K → Option Bool) (faults : K → ℕ) (pass : PassView) (source : S) (sink : K)
+    (end : LinkEnd B S K) (word : Option WordView) : Type 0 where
   pub goes_on : GoesOn legal pass end.pass
-  pub closed : IfSome end.client (λ client. IsClosed legal end.ending end.pass client end.done (left source) (left end.source) (written sink) (written end.sink) word)
+  pub closed : IfSome end.client
+      (λ client. IsClosed legal end.ending end.pass client end.done (left source) (left end.source)
+      (written sink) (written end.sink) word)
   pub refused : end.client ≡ None → IsRefused end.ending end.pass end.done
   pub no_word : end.client ≡ None → word ≡ None
   pub source_is : end.client ≡ None → end.source ≡ source
   pub written_is : end.client ≡ None → written end.sink ≡ written sink
   pub sink_ended : ended end.sink ≡ at_end (ended sink)
-  pub cause : HasCause end.ending (failed source) (failed end.source) (faults sink) (faults end.sink)
+  pub cause : HasCause end.ending (failed source) (failed end.source) (faults sink)
+      (faults end.sink)

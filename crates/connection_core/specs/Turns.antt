@@ -1,5 +1,6 @@
 -- What a turn leaves of a pass, and what a failed write leaves of a sink.
-use Rattle.std.specs.Prelude.{◌≡◌, ◌<◌, nat_le, ℕ, Bool, true, List, length, take, Option, Result, OnOk, OnErr, if◌then◌else◌}
+use Rattle.std.specs.Prelude.{◌≡◌, ◌<◌, nat_le, ℕ, Bool, true, List, length, take, Option, Result}
+use Rattle.std.specs.Prelude.{OnOk, OnErr, if◌then◌else◌}
 use mathlib.Core.List.{IsPrefix}
 use Rattle.tab_spec.specs.Count.{Rose}
 use Rattle.history_spec.specs.Entry.{Entry}
@@ -44,8 +45,10 @@ pub record GoesOn (legal : Origin → List Entry → Type 0) (old new : PassView
 abbrev pub WroteFront : (bytes : List ℕ) (written written_new : Option (List ℕ)) → Type 0
 WroteFront bytes written written_new = (k : ℕ) × (k < length bytes) × (written_new ≡ with_more written (take k bytes))
 
--- what pushing these bytes makes of a sink: all of them were written, or the push failed and a front of them was
-pub record IsPushed {K X E : Type 0} (written : K → Option (List ℕ)) (ended : K → Option Bool) (faults : K → ℕ) (bytes : List ℕ) (sink sink_new : K) (pushed : Result X E) : Type 0 where
+-- what pushing these bytes makes of a sink: all of them were written, or the push failed and a
+-- front of them was
+pub record IsPushed {K X E : Type 0} (written : K → Option (List ℕ)) (ended : K → Option Bool)
+    (faults : K → ℕ) (bytes : List ℕ) (sink sink_new : K) (pushed : Result X E) : Type 0 where
   pub ok : OnOk pushed (written sink_new ≡ with_more (written sink) bytes)
   pub front : OnErr pushed (WroteFront bytes (written sink) (written sink_new))
   pub goes_on : ended sink_new ≡ ended sink

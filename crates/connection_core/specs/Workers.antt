@@ -15,9 +15,11 @@ pub record IsOpen {B K : Type 0} (lock : TableId) (worker : Worker B K) : Type 0
   pub present : IsServed worker.pass.known worker.client worker.done
 
 -- a word was loaded, and the client's next command was asked in one turn
-pub record TookUp {B K : Type 0} (legal : Origin → List Entry → Type 0) (between : Between) (worker worker_new : Worker B K) (command reply : List ℕ) : Type 0 where
+pub record TookUp {B K : Type 0} (legal : Origin → List Entry → Type 0) (between : Between)
+    (worker worker_new : Worker B K) (command reply : List ℕ) : Type 0 where
   pub side : IsWorkers between worker_new.side
   pub line : worker_new.side.pass ≡ worker.side.pass
   pub client : worker_new.client ≡ worker.client
   pub done : worker_new.done ≡ worker.done + 1
-  pub acts : AsksNext legal worker.pass worker.client (worker.done + 1) worker.side.seat worker_new.side.seat command reply worker_new.pass
+  pub acts : AsksNext legal worker.pass worker.client (worker.done + 1) worker.side.seat
+      worker_new.side.seat command reply worker_new.pass

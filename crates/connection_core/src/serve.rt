@@ -165,8 +165,8 @@ fn run_both<
     reader: Reader<S>,
     frame: Buffer,
 ) -> (Reader<S>, Worker<B, K>, Ending)
-    requires may_read { MayRead B.legal K.written K.ended K.faults J.begun shared.now link.now hands.0
-        reader }
+    requires may_read { MayRead B.legal K.written K.ended K.faults J.begun shared.now link.now
+        hands.0 reader }
     requires helper { IsHandOf link.now hands.1 }
     ensures { BothLeave B.legal S.left S.faults K.written K.ended K.faults J.begun
         link.now.between reader result.0 result.1 result.2 }

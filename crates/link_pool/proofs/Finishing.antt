@@ -100,7 +100,8 @@ module _ {S K : Type 0} (legal : Origin → List Entry → Type 0) (left : S →
   is_link_of = IsServed left written source_faults sink_faults
 
   abbrev Is : HandView Link → PassView → List Done → Bool → List Link → Type 0
-  Is = IsServer legal (IsServed left written source_faults sink_faults) given_of client_of is_lacking
+  Is = IsServer legal (IsServed left written source_faults sink_faults) given_of client_of
+      is_lacking
 
   -- ---- the turn is taken at the end
 

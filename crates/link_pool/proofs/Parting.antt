@@ -43,7 +43,8 @@ module _ {S K : Type 0} (legal : Origin → List Entry → Type 0) (left : S →
   word_of s = s.link.word
 
   abbrev Is : HandView Link → PassView → List Done → Bool → List Link → Type 0
-  Is = IsServer legal (IsServed left written source_faults sink_faults) given_of client_of is_lacking
+  Is = IsServer legal (IsServed left written source_faults sink_faults) given_of client_of
+      is_lacking
 
   -- nobody was served yet
   pub server_begins : (hand : HandView Link) (pass : PassView) → Rests hand → hand.mine ≡ [] → pass.known ≡ [] → IsLegalOver legal pass.fixed.base pass.front → Is hand pass [] false []

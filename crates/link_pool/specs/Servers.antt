@@ -1,5 +1,6 @@
 -- What servers know of the connections that they served, and what serving all that come leaves.
-use Rattle.std.specs.Prelude.{◌≡◌, ◌<◌, ◌≤◌, ℕ, ◌+◌, ◌-◌, ◌*◌, Bool, cond, List, [], ◌∷◌, ◌++◌, length, map, All, Option, Result, Err, OnOk}
+use Rattle.std.specs.Prelude.{◌≡◌, ◌<◌, ◌≤◌, ℕ, ◌+◌, ◌-◌, ◌*◌, Bool, cond, List, [], ◌∷◌, ◌++◌}
+use Rattle.std.specs.Prelude.{length, map, All, Option, Result, Err, OnOk}
 use Rattle.std.specs.List.{list_any}
 use Rattle.atomic_table.specs.Seated.{TableId}
 use Rattle.crossbeam_channel.specs.Claims.{IsSeatAt, view}
@@ -37,12 +38,18 @@ pub record IsServer {L M : Type 0} (legal : Origin → List Entry → Type 0) (i
   pub lacked_is : lacked ≡ list_any is_lacking served
 
 -- the same of connections of these sources and sinks
-abbrev pub Stands : {B A S K : Type 0} → (legal : Origin → List Entry → Type 0) → (left : S → Option (List ℕ)) → (written : K → Option (List ℕ)) → (source_faults : S → ℕ) → (sink_faults : K → ℕ) → Server B A S K → List (S × K) → Type 0
+abbrev pub Stands : {B A S K : Type 0} → (legal : Origin → List Entry → Type 0)
+    → (left : S → Option (List ℕ)) → (written : K → Option (List ℕ)) → (source_faults : S → ℕ)
+    → (sink_faults : K → ℕ) → Server B A S K → List (S × K) → Type 0
 Stands legal left written source_faults sink_faults server =
-    IsServer legal (IsServed left written source_faults sink_faults) given_of client_of is_lacking (view server.hand) server.pass server.served.value server.lacked
+    IsServer legal (IsServed left written source_faults sink_faults) given_of client_of is_lacking
+    (view server.hand) server.pass server.served.value server.lacked
 
 -- and its hand is of this way
-pub record IsOn {B A J S K : Type 0} (legal : Origin → List Entry → Type 0) (left : S → Option (List ℕ)) (written : K → Option (List ℕ)) (source_faults : S → ℕ) (sink_faults : K → ℕ) (way : Way A J S K) (server : Server B A S K) (waiting : List (S × K)) : Type 0 where
+pub record IsOn {B A J S K : Type 0} (legal : Origin → List Entry → Type 0)
+    (left : S → Option (List ℕ)) (written : K → Option (List ℕ)) (source_faults : S → ℕ)
+    (sink_faults : K → ℕ) (way : Way A J S K) (server : Server B A S K)
+    (waiting : List (S × K)) : Type 0 where
   pub hand : IsSeatAt (sends_on way.sender) server.hand
   pub stands : Stands legal left written source_faults sink_faults server waiting
 
@@ -53,23 +60,34 @@ pub record Leaves {L : Type 0} (hand hand_new : HandView L) (pass pass_new : Pas
   pub lock_is : pass_new.lock ≡ pass.lock
   pub fixed_is : pass_new.fixed ≡ pass.fixed
 
-abbrev pub KeepsParts : {B A S K : Type 0} → (server server_new : Server B A S K) → (more : ℕ) → Type 0
-KeepsParts server server_new = Leaves (view server.hand) (view server_new.hand) server.pass server_new.pass
+abbrev pub KeepsParts : {B A S K : Type 0} → (server server_new : Server B A S K) → (more : ℕ)
+    → Type 0
+KeepsParts server server_new = Leaves (view server.hand) (view server_new.hand) server.pass
+    server_new.pass
 
 -- a server that has served all that it accepted
-pub record ServesOn {B A J S K : Type 0} (legal : Origin → List Entry → Type 0) (left : S → Option (List ℕ)) (written : K → Option (List ℕ)) (source_faults : S → ℕ) (sink_faults : K → ℕ) (way : Way A J S K) (server server_new : Server B A S K) (more : ℕ) : Type 0 where
+pub record ServesOn {B A J S K : Type 0} (legal : Origin → List Entry → Type 0)
+    (left : S → Option (List ℕ)) (written : K → Option (List ℕ)) (source_faults : S → ℕ)
+    (sink_faults : K → ℕ) (way : Way A J S K) (server server_new : Server B A S K)
+    (more : ℕ) : Type 0 where
   pub on : IsOn legal left written source_faults sink_faults way server_new []
   pub leaves : KeepsParts server server_new more
 
 -- a server that accepted this connection, and a pass for it beside the server's
-pub record MayServe {B A J S K : Type 0} (legal : Origin → List Entry → Type 0) (left : S → Option (List ℕ)) (written : K → Option (List ℕ)) (source_faults : S → ℕ) (sink_faults : K → ℕ) (way : Way A J S K) (lock : TableId) (server : Server B A S K) (beside : PassView) (link : S × K) : Type 0 where
+pub record MayServe {B A J S K : Type 0} (legal : Origin → List Entry → Type 0)
+    (left : S → Option (List ℕ)) (written : K → Option (List ℕ)) (source_faults : S → ℕ)
+    (sink_faults : K → ℕ) (way : Way A J S K) (lock : TableId) (server : Server B A S K)
+    (beside : PassView) (link : S × K) : Type 0 where
   pub on : IsOn legal left written source_faults sink_faults way server (link ∷ [])
   pub lock_is : server.pass.lock ≡ lock
   pub parts : 0 < server.pass.parts
   pub beside_is : beside ≡ one_part server.pass
 
 -- a server that has served nobody, and the parts for so many more
-pub record MayGrow {B A J S K : Type 0} (legal : Origin → List Entry → Type 0) (left : S → Option (List ℕ)) (written : K → Option (List ℕ)) (source_faults : S → ℕ) (sink_faults : K → ℕ) (way : Way A J S K) (lock : TableId) (more : ℕ) (server : Server B A S K) : Type 0 where
+pub record MayGrow {B A J S K : Type 0} (legal : Origin → List Entry → Type 0)
+    (left : S → Option (List ℕ)) (written : K → Option (List ℕ)) (source_faults : S → ℕ)
+    (sink_faults : K → ℕ) (way : Way A J S K) (lock : TableId) (more : ℕ)
+    (server : Server B A S K) : Type 0 where
   pub on : IsOn legal left written source_faults sink_faults way server []
   pub lock_is : server.pass.lock ≡ lock
   pub hand_parts : more < (view server.hand).parts
@@ -123,15 +141,23 @@ pub record ServesAll {L M : Type 0} (legal : Origin → List Entry → Type 0) (
   pub lacked_is : lacked ≡ list_any is_lacking served
 
 -- a value that has no history yet, what may be its history, and so many servers for it
-pub record MayServeAll (legal : Origin → List Entry → Type 0) (fixed : Fixed) (history : List Entry) (servers : ℕ) : Type 0 where
+pub record MayServeAll (legal : Origin → List Entry → Type 0) (fixed : Fixed) (history : List Entry)
+    (servers : ℕ) : Type 0 where
   pub empty : history ≡ []
   pub is_legal : IsLegalOver legal fixed.base history
   pub some : 0 < servers
   pub few : servers ≤ 256
 
--- what serving all that come leaves, over a value that keeps a history. Where memory lacked, nobody was accepted
-pub record ServesLinks {A B S K : Type 0} (legal : Origin → List Entry → Type 0) (fixed : B → Fixed) (wrong : B → Bool) (history : B → List Entry) (coming : A → Option (List (S × K))) (faults : A → ℕ)
-    (left : S → Option (List ℕ)) (written : K → Option (List ℕ)) (source_faults : S → ℕ) (sink_faults : K → ℕ) (most : ℕ) (value : B) (acceptor acceptor_new : A) (all : ServedAll B S K) : Type 0 where
-  pub served : ServesAll legal (IsServed left written source_faults sink_faults) given_of client_of is_lacking (fixed value) (fixed all.value) (wrong all.value) (history all.value)
-      (coming acceptor) (coming acceptor_new) (faults acceptor) (faults acceptor_new) most all.accepted all.count all.lacked all.served.value
-  pub memory : all.accepted ≡ Err errors.Memory → (acceptor_new ≡ acceptor) × (all.served.value ≡ []) × (all.value ≡ value)
+-- what serving all that come leaves, over a value that keeps a history. Where memory lacked, nobody
+-- was accepted
+pub record ServesLinks {A B S K : Type 0} (legal : Origin → List Entry → Type 0) (fixed : B → Fixed)
+    (wrong : B → Bool) (history : B → List Entry) (coming : A → Option (List (S × K)))
+    (faults : A → ℕ) (left : S → Option (List ℕ)) (written : K → Option (List ℕ))
+    (source_faults : S → ℕ) (sink_faults : K → ℕ) (most : ℕ) (value : B)
+    (acceptor acceptor_new : A) (all : ServedAll B S K) : Type 0 where
+  pub served : ServesAll legal (IsServed left written source_faults sink_faults) given_of client_of
+      is_lacking (fixed value) (fixed all.value) (wrong all.value) (history all.value)
+      (coming acceptor) (coming acceptor_new) (faults acceptor) (faults acceptor_new) most
+      all.accepted all.count all.lacked all.served.value
+  pub memory : all.accepted ≡ Err errors.Memory
+      → (acceptor_new ≡ acceptor) × (all.served.value ≡ []) × (all.value ≡ value)

@@ -22,7 +22,8 @@ is_lacking s = lacks_memory s.link.ending
 
 -- what became of it, by what its ends tell. `wrong` is whether the device gave a wrong answer
 abbrev pub IsServed : {S K : Type 0} → (left : S → Option (List ℕ)) → (written : K → Option (List ℕ)) → (source_faults : S → ℕ) → (sink_faults : K → ℕ) → Fixed → (wrong : Bool) → List Entry → Service S K → Type 0
-IsServed left written source_faults sink_faults fixed wrong journal s = IsLinkDone left written source_faults sink_faults fixed wrong journal s.given.value s.link
+IsServed left written source_faults sink_faults fixed wrong journal s = IsLinkDone left written
+    source_faults sink_faults fixed wrong journal s.given.value s.link
 
 -- ---- all of them
 

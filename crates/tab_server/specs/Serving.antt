@@ -9,9 +9,8 @@ use Rattle.history_spec.specs.Entry.{Entry}
 use Rattle.history_spec.specs.AuditText.{audit_text}
 use Rattle.audit_journal.specs.Text.{WroteFrontOf}
 use Rattle.connection_core.specs.declared.ends.Ending.{Ending}
-use Rattle.broker_lock.specs.Known.{Fixed}
-use Rattle.accept_loop.specs.Connections.{AreEnough, AreServed, IsLink, ends_of}
-use Rattle.accept_loop.specs.declared.serving.LinkDone.{LinkDone}
+use Rattle.accept_loop.specs.Connections.{AreEnough, AreServed}
+pub use Rattle.accept_loop.specs.Connections.{IsLinkDone}
 use Rattle.link_pool.specs.Endings.{lacks_memory}
 use Rattle.link_pool.specs.Services.{AreServedOnce}
 use Rattle.tab_server.specs.declared.status.TheConstants.{ACCEPTOR_FAILED, DONE, NO_MEMORY, OUTPUT_FAILED, OUT_OF_RANGE, START_FAILED, WRONG_ANSWER}
@@ -119,12 +118,6 @@ pub record LeavesServed {L M : Type 0} (are_served : List Entry → List M → T
   pub cause : ServeCause before after accept accept_new status detail
   -- The input isn't read.
   pub unread : (after.left ≡ before.left) × (after.faults.input ≡ before.faults.input)
-
--- what became of a connection by the journal, by what its ends tell
-abbrev pub IsLinkDone : {S K : Type 0} → (left : S → Option (List ℕ)) → (written : K → Option (List ℕ)) → (source_faults : S → ℕ) → (sink_faults : K → ℕ) → Fixed → (wrong : Bool) → List Entry → S × K → LinkDone S K → Type 0
-IsLinkDone left written source_faults sink_faults fixed wrong history given link =
-    IsLink fixed wrong history (ends_of left written source_faults sink_faults given.0 given.1) (ends_of left written source_faults sink_faults link.source link.sink)
-    link.client link.done link.ending link.word
 
 -- The first connections that came were served. `is_link` is what became of each by the journal at the end: it has its commands in
 -- the journal once and in order, and was written what they were told. The journal has no other client. That the device gave a wrong

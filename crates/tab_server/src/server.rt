@@ -128,7 +128,7 @@ pub fn tabrmd<
           limit = plan.limit;
           began = (D.seen device).faults;
           contexts = D.CONTEXTS;
-        })) given_of client_of (λ s. s.ending) plan.audit plan.connections
+        })) given_of client_of (λ s. s.link.ending) plan.audit plan.connections
         (before_of D.CONTEXTS (told_origin (D.seen device).base (D.seen device).state)
         (D.seen device).faults (I.left input.old) (I.faults input.old)
         (O.written output.old) (O.faults output.old)) (after_of (D.seen result.device)

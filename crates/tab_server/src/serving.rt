@@ -245,7 +245,7 @@ fn pool_begun<D: Device + Send, A: Acceptor + Send, G: Gate, O: Sink, R: Threads
           limit = broker.limit;
           began = broker.began;
           contexts = D.CONTEXTS;
-        })) given_of client_of (λ s. s.ending) plan.now.audit plan.now.connections
+        })) given_of client_of (λ s. s.link.ending) plan.now.audit plan.now.connections
         (before_of D.CONTEXTS (origin_of (D.seen broker.device).base broker.held.sessions.numbers)
         broker.began left input (O.written output.old) (O.faults output.old))
         (after_of (D.seen result.device) left input (O.written output.new) (O.faults output.new))
@@ -349,7 +349,7 @@ pub(crate) fn serve_plan<
           limit = plan.now.limit;
           began = (D.seen device).faults;
           contexts = D.CONTEXTS;
-        })) given_of client_of (λ s. s.ending) plan.now.audit plan.now.connections
+        })) given_of client_of (λ s. s.link.ending) plan.now.audit plan.now.connections
         (before_of D.CONTEXTS (told_origin (D.seen device).base (D.seen device).state)
         (D.seen device).faults left input (O.written output.old) (O.faults output.old))
         (after_of (D.seen result.device) left input (O.written output.new) (O.faults output.new))

@@ -80,8 +80,7 @@ before_told contexts first old =
 abbrev fixed_told : ContextLimits → Seen → Plan → Fixed
 fixed_told contexts first plan = record {
   base = told_origin first.base first.state;
-  limit =
-      plan.limit;
+  limit = plan.limit;
   began = first.faults;
   contexts = contexts;
 }
@@ -115,7 +114,7 @@ is_over : {S K In Out A : Type 0} (Q R : Type 0) (plans : Option Plan) (target :
     (after_at seen new) old.coming new.coming old.accept new.accept status detail journal links)
     → IfSome plans (λ plan. IsServe plan.job → LINKS_MOST < plan.connections
     → R × LeavesPool (IsServed left written source_faults sink_faults (fixed_told
-    (contexts_of target) first plan)) given_of client_of (λ s. s.ending)
+    (contexts_of target) first plan)) given_of client_of (λ s. s.link.ending)
     plan.audit plan.connections (before_told (contexts_of target) first old)
     (after_at seen new) old.coming new.coming old.accept new.accept status detail journal served)
     → IfNone journal (EndsStart (contexts_of target) (λ (s : Seen). s) status detail first seen ×
@@ -131,8 +130,7 @@ is_over _ _ (Some plan) target left written source_faults sink_faults coming acc
     let new : Around _ = record {
       ends = ends';
       coming = coming acceptor';
-      accept = accept
-          acceptor';
+      accept = accept acceptor';
     } in
     record {
       seen = seen;
@@ -150,7 +148,7 @@ is_over _ _ (Some plan) target left written source_faults sink_faults coming acc
           links) at_first (serves serve few);
       pool = λ serve many. subst (λ (f : Seen). LeavesPool
           (IsServed left written source_faults sink_faults (fixed_told
-          (contexts_of target) f plan)) given_of client_of (λ s. s.ending)
+          (contexts_of target) f plan)) given_of client_of (λ s. s.link.ending)
           plan.audit plan.connections (before_told (contexts_of target) f old)
           (after_at seen new) old.coming new.coming old.accept new.accept status detail journal
           served) at_first (pool serve many).1;
@@ -187,7 +185,7 @@ pub handed : {S K In Out A : Type 0} (Q R : Type 0) (plans : Option Plan)
     (after_at seen new) old.coming new.coming old.accept new.accept status detail journal links)
     → IfSome plans (λ plan. IsServe plan.job → LINKS_MOST < plan.connections
     → R × LeavesPool (IsServed left written source_faults sink_faults (fixed_told
-    (contexts_of target) first plan)) given_of client_of (λ s. s.ending)
+    (contexts_of target) first plan)) given_of client_of (λ s. s.link.ending)
     plan.audit plan.connections (before_told (contexts_of target) first old)
     (after_at seen new) old.coming new.coming old.accept new.accept status detail journal served)
     → IfNone journal (EndsStart (contexts_of target) (λ (s : Seen). s) status detail first seen ×
@@ -203,8 +201,7 @@ handed Q R plans target found left written source_faults sink_faults coming acce
     let new : Around _ = record {
       ends = ends';
       coming = coming acceptor';
-      accept = accept
-          acceptor';
+      accept = accept acceptor';
     } in
     subst (λ (d : ℕ). IfSome plans (λ plan. IsOver found plan left written source_faults
     sink_faults old new told_status d)) (sym same_detail)

@@ -16,9 +16,8 @@ use Rattle.broker_lock.specs.Known.{Fixed}
 use Rattle.tabrmd.specs.declared.target.Target.{Target}
 use Rattle.tabrmd.specs.Found.{contexts_of, origin_at, seen_at}
 
--- what is told around the device: by the input and the output, and by the acceptor, the connections
--- that are still to come and
--- how often it has failed
+-- what is told around the device: by the input and the output, and by the acceptor: the connections
+-- that are still to come, and how often it has failed
 pub record Around (L : Type 0) : Type 0 where
   pub ends : Ends
   pub coming : Option (List L)
@@ -26,42 +25,36 @@ pub record Around (L : Type 0) : Type 0 where
 
 abbrev pub around : {A I O L : Type 0} → (ends : I → O → Ends) → (coming : A → Option (List L))
     → (accept : A → ℕ) → A → I → O → Around L
-around ends coming accept acceptor input output = record {
-  ends = ends input output;
-  coming =
-      coming acceptor;
-  accept = accept acceptor;
-}
+around ends coming accept acceptor input output =
+    record { ends = ends input output; coming = coming acceptor; accept = accept acceptor }
 
 -- what there was before, over the device of this target
 abbrev pub before_at : {S K L : Type 0} → Target S K → Around L → Before
-before_at target old = before_of (contexts_of target) (origin_at target)
-    (seen_at target).faults old.ends.left old.ends.source_faults old.ends.written
-    old.ends.sink_faults
+before_at target old =
+    before_of (contexts_of target) (origin_at target) (seen_at target).faults
+    old.ends.left old.ends.source_faults old.ends.written old.ends.sink_faults
 
 -- what there is after it, where the device tells this
 abbrev pub after_at : {L : Type 0} → Seen → Around L → After
-after_at seen new = after_of seen new.ends.left new.ends.source_faults new.ends.written
-    new.ends.sink_faults
+after_at seen new =
+    after_of seen new.ends.left new.ends.source_faults new.ends.written new.ends.sink_faults
 
 -- what stays as it is while connections are served over it
 abbrev pub fixed_at : {S K : Type 0} → Target S K → Plan → Fixed
 fixed_at target plan = record {
   base = origin_at target;
   limit = plan.limit;
-  began =
-      (seen_at target).faults;
+  began = (seen_at target).faults;
   contexts = contexts_of target;
 }
 
--- What a plan came to is what the top call leaves over the device of this target. `left`,
--- `written`, `source_faults` and `sink_faults`
--- are what the two ends of a connection tell, and `old` and `new` what is told around the device
--- before and after.
-pub record IsOver {S K In Out : Type 0} (target : Target S K) (plan : Plan) (left : In
-    → Option (List ℕ)) (written : Out → Option (List ℕ))
-    (source_faults : In → ℕ) (sink_faults : Out
-    → ℕ) (old new : Around (In × Out)) (status detail : ℕ) : Type 0 where
+-- What a plan came to is what the top call leaves over the device of this target. `left`, `written`,
+-- `source_faults` and `sink_faults` are what the two ends of a connection tell, and `old` and `new`
+-- what is told around the device before and after.
+pub record IsOver {S K In Out : Type 0} (target : Target S K) (plan : Plan)
+    (left : In → Option (List ℕ)) (written : Out → Option (List ℕ))
+    (source_faults : In → ℕ) (sink_faults : Out → ℕ)
+    (old new : Around (In × Out)) (status detail : ℕ) : Type 0 where
   -- What the device tells at the end, the journal, and the connections.
   pub seen : Seen
   pub journal : Option (List Entry)
@@ -78,7 +71,7 @@ pub record IsOver {S K In Out : Type 0} (target : Target S K) (plan : Plan) (lef
       old.coming new.coming old.accept new.accept status detail journal links
   pub pool : IsServe plan.job → LINKS_MOST < plan.connections
       → LeavesPool (IsServed left written source_faults sink_faults (fixed_at target plan))
-      given_of client_of (λ s. s.ending) plan.audit plan.connections (before_at target old)
+      given_of client_of (λ s. s.link.ending) plan.audit plan.connections (before_at target old)
       (after_at seen new)
       old.coming new.coming old.accept new.accept status detail journal served
   -- Words of `run` and `workload` accept nobody.

@@ -59,7 +59,7 @@ returns-clause-pool g c =
     (λ (device : DeviceInMemory). IfSome (accepted (map string_bytes c.args.words.now))
     (λ plan. IsServe plan.job → LINKS_MOST < plan.connections → (ran.links.items ≡ [])
     × LeavesPool (IsServed g.A.In.Source.left g.A.Out.Sink.written g.A.In.Source.faults g.A.Out.Sink.faults (record { base = Some (record { persist = device.base; numbers = device.state.numbers }); limit = plan.limit; began = device.faults; contexts = PROFILE_CONTEXTS }))
-    given_of client_of (λ s. s.ending) plan.audit plan.connections
+    given_of client_of (λ s. s.link.ending) plan.audit plan.connections
     (before_of PROFILE_CONTEXTS (Some (record { persist = device.base; numbers = device.state.numbers })) device.faults (g.I.Source.left c.args.input.now) (g.I.Source.faults c.args.input.now) (g.O.Sink.written c.args.output.now) (g.O.Sink.faults c.args.output.now))
     (after_of (told_by ran.device) (g.I.Source.left c.tabrmd.new.input) (g.I.Source.faults c.tabrmd.new.input) (g.O.Sink.written c.tabrmd.new.output) (g.O.Sink.faults c.tabrmd.new.output))
     (g.A.Acceptor.coming c.args.acceptor.now) (g.A.Acceptor.coming c.tabrmd.new.acceptor)

@@ -16,7 +16,15 @@ returns-in-Err-clause-served g t c =
 
 pub push_front_reserved-requires : goal.push_front_reserved-requires
 push_front_reserved-requires g t c =
-    omega (arith, c.join-pass.result.1.0.links.ok.0, served_within _ _ _ _ _ _ _ _ _ _ _ c.join-pass.ensures.second.2, c.join-pass.ensures.second.0, c.requires.room, c.if-most-eq0.false)
+    omega (
+      arith,
+      c.join-pass.result.1.0.links.ok.0,
+      served_within _ _ _ _ _ _ _ _ _ _ _
+          c.join-pass.ensures.second.2,
+      c.join-pass.ensures.second.0,
+      c.requires.room,
+      c.if-most-eq0.false,
+    )
 
 pub returns-clause-served : goal.returns-clause-served
 returns-clause-served g t c = served_on
@@ -25,4 +33,5 @@ returns-clause-served g t c = served_on
     client_of (λ link. link.done) (λ link. link.ending) (λ link. link.word)
     _ _ _ _ _ _ _ _ _ _ _ _ _ _ _ _ _ _ _ c.push_front_reserved.ensures.items
     c.if-most-eq0.false c.requires.parts c.split-pass.ensures.left c.split-pass.ensures.given c.in-Ok-Some.field-0-is
-    c.in-Ok-Some.ensures.accepted c.in-Ok-Some.ensures.quiet c.join-pass.ensures.second.2 c.join-pass.ensures.first c.join.ensures
+    c.in-Ok-Some.ensures.accepted c.in-Ok-Some.ensures.quiet c.join-pass.ensures.second.2
+    c.join-pass.ensures.first c.join.ensures

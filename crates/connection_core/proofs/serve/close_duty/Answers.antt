@@ -6,7 +6,10 @@ use Rattle.connection_core.proofs.serve.close_duty.Goals as goal
 pub close-requires-clause-opened : goal.close-requires-clause-opened
 close-requires-clause-opened g c κs lives =
     let f = c.finish-ending.ensures c.requires.begun.start c.requires.begun.is in
-    record { lock_is = f.goes_on.lock ∙ c.requires.begun.lock_is; present = f.worked.serves.present }
+    record {
+      lock_is = f.goes_on.lock ∙ c.requires.begun.lock_is;
+      present = f.worked.serves.present;
+    }
 
 pub returns : goal.returns
 returns g c start is =

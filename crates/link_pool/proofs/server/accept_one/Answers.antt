@@ -6,7 +6,10 @@ use Rattle.link_pool.proofs.server.accept_one.Goals as goal
 pub returns-clause-on : goal.returns-clause-on
 returns-clause-on g c = record {
   hand = c.next-ends.ensures.way;
-  stands = server_waits g.B.Recorded.legal g.A.In.Source.left g.A.Out.Sink.written g.A.In.Source.faults g.A.Out.Sink.faults _ (view c.next-ends.new.hand) _ _ _ _ c.next-ends.result c.requires.on.stands refl c.next-ends.ensures.some c.next-ends.ensures.none;
+  stands = server_waits g.B.Recorded.legal g.A.In.Source.left g.A.Out.Sink.written
+      g.A.In.Source.faults g.A.Out.Sink.faults _ (view c.next-ends.new.hand) _ _ _ _
+      c.next-ends.result c.requires.on.stands refl c.next-ends.ensures.some
+      c.next-ends.ensures.none;
 }
 
 pub returns-clause-leaves : goal.returns-clause-leaves

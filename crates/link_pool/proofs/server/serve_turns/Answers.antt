@@ -17,11 +17,16 @@ pub loop-preserved : goal.loop-preserved
 loop-preserved g c = record {
   goes = (tt, tt);
   on = record {
-    hand = subst (λ h. IsSeatAt (sends_on c.args.way.now.sender) h) (sym c.serve_next.ensures.hand) c.accept_one.ensures.on.hand;
+    hand = subst (λ h. IsSeatAt (sends_on c.args.way.now.sender) h) (sym c.serve_next.ensures.hand)
+        c.accept_one.ensures.on.hand;
     stands = c.serve_next.ensures.server;
   };
   leaves = leaves_turn _ _ _ _ _ _ _ _ c.loop.invariant.leaves c.accept_one.ensures.leaves c.serve_next.ensures.leaves;
 }
 
 pub returns-in-None-accept_one : goal.returns-in-None-accept_one
-returns-in-None-accept_one g c = record { on = c.in-None-accept_one.ensures.on; leaves = leaves_then _ _ _ _ _ _ 0 0 c.loop.invariant.leaves c.accept_one.ensures.leaves }
+returns-in-None-accept_one g c = record {
+  on = c.in-None-accept_one.ensures.on;
+  leaves = leaves_then _ _ _ _ _ _ 0 0
+      c.loop.invariant.leaves c.accept_one.ensures.leaves;
+}

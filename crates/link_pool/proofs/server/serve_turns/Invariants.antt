@@ -5,6 +5,7 @@ use Rattle.link_pool.proofs.server.serve_turns.Given as goal
 abbrev pub invariant-loop : goal.invariant-loop
 invariant-loop g l = record {
   goes : (goal.iterator-loop g).can_next l.iterator' × (goal.iterator-loop g).is_finite l.iterator';
-  on : IsOn g.B.Recorded.legal g.A.In.Source.left g.A.Out.Sink.written g.A.In.Source.faults g.A.Out.Sink.faults l.way l.server [];
+  on : IsOn g.B.Recorded.legal g.A.In.Source.left g.A.Out.Sink.written g.A.In.Source.faults
+      g.A.Out.Sink.faults l.way l.server [];
   leaves : KeepsParts l.fn.server l.server 0;
 }

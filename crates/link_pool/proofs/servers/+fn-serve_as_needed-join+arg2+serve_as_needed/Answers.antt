@@ -16,29 +16,47 @@ use Rattle.link_pool.proofs.servers.+fn-serve_as_needed-join+arg2+serve_as_neede
 pub returns : goal.returns
 returns g t c = record {
   on = c.join_servers.ensures.on;
-  leaves = leaves_both _ _ _ _ _ _ _ _ _ _ _ _ _ _ c.accept_one.ensures.leaves c.part-first.ensures.parted.hand_parts c.part-first.ensures.parted.parts c.part-first.ensures.parted.fixed_is
-      (c.part-first.ensures.parted.lock_is ∙ sym (c.accept_one.ensures.leaves.lock_is ∙ c.requires.may_grow.lock_is)) c.part-first.ensures.parted.given_hand c.part-first.ensures.parted.given_parts c.join-server.ensures.first.leaves c.join-server.ensures.second.leaves
-      c.join_servers.ensures.both.hand_parts c.join_servers.ensures.both.parts c.join_servers.ensures.both.fixed_is c.join_servers.ensures.both.lock_is;
+  leaves = leaves_both _ _ _ _ _ _ _ _ _ _ _ _ _ _ c.accept_one.ensures.leaves
+      c.part-first.ensures.parted.hand_parts c.part-first.ensures.parted.parts
+      c.part-first.ensures.parted.fixed_is
+      (c.part-first.ensures.parted.lock_is
+      ∙ sym (c.accept_one.ensures.leaves.lock_is ∙ c.requires.may_grow.lock_is))
+      c.part-first.ensures.parted.given_hand c.part-first.ensures.parted.given_parts
+      c.join-server.ensures.first.leaves c.join-server.ensures.second.leaves
+      c.join_servers.ensures.both.hand_parts c.join_servers.ensures.both.parts
+      c.join_servers.ensures.both.fixed_is c.join_servers.ensures.both.lock_is;
 }
 
 pub part-first-requires-clause-lock : goal.part-first-requires-clause-lock
-part-first-requires-clause-lock g t c κs lives = c.accept_one.ensures.leaves.lock_is ∙ c.requires.may_grow.lock_is
+part-first-requires-clause-lock g t c κs lives = c.accept_one.ensures.leaves.lock_is
+    ∙ c.requires.may_grow.lock_is
 
 pub part-first-requires-clause-served : goal.part-first-requires-clause-served
-part-first-requires-clause-served g t c κs lives = c.accept_one.ensures.served ∙ c.requires.may_grow.unserved
+part-first-requires-clause-served g t c κs lives = c.accept_one.ensures.served
+    ∙ c.requires.may_grow.unserved
 
 pub join_servers-requires-clause-lock : goal.join_servers-requires-clause-lock
-join_servers-requires-clause-lock g t c κs lives = c.join-server.ensures.first.leaves.lock_is ∙ c.part-first.ensures.parted.lock_is
+join_servers-requires-clause-lock g t c κs lives = c.join-server.ensures.first.leaves.lock_is
+    ∙ c.part-first.ensures.parted.lock_is
 
 pub join_servers-requires-clause-ended_lock : goal.join_servers-requires-clause-ended_lock
-join_servers-requires-clause-ended_lock g t c κs lives = c.join-server.ensures.second.leaves.lock_is ∙ c.part-first.ensures.parted.given_lock
+join_servers-requires-clause-ended_lock g t c κs lives = c.join-server.ensures.second.leaves.lock_is
+    ∙ c.part-first.ensures.parted.given_lock
 
 pub join_servers-requires-clause-fixed : goal.join_servers-requires-clause-fixed
 join_servers-requires-clause-fixed g t c κs lives =
-    c.join-server.ensures.second.leaves.fixed_is ∙ (c.part-first.ensures.parted.given_fixed ∙ sym (c.join-server.ensures.first.leaves.fixed_is ∙ c.part-first.ensures.parted.fixed_is))
+    c.join-server.ensures.second.leaves.fixed_is
+    ∙ (c.part-first.ensures.parted.given_fixed
+    ∙ sym (c.join-server.ensures.first.leaves.fixed_is ∙ c.part-first.ensures.parted.fixed_is))
 
 pub part-first-requires-clause-room : goal.part-first-requires-clause-room
-part-first-requires-clause-room g t c κs lives = (omega (arith, c.if-more-eq0.false), omega (arith, c.requires.may_grow.hand_parts, c.accept_one.ensures.leaves.hand_parts), omega (arith, c.requires.may_grow.parts, c.accept_one.ensures.leaves.parts))
+part-first-requires-clause-room g t c κs lives = (
+  omega (arith, c.if-more-eq0.false),
+  omega
+      (arith, c.requires.may_grow.hand_parts, c.accept_one.ensures.leaves.hand_parts),
+  omega
+      (arith, c.requires.may_grow.parts, c.accept_one.ensures.leaves.parts),
+)
 
 -- What goes to another thread may do so. `search` stops at its bounds here: the bounds of the function are given by their places.
 lock_sync : (g : Over) → IsSend (param 0 g.row.B) → IsSync (lock.the_row (param 0 g.row.B) g.B.Recorded)

@@ -6,7 +6,10 @@ use Rattle.link_pool.proofs.servers.join_servers.Goals as goal
 pub returns-clause-on : goal.returns-clause-on
 returns-clause-on g c = record {
   hand = c.join.ensures.way;
-  stands = servers_both g.B.Recorded.legal g.A.In.Source.left g.A.Out.Sink.written g.A.In.Source.faults g.A.Out.Sink.faults _ _ _ _ _ _ _ _ _ _ _ _ c.requires.on.stands c.requires.ended.stands c.requires.fixed c.join.ensures.both c.join-2.ensures c.grow.ensures c.either.ensures;
+  stands = servers_both g.B.Recorded.legal g.A.In.Source.left g.A.Out.Sink.written
+      g.A.In.Source.faults g.A.Out.Sink.faults _ _ _ _ _ _ _ _ _ _ _ _ c.requires.on.stands
+      c.requires.ended.stands c.requires.fixed c.join.ensures.both c.join-2.ensures c.grow.ensures
+      c.either.ensures;
 }
 
 pub join-requires-clause-parts : goal.join-requires-clause-parts

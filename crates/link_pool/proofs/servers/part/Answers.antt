@@ -6,12 +6,26 @@ use Rattle.link_pool.proofs.Parting.{server_given, server_keeps}
 use Rattle.link_pool.proofs.servers.part.Goals as goal
 
 pub returns-clause-on : goal.returns-clause-on
-returns-clause-on g c = (record { hand = c.split-hand.ensures.way; stands = server_keeps g.B.Recorded.legal g.A.In.Source.left g.A.Out.Sink.written g.A.In.Source.faults g.A.Out.Sink.faults _ _ _ _ _ _ _ c.requires.on.stands c.requires.served (omega (arith, c.requires.room.0, c.requires.room.1)) c.split-hand.ensures.left (c.split-pass.ensures.left ∙ ap (λ (p : PassView). record p { parts = p.parts - 1 }) c.split-own.ensures.left) }, c.requires.served)
+returns-clause-on g c = (
+  record {
+    hand = c.split-hand.ensures.way;
+    stands = server_keeps g.B.Recorded.legal g.A.In.Source.left
+        g.A.Out.Sink.written g.A.In.Source.faults g.A.Out.Sink.faults _ _ _ _ _ _ _
+        c.requires.on.stands
+        c.requires.served (omega (arith, c.requires.room.0, c.requires.room.1))
+        c.split-hand.ensures.left (c.split-pass.ensures.left
+        ∙ ap (λ (p : PassView). record p { parts = p.parts - 1 }) c.split-own.ensures.left);
+  },
+  c.requires.served,
+)
 
 pub returns-clause-given : goal.returns-clause-given
 returns-clause-given g c = record {
   hand = c.split-hand.ensures.given_way;
-  stands = server_given g.B.Recorded.legal g.A.In.Source.left g.A.Out.Sink.written g.A.In.Source.faults g.A.Out.Sink.faults _ _ _ _ _ _ _ _ _ c.requires.on.stands c.requires.served c.split-hand.ensures.given c.split-own.ensures.given c.none-served.ensures refl;
+  stands = server_given g.B.Recorded.legal g.A.In.Source.left g.A.Out.Sink.written
+      g.A.In.Source.faults g.A.Out.Sink.faults _ _ _ _ _ _ _ _ _ c.requires.on.stands
+      c.requires.served c.split-hand.ensures.given c.split-own.ensures.given c.none-served.ensures
+      refl;
 }
 
 pub returns-clause-parted : goal.returns-clause-parted

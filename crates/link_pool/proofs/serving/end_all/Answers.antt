@@ -17,11 +17,15 @@ returns-then-is_over-clause-over g c = sym c.is_over.ensures ∙ c.if-is_over.tr
 
 pub returns-then-is_over-clause-ended : goal.returns-then-is_over-clause-ended
 returns-then-is_over-clause-ended g c =
-    has_ended g.B.Recorded.legal g.A.In.Source.left g.A.Out.Sink.written g.A.In.Source.faults g.A.Out.Sink.faults (view c.loop.server.hand) _ _ c.take-turn.result.accepted.value _ _ (view c.args.server.hand) c.loop.invariant.on.stands c.loop.invariant.leaves
+    has_ended g.B.Recorded.legal g.A.In.Source.left g.A.Out.Sink.written g.A.In.Source.faults
+    g.A.Out.Sink.faults (view c.loop.server.hand) _ _ c.take-turn.result.accepted.value _ _
+    (view c.args.server.hand) c.loop.invariant.on.stands c.loop.invariant.leaves
     (c.take-turn.ensures.all (c.loop.invariant.leaves.hand_parts ∙ c.requires.hand))
 
 pub give-requires-clause-parts : goal.give-requires-clause-parts
-give-requires-clause-parts g c κs lives = has_parts (view c.loop.server.hand) (view c.take-turn.new.hand) c.take-turn.result.accepted.value c.take-turn.ensures.turn c.loop.invariant.on.stands.rests
+give-requires-clause-parts g c κs lives = has_parts (view c.loop.server.hand)
+    (view c.take-turn.new.hand) c.take-turn.result.accepted.value c.take-turn.ensures.turn
+    c.loop.invariant.on.stands.rests
 
 pub give-requires-clause-has : goal.give-requires-clause-has
 give-requires-clause-has g c κs lives = ap (λ (v : HandView _). v.turns) c.take-turn.ensures.turn
@@ -38,7 +42,10 @@ serve_turns-next-requires-clause-parts g c = omega (arith, c.requires.parts, c.l
 pub serve_turns-next-requires-clause-on : goal.serve_turns-next-requires-clause-on
 serve_turns-next-requires-clause-on g c κs lives = record {
   hand = c.give.ensures.way;
-  stands = gives_back g.B.Recorded.legal g.A.In.Source.left g.A.Out.Sink.written g.A.In.Source.faults g.A.Out.Sink.faults (view c.loop.server.hand) (view c.take-turn.new.hand) (view c.give.new.hand) _ c.take-turn.result.accepted.value _ _ c.loop.invariant.on.stands c.take-turn.ensures.turn c.give.ensures.given;
+  stands = gives_back g.B.Recorded.legal g.A.In.Source.left g.A.Out.Sink.written
+      g.A.In.Source.faults g.A.Out.Sink.faults (view c.loop.server.hand) (view c.take-turn.new.hand)
+      (view c.give.new.hand) _ c.take-turn.result.accepted.value _ _ c.loop.invariant.on.stands
+      c.take-turn.ensures.turn c.give.ensures.given;
 }
 
 pub loop-preserved : goal.loop-preserved

@@ -22,7 +22,9 @@ returns-in-Ok-clause-leaves g c left input =
     leaves_finished g.D.Device.seen
     (λ j. j.entries) _ _ _ _ _ _ left input _ _ _ _ _ _ _ _ _ _ c.end_broker-device.result.2 None _ _ _ _ _ _ _
     served.fixed_is c.end_broker-device.ensures.journal told.device told.journal (ap (λ v. v.value) told.served)
-    c.end_broker-device.ensures.ended (told_of (λ (s : Service _ _). s.ending) _ _ _ _ _ _ _ _ _ _ _ _ _ served.lacked_is served.count_is told.told) (ok_of _ _ c.in-Ok.is served.quiet)
+    c.end_broker-device.ensures.ended
+    (told_of (λ (s : Service _ _). s.link.ending) _ _ _ _ _ _ _ _ _ _ _ _ _ served.lacked_is
+    served.count_is told.told) (ok_of _ _ c.in-Ok.is served.quiet)
     (pool_told (IsServed g.A.In.Source.left g.A.Out.Sink.written g.A.In.Source.faults g.A.Out.Sink.faults (record { base = origin_of (g.D.Device.seen c.args.broker.device).base c.args.broker.held.sessions.numbers; limit = c.args.broker.limit; began = c.args.broker.began; contexts = g.D.Device.CONTEXTS })) given_of client_of _ _ _ _ _ _ _
     (wrong_told _ c.end_broker-device.result.2 None _ _ _ _ _ _ _ _ c.end_broker-device.ensures.wrong told.told) served.served_is) (λ none. enough_links _ _ _ _ served.count_is (ok_of _ _ c.in-Ok.is served.enough))
 
@@ -34,7 +36,12 @@ returns-in-Err-Failed-clause-leaves g c left input =
     leaves_finished g.D.Device.seen
     (λ j. j.entries) _ _ _ _ _ _ left input _ _ _ _ _ _ _ _ _ _ c.end_broker-device.result.2 (Some c.fault_count-faults.result) _ _ _ _ _ _ _
     served.fixed_is c.end_broker-device.ensures.journal told.device told.journal (ap (λ v. v.value) told.served)
-    c.end_broker-device.ensures.ended (told_of (λ (s : Service _ _). s.ending) _ _ _ _ _ _ _ _ _ _ _ _ _ served.lacked_is served.count_is told.told) (served.failed (err_of _ _ errors.Failed c.in-Err-Failed.is is), c.fault_count-faults.ensures)
+    c.end_broker-device.ensures.ended
+    (told_of (λ (s : Service _ _). s.link.ending) _ _ _ _ _ _ _ _ _ _ _ _ _ served.lacked_is
+    served.count_is told.told) (
+      served.failed (err_of _ _ errors.Failed c.in-Err-Failed.is is),
+      c.fault_count-faults.ensures,
+    )
     (pool_told (IsServed g.A.In.Source.left g.A.Out.Sink.written g.A.In.Source.faults g.A.Out.Sink.faults (record { base = origin_of (g.D.Device.seen c.args.broker.device).base c.args.broker.held.sessions.numbers; limit = c.args.broker.limit; began = c.args.broker.began; contexts = g.D.Device.CONTEXTS })) given_of client_of _ _ _ _ _ _ _
     (wrong_told _ c.end_broker-device.result.2 (Some c.fault_count-faults.result) _ _ _ _ _ _ _ _ c.end_broker-device.ensures.wrong told.told) served.served_is) (λ none. absurd cc)
 

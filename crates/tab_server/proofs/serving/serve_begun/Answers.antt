@@ -21,7 +21,8 @@ returns-in-Ok-clause-leaves g c left input =
     let told = c.finished.ensures in
     leaves_finished g.D.Device.seen
     (λ j. j.entries) _ _ _ _ _ _ left input _ _ _ _ _ _ _ _ _ _ c.end_broker-device.result.2 None _ _ _ _ _ _ _
-    served.fixed c.end_broker-device.ensures.journal told.device told.journal (ap (λ v. v.items) told.links)
+    served.fixed_is c.end_broker-device.ensures.journal told.device told.journal
+    (ap (λ v. v.items) told.links)
     c.end_broker-device.ensures.ended told.told (ok_of _ _ c.in-Ok.is served.quiet)
     (served_told (IsLinkDone g.A.In.Source.left g.A.Out.Sink.written g.A.In.Source.faults g.A.Out.Sink.faults (record { base = origin_of (g.D.Device.seen c.args.broker.device).base c.args.broker.held.sessions.numbers; limit = c.args.broker.limit; began = c.args.broker.began; contexts = g.D.Device.CONTEXTS })) (λ (link : LinkDone _ _). link.client) _ _ _ _ _ _ _
     (wrong_told _ c.end_broker-device.result.2 None _ _ _ _ _ _ _ _ c.end_broker-device.ensures.wrong told.told) served.served) (λ none. ok_of _ _ c.in-Ok.is served.enough)
@@ -33,7 +34,8 @@ returns-in-Err-Failed-clause-leaves g c left input =
     let is : ◌≡◌ {A = AcceptError} c.in-Err-Failed.field-0 errors.Failed = rw c.in-Err-Failed.is at c.in-Err-Failed.field-0-is in
     leaves_finished g.D.Device.seen
     (λ j. j.entries) _ _ _ _ _ _ left input _ _ _ _ _ _ _ _ _ _ c.end_broker-device.result.2 (Some c.fault_count-count.result) _ _ _ _ _ _ _
-    served.fixed c.end_broker-device.ensures.journal told.device told.journal (ap (λ v. v.items) told.links)
+    served.fixed_is c.end_broker-device.ensures.journal told.device told.journal
+    (ap (λ v. v.items) told.links)
     c.end_broker-device.ensures.ended told.told (served.failed (err_of _ _ errors.Failed c.in-Err-Failed.is is), c.fault_count-count.ensures)
     (served_told (IsLinkDone g.A.In.Source.left g.A.Out.Sink.written g.A.In.Source.faults g.A.Out.Sink.faults (record { base = origin_of (g.D.Device.seen c.args.broker.device).base c.args.broker.held.sessions.numbers; limit = c.args.broker.limit; began = c.args.broker.began; contexts = g.D.Device.CONTEXTS })) (λ (link : LinkDone _ _). link.client) _ _ _ _ _ _ _
     (wrong_told _ c.end_broker-device.result.2 (Some c.fault_count-count.result) _ _ _ _ _ _ _ _ c.end_broker-device.ensures.wrong told.told) served.served) (λ none. absurd cc)
@@ -45,7 +47,8 @@ returns-in-Err-Memory-clause-leaves g c left input =
     let idle = served.memory (err_of _ _ errors.Memory c.in-Err-Memory.is is) in
     leaves_lacking g.D.Device.seen
     _ _ _ _ _ _ left input _ _ _ _ _ _ c.end_broker-device.result.2 _ _ _ _
-    served.fixed c.end_broker-device.ensures.journal (ap (λ b. b.journal) idle.2 ∙ c.requires.journal) idle.1
+    served.fixed_is c.end_broker-device.ensures.journal
+    (ap (λ b. b.journal) idle.2 ∙ c.requires.journal) idle.1
     (ap (λ a. g.A.Acceptor.coming a) idle.0) (ap (λ a. g.A.Acceptor.faults a) idle.0)
     (c.end_broker-device.ensures.wrong ∙ ap (λ b. b.wrong_code) idle.2 ∙ c.requires.sound)
     c.end_broker-device.ensures.ended

@@ -34,7 +34,8 @@ run-requires-clause-opened g c κs lives =
     let k = c.requires.keeps c.requires.begun.start c.requires.begun.is in
     record {
       lock_is = k.goes_on.lock ∙ c.requires.begun.lock_is;
-      present = (stood _ stages.Going c.requires.begun.start _ _ _ _ _ _ _ _ c.requires.going k.stands).so_far.serves.present;
+      present = (stood _ stages.Going c.requires.begun.start _ _ _ _ _ _ _ _ c.requires.going
+          k.stands).so_far.serves.present;
     }
 
 pub run-requires-clause-more : goal.run-requires-clause-more
@@ -55,16 +56,22 @@ returns-then-is_err g c start is =
     let took = c.in-Some.ensures.some.0 ∙ ap (λ (m : Message). with_taken (view c.args.self.now.worker.side.pass) m) c.in-Command.is in
     let bad = sym c.is_err.ensures.value ∙ c.if-is_err.true in
     record {
-      side = subst (λ (x : Between). IsWorkers x c.run.new.self.side) (sym same) c.run.ensures.took.side;
-      goes_on = goes_on_more _ c.args.self.now.worker.pass _ k.goes_on (goes_on_act _ _ _ _ _ _ c.run.ensures.took.acts.asks.1);
+      side = subst (λ (x : Between). IsWorkers x c.run.new.self.side) (sym same)
+          c.run.ensures.took.side;
+      goes_on = goes_on_more _ c.args.self.now.worker.pass _ k.goes_on
+          (goes_on_act _ _ _ _ _ _ c.run.ensures.took.acts.asks.1);
       stands = record {
         before = (view c.run.new.self.side.pass).taken;
         cut = rw (c.run.ensures.took.client, c.run.ensures.took.done, c.end.ensures.written)
-            (so_far_cut c.args.self.now.worker.pass _ _ _ _ _ c.args.self.now.worker.side.seat _ _ _ _ _ c.run.new.reply well.so_far (taken_by _ _ _ _ c.run.ensures.took.line took) c.run.ensures.took.acts
+            (so_far_cut c.args.self.now.worker.pass _ _ _ _ _ c.args.self.now.worker.side.seat _ _ _
+            _ _ c.run.new.reply well.so_far (taken_by _ _ _ _ c.run.ensures.took.line took)
+            c.run.ensures.took.acts
             (from_err c.run.result _ c.run.ensures.pushed.front bad));
         after = dropped_none _;
-        sink_ended = c.end.ensures.end_told ∙ ap at_end (c.run.ensures.pushed.goes_on ∙ well.sink_open);
-        rose = rw (c.end.ensures.faults, sym well.same) (from_err c.run.result _ c.run.ensures.pushed.fault bad);
+        sink_ended = c.end.ensures.end_told ∙ ap at_end
+            (c.run.ensures.pushed.goes_on ∙ well.sink_open);
+        rose = rw (c.end.ensures.faults, sym well.same)
+            (from_err c.run.result _ c.run.ensures.pushed.fault bad);
       };
     }
 
@@ -76,11 +83,15 @@ returns-else-is_err g c start is =
     let took = c.in-Some.ensures.some.0 ∙ ap (λ (m : Message). with_taken (view c.args.self.now.worker.side.pass) m) c.in-Command.is in
     let good = sym c.is_err.ensures.value ∙ c.if-is_err.false in
     record {
-      side = subst (λ (x : Between). IsWorkers x c.run.new.self.side) (sym same) c.run.ensures.took.side;
-      goes_on = goes_on_more _ c.args.self.now.worker.pass _ k.goes_on (goes_on_act _ _ _ _ _ _ c.run.ensures.took.acts.asks.1);
+      side = subst (λ (x : Between). IsWorkers x c.run.new.self.side) (sym same)
+          c.run.ensures.took.side;
+      goes_on = goes_on_more _ c.args.self.now.worker.pass _ k.goes_on
+          (goes_on_act _ _ _ _ _ _ c.run.ensures.took.acts.asks.1);
       stands = stood stages.Going _ start _ _ _ _ _ _ _ _ (sym c.requires.going) (record {
         so_far = rw (c.run.ensures.took.client, c.run.ensures.took.done)
-            (so_far_run c.args.self.now.worker.pass _ _ _ _ _ c.args.self.now.worker.side.seat _ _ _ _ _ c.run.new.reply well.so_far (taken_by _ _ _ _ c.run.ensures.took.line took) c.run.ensures.took.acts
+            (so_far_run c.args.self.now.worker.pass _ _ _ _ _ c.args.self.now.worker.side.seat _ _ _
+            _ _ c.run.new.reply well.so_far (taken_by _ _ _ _ c.run.ensures.took.line took)
+            c.run.ensures.took.acts
             (from_ok c.run.result _ c.run.ensures.pushed.ok good));
         sink_open = c.run.ensures.pushed.goes_on ∙ well.sink_open;
         same = from_ok c.run.result _ c.run.ensures.pushed.quiet good ∙ well.same;

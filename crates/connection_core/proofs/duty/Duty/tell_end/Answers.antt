@@ -27,9 +27,12 @@ returns-then-is_err g c start is =
       side = rw c.tell_bad_size.ensures.side k.side;
       goes_on = rw c.tell_bad_size.ensures.pass k.goes_on;
       worked = rw (c.end.ensures.written, c.tell_bad_size.ensures.client, c.tell_bad_size.ensures.done, c.tell_bad_size.ensures.pass, c.tell_bad_size.ensures.side)
-          (worked_bad_cut _ _ _ c.in-BadSize.size _ _ _ _ _ _ well.so_far c.in-BadSize.is (from_err c.tell_bad_size.result _ c.tell_bad_size.ensures.pushed.front bad));
-      sink_ended = c.end.ensures.end_told ∙ ap at_end (c.tell_bad_size.ensures.pushed.goes_on ∙ well.sink_open);
-      counts = rw (c.end.ensures.faults, sym well.same) (from_err c.tell_bad_size.result _ c.tell_bad_size.ensures.pushed.fault bad);
+          (worked_bad_cut _ _ _ c.in-BadSize.size _ _ _ _ _ _ well.so_far c.in-BadSize.is
+          (from_err c.tell_bad_size.result _ c.tell_bad_size.ensures.pushed.front bad));
+      sink_ended = c.end.ensures.end_told ∙ ap at_end
+          (c.tell_bad_size.ensures.pushed.goes_on ∙ well.sink_open);
+      counts = rw (c.end.ensures.faults, sym well.same)
+          (from_err c.tell_bad_size.result _ c.tell_bad_size.ensures.pushed.fault bad);
     }
 
 pub returns-else-is_err : goal.returns-else-is_err
@@ -41,7 +44,9 @@ returns-else-is_err g c start is =
       side = rw c.tell_bad_size.ensures.side k.side;
       goes_on = rw c.tell_bad_size.ensures.pass k.goes_on;
       worked = rw (c.tell_bad_size.ensures.client, c.tell_bad_size.ensures.done, c.tell_bad_size.ensures.pass, c.tell_bad_size.ensures.side)
-          (worked_bad _ _ _ c.in-BadSize.size _ _ _ _ _ _ well.so_far c.in-BadSize.is (from_ok c.tell_bad_size.result _ c.tell_bad_size.ensures.pushed.ok good));
+          (worked_bad _ _ _ c.in-BadSize.size _ _ _ _ _ _ well.so_far c.in-BadSize.is
+          (from_ok c.tell_bad_size.result _ c.tell_bad_size.ensures.pushed.ok good));
       sink_ended = c.tell_bad_size.ensures.pushed.goes_on ∙ well.sink_open;
-      counts = from_ok c.tell_bad_size.result _ c.tell_bad_size.ensures.pushed.quiet good ∙ well.same;
+      counts = from_ok c.tell_bad_size.result _ c.tell_bad_size.ensures.pushed.quiet good
+          ∙ well.same;
     }
