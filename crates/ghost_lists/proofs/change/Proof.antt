@@ -1,4 +1,4 @@
--- `grow` does nothing when it runs, and afterwards its value is the next one.
+-- `change` does nothing when it runs, and afterwards its value is the next one.
 use Rattle.std.proofs.Common.{List, [], ◌∷◌, refl}
 use Rattle.std.proofs.raw_atomic.Walks.{proved}
 use mir.Syntax.{a_type, dcons, dnil, named}
@@ -19,13 +19,13 @@ use denote.Steps.{nothing, opens, closes}
 use denote.Param.{param, bounded}
 use denote.Triple.Walked.{Stays, stay_dropped, stay_ref, walk_of, Goes-dropped, Goes-ref, says, ends_at}
 use Rattle.std.specs.contracts.snapshot.Snapshot as Snapshot
-use Rattle.ghost_lists.specs.contracts.grow.{ended, clauses}
-use Rattle.ghost_lists.specs.contracts.grow.Key.{name as #self}
-use Rattle.ghost_lists.proofs.grow.Statement.{statement}
-use Rattle.ghost_lists.proofs.grow.Code as code
+use Rattle.ghost_lists.specs.contracts.change.{ended, clauses}
+use Rattle.ghost_lists.specs.contracts.change.Key.{name as #self}
+use Rattle.ghost_lists.proofs.change.Statement.{statement}
+use Rattle.ghost_lists.proofs.change.Code as code
 
-pub grow_spec : {M : Type 1} → statement M
-grow_spec 𝓤 𝓛 𝓜 𝓡 wired A T _ _ g d _ =
+pub change_spec : {M : Type 1} → statement M
+change_spec 𝓤 𝓛 𝓜 𝓡 wired A T _ _ g d _ =
     let H = 𝓛.H in let 𝓣 = tables 𝓤 H 𝓜 𝓡 𝓡.env in let A' : RattleType = param 0 A in let T' : RattleType = param 1 T in let En = ended A T g d in
     let inst = bounded (a_type ∷ a_type ∷ []) (A, (T, tt)) (dcons d dnil) in let fn = inst_fn inst code.function in
     let c = clauses A T g d 𝓛 𝓜.mem 𝓡.returns in let R : RattleType = Snapshot.the_row T' in
