@@ -1,26 +1,17 @@
 -- What a line of known answers says, and what playing it does to a device that never fails.
-use Rattle.std.specs.Prelude.{◌≡◌, ◌<◌, ℕ, ◌==◌, ◌&&◌, Bool, true, not, List, length, codes, bytes_eq, Ok, MatchBool}
-use Rattle.std.specs.List.{position_or_len, before_first, after_first}
-use Rattle.std.specs.Str.Parse.{digits_value, without_leading_plus}
+use Rattle.std.specs.Prelude.{◌≡◌, ◌<◌, ℕ, ◌&&◌, Bool, true, not, List, length, codes, bytes_eq, Ok, MatchBool}
+use Rattle.std.specs.List.{position_or_len}
 use Rattle.hex.specs.Hex.{decode_of}
 use Rattle.tab_spec.specs.declared.numbers.Numbers.{Numbers}
 use Rattle.tab_spec.specs.Persist.{fresh_persist}
 use Rattle.tab_spec.specs.Numbers.{profile_numbers}
+use Rattle.device_words.specs.Words.{AreNamed, first_word, is_mark, other_words}
 use Rattle.device_spec.specs.Slots.{SlotState, new_slots, slot_step}
 use Rattle.tab_spec.specs.Commands.{startup_command}
 
-abbrev pub is_space : ℕ → Bool
-is_space byte = byte == 32
-
 -- a line has two words, and its first space stands between them
 abbrev pub HasTwoWords : List ℕ → Type 0
-HasTwoWords line = position_or_len is_space line < length line
-
-abbrev pub first_word : List ℕ → List ℕ
-first_word line = before_first is_space line
-
-abbrev pub second_word : List ℕ → List ℕ
-second_word line = after_first is_space line
+HasTwoWords line = position_or_len (is_mark 32) line < length line
 
 -- the line names a seed
 abbrev pub is_seed : List ℕ → Bool
@@ -30,17 +21,6 @@ is_seed line = bytes_eq (first_word line) (codes "seed")
 abbrev pub is_pair : List ℕ → Bool
 is_pair line = not (is_seed line) && not (bytes_eq (first_word line) (codes "numbers"))
 
--- the number of a word of decimal digits
-abbrev pub decimal : List ℕ → ℕ
-decimal word = digits_value 10 (without_leading_plus word)
-
--- the words name these numbers, in decimal digits: slots, places, sessions and the gap, with a space between each two
-pub record AreNamed (words : List ℕ) (numbers : Numbers) : Type 0 where
-  pub slots : numbers.slots ≡ decimal (first_word words)
-  pub loaded : numbers.loaded ≡ decimal (first_word (second_word words))
-  pub active : numbers.active ≡ decimal (first_word (second_word (second_word words)))
-  pub gap : numbers.gap ≡ decimal (second_word (second_word (second_word words)))
-
 -- the state of a new device of these numbers and this seed after Startup
 abbrev pub started_state : Numbers → List ℕ → SlotState
 started_state numbers seed = (slot_step (new_slots numbers (fresh_persist seed)) startup_command).0
@@ -49,8 +29,8 @@ started_state numbers seed = (slot_step (new_slots numbers (fresh_persist seed))
 -- is a new one of these with the seed that was named last. It is started
 pub record Begins (line seed new_seed : List ℕ) (after : SlotState) (agrees : Bool) : Type 0 where
   pub numbers : Numbers
-  pub named : MatchBool (is_seed line) ((decode_of (second_word line) ≡ Ok new_seed) × (numbers ≡ profile_numbers))
-      (AreNamed (second_word line) numbers × (new_seed ≡ seed))
+  pub named : MatchBool (is_seed line) ((decode_of (other_words line) ≡ Ok new_seed) × (numbers ≡ profile_numbers))
+      (AreNamed 32 (other_words line) numbers × (new_seed ≡ seed))
   pub state_is : after ≡ started_state numbers new_seed
   pub agrees_is : agrees ≡ true
 
@@ -59,7 +39,7 @@ pub record Compares (line : List ℕ) (before after : SlotState) (agrees : Bool)
   pub command : List ℕ
   pub known : List ℕ
   pub command_is : decode_of (first_word line) ≡ Ok command
-  pub known_is : decode_of (second_word line) ≡ Ok known
+  pub known_is : decode_of (other_words line) ≡ Ok known
   pub state_is : after ≡ (slot_step before command).0
   pub agrees_is : agrees ≡ bytes_eq (slot_step before command).1 known
 

@@ -1,16 +1,15 @@
-ghost use Rattle.std.specs.Prelude.{◌≡◌, ◌&&◌, [], bytes_eq, replicate, IsTrue, Ok, IfOk, OnOk};
+ghost use Rattle.std.specs.Prelude.{◌≡◌, ◌&&◌, [], bytes_eq, replicate, IsTrue, IfOk, OnOk};
 ghost use Rattle.std.specs.Prelude.{OnErr, if◌then◌else◌};
-ghost use Rattle.hex.specs.Hex.{decode_of};
 ghost use Rattle.tab_spec.specs.Count.{one_more};
 ghost use Rattle.tab_spec.specs.Frame.{is_frame};
 ghost use Rattle.tab_spec.specs.Numbers.{profile_numbers};
 ghost use Rattle.device_spec.specs.Slots.{slot_step};
-ghost use Rattle.known_answers.specs.Line.{AreNamed, IsPlayed, decimal, first_word, is_pair};
-ghost use Rattle.known_answers.specs.Line.{second_word, started_state};
+ghost use Rattle.known_answers.specs.Line.{IsPlayed, is_pair, started_state};
 
 use anyhow::{Context, ensure};
 use device_memory::MemoryDevice;
 use device_port::Device;
+use device_words::{numbers_of, seed_of};
 use std::alloc::Global;
 use tab_bytes::Buffer;
 use tab_spec::Numbers;
@@ -104,7 +103,7 @@ impl Player {
             return Ok(true);
         }
         if first == "numbers" {
-            let numbers = numbers_of(second)?;
+            let numbers = numbers_of(second, ' ')?;
             begin(&mut self.device, self.alloc, self.seed, numbers)?;
             return Ok(true);
         }
@@ -163,48 +162,4 @@ fn started(alloc: Global, seed: [u8; 32], numbers: Numbers) -> anyhow::Result<Me
         .ok()
         .context("a new device starts")?;
     Ok(device)
-}
-
-// Four numbers with a space between each two: slots, places, sessions and the gap.
-fn numbers_of(words: &str) -> anyhow::Result<Numbers>
-    ensures { IfOk result (λ numbers. AreNamed words.now numbers) }
-{
-    let (slots, others) = first_of(words)?;
-    let (loaded, others) = first_of(others)?;
-    let (active, gap) = first_of(others)?;
-    Ok(Numbers {
-        slots: count_of(slots)?,
-        loaded: count_of(loaded)?,
-        active: count_of(active)?,
-        gap: gap_of(gap)?,
-    })
-}
-
-// The first of several words, and the others.
-fn first_of(words: &str) -> anyhow::Result<(&str, &str)>
-    ensures { IfOk result (λ parts. (parts.0.now ≡ first_word words.now)
-        × (parts.1.now ≡ second_word words.now)) }
-{
-    words.split_once(' ').context("a device has four numbers")
-}
-
-fn count_of(word: &str) -> anyhow::Result<u8>
-    ensures { IfOk result (λ n. n ≡ decimal word.now) }
-{
-    Ok(word.parse::<u8>()?)
-}
-
-fn gap_of(word: &str) -> anyhow::Result<u32>
-    ensures { IfOk result (λ n. n ≡ decimal word.now) }
-{
-    Ok(word.parse::<u32>()?)
-}
-
-// A seed of 32 bytes.
-fn seed_of(digits: &str) -> anyhow::Result<[u8; 32]>
-    ensures { IfOk result (λ seed. decode_of digits.now ≡ Ok seed) }
-{
-    let mut seed = [0; 32];
-    hex::decode_to_slice(digits, &mut seed)?;
-    Ok(seed)
 }
