@@ -1,11 +1,11 @@
 ghost use Rattle.std.specs.Prelude.{◌≡◌, ◌↔◌, [], length, IfOk, IfSome, IsSome, Ok};
 ghost use Rattle.std.specs.Prelude.{MatchOption};
 ghost use Rattle.hex.specs.Hex.{decode_of};
-ghost use Rattle.fault_runs.specs.Lines.{AreNamed, HasNumbers, HasNoMark, before_comma};
-ghost use Rattle.fault_runs.specs.Lines.{behind_comma, behind_mark, decimal, first_word};
-ghost use Rattle.fault_runs.specs.Lines.{other_words};
+ghost use Rattle.device_words.specs.Words.{first_word, other_words};
+ghost use Rattle.fault_runs.specs.Lines.{AreListed, HasNumbers, HasNoMark, behind_mark};
 
 use anyhow::{Context, ensure};
+use device_words::{numbers_of, seed_of};
 use std::alloc::Global;
 use tab_spec::Numbers;
 
@@ -58,15 +58,6 @@ fn split_word(text: &str) -> (&str, &str)
     }
 }
 
-// A seed of 32 bytes.
-fn seed_of(digits: &str) -> anyhow::Result<[u8; 32]>
-    ensures { IfOk result (λ seed. decode_of digits.now ≡ Ok seed) }
-{
-    let mut seed = [0; 32];
-    hex::decode_to_slice(digits, &mut seed)?;
-    Ok(seed)
-}
-
 // The words behind a seed: the device's numbers, or none for those of the profile, and then the
 // transmissions that fail.
 fn read_words(alloc: Global, words: &str) -> anyhow::Result<(Numbers, Vec<u64>)>
@@ -82,48 +73,13 @@ fn read_words(alloc: Global, words: &str) -> anyhow::Result<(Numbers, Vec<u64>)>
 // The numbers of a device, where a word names them.
 fn read_numbers(word: &str) -> anyhow::Result<Option<Numbers>>
     ensures { IfOk result (λ found. MatchOption found (HasNoMark word.now)
-        (λ numbers. AreNamed (behind_mark word.now) numbers)) }
+        (λ numbers. AreListed (behind_mark word.now) numbers)) }
 {
     let Some((name, list)) = word.split_once('=') else {
         return Ok(None);
     };
     ensure!(name == "numbers", "a device has numbers");
-    Ok(Some(numbers_of(list)?))
-}
-
-// Four numbers with a comma between each two: slots, places, sessions and the gap.
-fn numbers_of(list: &str) -> anyhow::Result<Numbers>
-    ensures { IfOk result (λ numbers. AreNamed list.now numbers) }
-{
-    let (slots, others) = first_of(list)?;
-    let (loaded, others) = first_of(others)?;
-    let (active, gap) = first_of(others)?;
-    Ok(Numbers {
-        slots: count_of(slots)?,
-        loaded: count_of(loaded)?,
-        active: count_of(active)?,
-        gap: gap_of(gap)?,
-    })
-}
-
-// The first number of several, and the others.
-fn first_of(list: &str) -> anyhow::Result<(&str, &str)>
-    ensures { IfOk result (λ parts. (parts.0.now ≡ before_comma list.now)
-        × (parts.1.now ≡ behind_comma list.now)) }
-{
-    list.split_once(',').context("a device has four numbers")
-}
-
-fn count_of(word: &str) -> anyhow::Result<u8>
-    ensures { IfOk result (λ n. n ≡ decimal word.now) }
-{
-    Ok(word.parse::<u8>()?)
-}
-
-fn gap_of(word: &str) -> anyhow::Result<u32>
-    ensures { IfOk result (λ n. n ≡ decimal word.now) }
-{
-    Ok(word.parse::<u32>()?)
+    Ok(Some(numbers_of(list, ',')?))
 }
 
 // Transmissions with spaces between them.
