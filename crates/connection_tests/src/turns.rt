@@ -1,6 +1,6 @@
 //! Turns at a value in memory: what is answered, and what the history is in the end.
 
-ghost use Rattle.std.specs.Prelude.{◌≡◌, []};
+ghost use Rattle.std.specs.Prelude.{◌≡◌, [], IfOk};
 
 use crate::book::{ASKED, Book};
 use broker_lock::{Closed, Done, Job, OpenClientError, Pass, Serves, Shared, Told};
@@ -13,6 +13,18 @@ use tab_bytes::Buffer;
 const TOLD_FULL: [u8; 10] = [0x80, 0x01, 0, 0, 0, 10, 0, 0x0b, 0, 0x03];
 
 const TOLD_ANSWER: [u8; 10] = [0x80, 0x01, 0, 0, 0, 10, 0, 0x0b, 0, 0x04];
+
+// An empty history of this limit under a lock, and the pass to it.
+fn locked(alloc: Global, limit: u32) -> Result<(Shared<Book>, Pass<Book>), AllocError>
+    ensures lock { IfOk result (λ made. made.1.lock ≡ made.0) }
+    ensures nobody { IfOk result (λ made. made.1.known ≡ []) }
+    ensures parts { IfOk result (λ made. made.1.parts ≡ 1024) }
+{
+    match Shared::new(alloc, Book::new(alloc, limit)?) {
+        Ok(made) => Ok(made),
+        Err((error, _)) => Err(error),
+    }
+}
 
 // A client, and the places of its three commands in the history, as it was told them.
 #[derive(Drop)]
@@ -119,10 +131,7 @@ fn ask_over<R: Wait>(
     is_canceled: bool,
 ) -> Result<(Done, Buffer, usize), AllocError> {
     let mut reply = Buffer::new(alloc)?;
-    let (shared, mut pass) = match Shared::new(alloc, Book::new(alloc, limit)?) {
-        Ok(made) => made,
-        Err((error, _)) => return Err(error),
-    };
+    let (shared, mut pass) = locked(alloc, limit)?;
     let done = ask_one(rt, &shared, &mut pass, &mut reply, bytes, is_canceled);
     let book = shared.close(pass);
     Ok((done, reply, book.items().len()))
@@ -186,10 +195,7 @@ fn ask_after_wrong<R: Wait>(
 fn a_wrong_answer_is_told_from_then_on(rt: HostRuntime) -> Result<(), Fail> {
     let alloc = rt.alloc();
     let mut reply = Buffer::new(alloc)?;
-    let (shared, mut pass) = match Shared::new(alloc, Book::new(alloc, 1_000_000)?) {
-        Ok(made) => made,
-        Err((error, _)) => return Err(Fail::from(error)),
-    };
+    let (shared, mut pass) = locked(alloc, 1_000_000)?;
     let told = ask_after_wrong(&rt, &shared, &mut pass, &mut reply);
     shared.close(pass);
     let command = Done::Told(Told::Answer);
@@ -202,10 +208,7 @@ fn a_wrong_answer_is_told_from_then_on(rt: HostRuntime) -> Result<(), Fail> {
 fn a_pass_is_cut_from_a_pass(rt: HostRuntime) -> Result<(), Fail> {
     let alloc = rt.alloc();
     let mut reply = Buffer::new(alloc)?;
-    let (shared, mut pass) = match Shared::new(alloc, Book::new(alloc, 1_000_000)?) {
-        Ok(made) => made,
-        Err((error, _)) => return Err(Fail::from(error)),
-    };
+    let (shared, mut pass) = locked(alloc, 1_000_000)?;
     let visit = visit_in_parts(&rt, &shared, &mut pass, &mut reply);
     let book = shared.close(pass);
     let Visit { client, places } = visit.ok_or("it was refused")?;
