@@ -1,10 +1,6 @@
 //! A device that tells nothing. Its contexts have a blob of one byte.
-ghost use Rattle.std.specs.Prelude.{◌≡◌, ◌≤◌, None, length, refl};
-ghost use Rattle.tab_spec.specs.declared.contexts.TheConstants.{PROFILE_CONTEXTS};
-
-use device_port::{Device, DeviceFailed, Trace};
+use hidden_device::{Answers, HiddenDevice, respond};
 use tab_bytes::Buffer;
-use tab_spec::{ContextLimits, PROFILE_CONTEXTS};
 
 // The response to ContextSave of the session 0x02000001, with the number 5 (Part 2,
 // "TPMS_CONTEXT"): number, savedHandle, hierarchy, and the blob.
@@ -17,78 +13,36 @@ const LOADED: [u8; 14] = [0x80, 1, 0, 0, 0, 14, 0, 0, 0, 0, 0, 0, 0, 0];
 
 const DONE: [u8; 10] = [0x80, 1, 0, 0, 0, 10, 0, 0, 0, 0];
 
-// A device that tells nothing. Its next context has this number.
+// What such a device answers with. Its next context has this number.
 #[derive(Drop)]
-pub(crate) struct Fake {
+pub(crate) struct Contexts {
     pub(crate) number: u8,
     pub(crate) fails: bool,
-    faults: u64,
-    trace: Trace,
 }
 
-impl Fake {
-    // A device whose first context has the number 5.
-    pub(crate) fn new() -> Fake {
-        Fake {
-            number: 5,
-            fails: false,
-            faults: 0,
-            trace: Trace::new(),
-        }
-    }
+pub(crate) type Fake = HiddenDevice<Contexts>;
+
+// A device whose first context has the number 5.
+pub(crate) fn fake() -> Fake {
+    HiddenDevice::new(Contexts {
+        number: 5,
+        fails: false,
+    })
 }
 
-impl Device for Fake {
-    ghost seen = { λ d. record {
-      base = None;
-      state = None;
-      faults = d.faults;
-      trace = d.trace;
-    } };
-
-    ghost CONTEXTS = { PROFILE_CONTEXTS };
-
-    const CONTEXTS: ContextLimits = PROFILE_CONTEXTS;
-
-    ghost told_together = { λ _. refl };
-
-    ghost profile = { λ _. tt };
-
-    ghost short = { refl };
-
-    fn transmit(&mut self, command: &[u8], reply: &mut Buffer) -> Result<(), DeviceFailed> {
+impl Answers for Contexts {
+    fn answer(&mut self, _count: u64, command: &[u8], reply: &mut Buffer) -> bool {
         if self.fails {
-            self.faults = self.faults.saturating_add(1);
-            self.trace.failed(command);
-            reply.clear();
-            return Err(DeviceFailed);
+            return false;
         }
         answer(command, &mut self.number, reply);
-        self.trace.answered(command, reply.as_slice());
-        Ok(())
-    }
-
-    fn fault_count(&self) -> u64 {
-        self.faults
-    }
-
-    fn sent_count(&self) -> u64 {
-        self.trace.sent()
+        true
     }
 }
 
 // A byte of a command.
-fn byte(command: &[u8], at: usize) -> u8 {
+pub(crate) fn byte(command: &[u8], at: usize) -> u8 {
     command.get(at).copied().unwrap_or(0)
-}
-
-// Writes a response over whatever `reply` holds.
-fn respond(response: &[u8], reply: &mut Buffer)
-    requires { length response.now ≤ 4096 }
-    ensures { reply.new ≡ response.now }
-{
-    reply.clear();
-    reply.put_bytes(response).unwrap();
 }
 
 // To ContextSave a context of the next number, to ContextLoad the context's handle.

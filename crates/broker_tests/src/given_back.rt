@@ -3,7 +3,7 @@ ghost use Rattle.std.specs.Prelude.{◌≡◌, true, IfOk};
 ghost use Rattle.tab_spec.specs.declared.contexts.TheConstants.{PROFILE_CONTEXTS};
 ghost use Rattle.session_swap.specs.Items.{Names, is_loaded_item, item_of};
 
-use crate::fake::{Fake, RESPONSE_5};
+use crate::fake::{Fake, RESPONSE_5, fake};
 use device_port::Device;
 use session_swap::{Sessions, refresh};
 use std::alloc::Global;
@@ -63,7 +63,7 @@ impl Desk {
         sessions.adopt_session(9, SECOND);
         Ok(Desk {
             sessions,
-            device: Fake::new(),
+            device: fake(),
             reply: Buffer::new(alloc)?,
         })
     }
@@ -212,7 +212,7 @@ fn run_renewal(alloc: Global) -> Result<(u32, u64, bool), Fail> {
     if !desk.save() {
         return Ok((0, 0, false));
     }
-    desk.device.number = 251;
+    desk.device.answers.number = 251;
     if !desk.save_other() {
         return Ok((0, 0, false));
     }
@@ -233,7 +233,7 @@ fn a_renewal_keeps_what_was_handed_out(rt: HostRuntime) -> Result<(), Fail> {
 // Whether a session that a device doesn't save stays in use, and none is saved.
 fn run_failing(alloc: Global) -> Result<bool, Fail> {
     let mut desk = Desk::begin(alloc)?;
-    desk.device.fails = true;
+    desk.device.answers.fails = true;
     Ok(!desk.save() && desk.is_used(true) && desk.sessions.saved() == 0)
 }
 

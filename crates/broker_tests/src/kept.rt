@@ -1,5 +1,5 @@
 //! Whether bytes are a context that is kept for an object, over a device that tells nothing.
-use crate::fake::Fake;
+use crate::fake::fake;
 use object_swap::Objects;
 use std::alloc::Global;
 use std::test::Fail;
@@ -31,7 +31,7 @@ fn others_are_not_kept(objects: &Objects) -> bool {
 
 // Whether the context is kept, and no other: of an object in its slot, and of one that was saved.
 fn run(alloc: Global) -> Result<[bool; 2], Fail> {
-    let mut device = Fake::new();
+    let mut device = fake();
     let mut reply = Buffer::new(alloc)?;
     let mut objects = Objects::new(alloc, 3, PROFILE_CONTEXTS)?;
     let list = objects.add_client(7)?;

@@ -3,6 +3,7 @@
 ghost use Rattle.std.specs.Prelude.{None, refl};
 ghost use Rattle.tab_spec.specs.declared.contexts.TheConstants.{TPM_CONTEXTS};
 
+use crate::fake::byte;
 use device_port::{Device, DeviceFailed, Trace};
 use object_swap::Objects;
 use std::alloc::Global;
@@ -56,11 +57,6 @@ impl Device for Larger {
     fn sent_count(&self) -> u64 {
         self.trace.sent()
     }
-}
-
-// A byte of a command.
-fn byte(command: &[u8], at: usize) -> u8 {
-    command.get(at).copied().unwrap_or(0)
 }
 
 // To ContextSave that context, and to ContextLoad of so many bytes a handle.

@@ -1,17 +1,17 @@
 //! More objects than the device in memory has slots.
-ghost use Rattle.std.specs.Prelude.{◌≡◌, ◌<◌, ◌+◌, [], Some, None, true, false, length};
-ghost use Rattle.std.specs.Prelude.{refl};
+ghost use Rattle.std.specs.Prelude.{◌≡◌, ◌<◌, ◌+◌, [], Some, true, false, length};
 ghost use Rattle.std.specs.List.{AllByRecursion, list_any};
 ghost use Rattle.tab_spec.specs.declared.contexts.TheConstants.{PROFILE_CONTEXTS};
 ghost use Rattle.object_swap.specs.Items.{is_vacant, owner_at};
 
 use device_memory::MemoryDevice;
-use device_port::{Device, DeviceFailed, Trace};
+use device_port::Device;
+use hidden_device::HiddenDevice;
 use object_swap::Objects;
 use std::alloc::Global;
 use std::test::Fail;
 use tab_bytes::Buffer;
-use tab_spec::{ContextLimits, PROFILE_CONTEXTS};
+use tab_spec::PROFILE_CONTEXTS;
 
 const STARTUP: [u8; 12] = [0x80, 0x01, 0, 0, 0, 12, 0, 0, 0x01, 0x44, 0, 0];
 
@@ -23,58 +23,11 @@ const CREATE_PRIMARY: [u8; 57] = [
 ];
 
 // The device in memory, of which nothing is told.
-#[derive(Drop)]
-struct Silent {
-    device: MemoryDevice,
-    faults: u64,
-    trace: Trace,
-}
-
-impl Device for Silent {
-    ghost seen = { λ d. record {
-      base = None;
-      state = None;
-      faults = d.faults;
-      trace = d.trace;
-    } };
-
-    ghost CONTEXTS = { PROFILE_CONTEXTS };
-
-    const CONTEXTS: ContextLimits = PROFILE_CONTEXTS;
-
-    ghost told_together = { λ _. refl };
-
-    ghost profile = { λ _. tt };
-
-    ghost short = { refl };
-
-    fn transmit(&mut self, command: &[u8], reply: &mut Buffer) -> Result<(), DeviceFailed> {
-        if self.device.transmit(command, reply).is_err() {
-            self.faults = self.faults.saturating_add(1);
-            self.trace.failed(command);
-            reply.clear();
-            return Err(DeviceFailed);
-        }
-        self.trace.answered(command, reply.as_slice());
-        Ok(())
-    }
-
-    fn fault_count(&self) -> u64 {
-        self.faults
-    }
-
-    fn sent_count(&self) -> u64 {
-        self.trace.sent()
-    }
-}
+type Silent = HiddenDevice<MemoryDevice>;
 
 // A device with the zero seed, after Startup.
 fn started(alloc: Global) -> Result<Silent, Fail> {
-    let mut device = Silent {
-        device: MemoryDevice::new(alloc, [0; 32], Vec::new(alloc))?,
-        faults: 0,
-        trace: Trace::new(),
-    };
+    let mut device = HiddenDevice::new(MemoryDevice::new(alloc, [0; 32], Vec::new(alloc))?);
     let mut reply = Buffer::new(alloc)?;
     if device.transmit(&STARTUP, &mut reply).is_err() {
         return Err("the device starts".into());

@@ -1,17 +1,13 @@
 //! What comes of words over a device that tells no state, and answers rightly or wrongly.
-ghost use Rattle.std.specs.Prelude.{◌≡◌, ◌≤◌, None, length, refl};
-ghost use Rattle.tab_spec.specs.declared.contexts.TheConstants.{PROFILE_CONTEXTS};
-
 use crate::faults::SCRIPT;
 use crate::runs::{AUDITED, Outcome, RUN, ZERO_SEED, outcome_of, source};
-use device_port::{Device, DeviceFailed, Trace};
+use hidden_device::{Answers, HiddenDevice, respond};
 use link_port::{MemoryAcceptor, MemorySink, OpenGate};
 use std::alloc::Global;
 use std::sync::Wait;
 use std::test::Fail;
 use std::thread::Threads;
 use tab_bytes::Buffer;
-use tab_spec::{ContextLimits, PROFILE_CONTEXTS};
 
 // The response that tells that the device had started before.
 pub(crate) const STARTED_BEFORE: &[u8] = &[0x80, 0x01, 0, 0, 0, 10, 0, 0, 0x01, 0];
@@ -58,25 +54,16 @@ const NO_HANDLES: [u8; 19] = [
 // The numbers of the profile, in the order in which a device is asked for them.
 pub(crate) const NUMBERS: [u8; 4] = [3, 3, 64, 255];
 
-// A device that tells nothing. It answers Startup, tells these numbers, holds nothing, and then
-// answers each command with the same response.
+// The responses of a device that tells nothing: it answers Startup, tells these numbers, holds
+// nothing, and then answers each command with the same response.
 #[derive(Drop)]
-pub(crate) struct Mute {
+pub(crate) struct Responses {
     startup: Buffer,
     numbers: [u8; 4],
     later: Buffer,
-    faults: u64,
-    trace: Trace,
 }
 
-// Writes a response over whatever `reply` holds.
-fn respond(response: &[u8], reply: &mut Buffer)
-    requires { length response.now ≤ 4096 }
-    ensures { reply.new ≡ response.now }
-{
-    reply.clear();
-    reply.put_bytes(response).unwrap();
-}
+pub(crate) type Mute = HiddenDevice<Responses>;
 
 // Writes a response over whatever `reply` holds that tells a property: its last octet, and that of
 // its value.
@@ -90,26 +77,9 @@ fn respond_number(property: u8, value: u8, reply: &mut Buffer) {
     );
 }
 
-impl Device for Mute {
-    ghost seen = { λ d. record {
-      base = None;
-      state = None;
-      faults = d.faults;
-      trace = d.trace;
-    } };
-
-    ghost CONTEXTS = { PROFILE_CONTEXTS };
-
-    const CONTEXTS: ContextLimits = PROFILE_CONTEXTS;
-
-    ghost told_together = { λ _. refl };
-
-    ghost profile = { λ _. tt };
-
-    ghost short = { refl };
-
-    fn transmit(&mut self, command: &[u8], reply: &mut Buffer) -> Result<(), DeviceFailed> {
-        match self.trace.sent() {
+impl Answers for Responses {
+    fn answer(&mut self, number: u64, _command: &[u8], reply: &mut Buffer) -> bool {
+        match number {
             0 => respond(self.startup.as_slice(), reply),
             1 => respond_number(0x0e, self.numbers[0], reply),
             2 => respond_number(0x10, self.numbers[1], reply),
@@ -118,16 +88,7 @@ impl Device for Mute {
             5..=7 => respond(&NO_HANDLES, reply),
             _ => respond(self.later.as_slice(), reply),
         }
-        self.trace.answered(command, reply.as_slice());
-        Ok(())
-    }
-
-    fn fault_count(&self) -> u64 {
-        self.faults
-    }
-
-    fn sent_count(&self) -> u64 {
-        self.trace.sent()
+        true
     }
 }
 
@@ -139,16 +100,14 @@ pub(crate) fn mute_device(
     numbers: [u8; 4],
     later: &[u8],
 ) -> Result<Mute, Fail> {
-    let mut device = Mute {
+    let mut responses = Responses {
         startup: Buffer::new(alloc)?,
         numbers,
         later: Buffer::new(alloc)?,
-        faults: 0,
-        trace: Trace::new(),
     };
-    device.startup.put_bytes(startup)?;
-    device.later.put_bytes(later)?;
-    Ok(device)
+    responses.startup.put_bytes(startup)?;
+    responses.later.put_bytes(later)?;
+    Ok(HiddenDevice::new(responses))
 }
 
 // What comes of these words and this script over a device with these responses.

@@ -1,17 +1,14 @@
 //! What comes of a run over a device that holds what an earlier broker left.
-ghost use Rattle.std.specs.Prelude.{◌≡◌, None, refl};
-ghost use Rattle.tab_spec.specs.declared.contexts.TheConstants.{PROFILE_CONTEXTS};
-
 use crate::runs::{Outcome, RUN, outcome_of, source};
 use device_memory::MemoryDevice;
-use device_port::{Device, DeviceFailed};
+use device_port::Device;
+use hidden_device::HiddenDevice;
 use link_port::{MemoryAcceptor, MemorySink, OpenGate};
 use std::alloc::Global;
 use std::sync::Wait;
 use std::test::Fail;
 use std::thread::Threads;
 use tab_bytes::Buffer;
-use tab_spec::{ContextLimits, PROFILE_CONTEXTS};
 
 // TPM2_Startup, TPM2_CreatePrimary of an HMAC key, TPM2_StartAuthSession of an HMAC session, and
 // TPM2_ContextSave of the first session.
@@ -40,46 +37,12 @@ const FIRST: &[u8] = b"0 80010000001400000000000876b8e0ada0f13d90\n";
 const LATER: &[u8] = b"0 8001000000140000000000089f07e7be5551387a\n";
 
 // A device in memory that shows proofs no state, so that it may have been used before.
-#[derive(Drop)]
-struct Hidden {
-    device: MemoryDevice,
-}
-
-impl Device for Hidden {
-    ghost seen = { λ d. record {
-      base = None;
-      state = None;
-      faults = d.device.faults;
-      trace = d.device.trace;
-    } };
-
-    ghost CONTEXTS = { PROFILE_CONTEXTS };
-
-    const CONTEXTS: ContextLimits = PROFILE_CONTEXTS;
-
-    ghost told_together = { λ _. refl };
-
-    ghost profile = { λ _. tt };
-
-    ghost short = { refl };
-
-    fn transmit(&mut self, command: &[u8], reply: &mut Buffer) -> Result<(), DeviceFailed> {
-        self.device.transmit(command, reply)
-    }
-
-    fn fault_count(&self) -> u64 {
-        self.device.fault_count()
-    }
-
-    fn sent_count(&self) -> u64 {
-        self.device.sent_count()
-    }
-}
+type Hidden = HiddenDevice<MemoryDevice>;
 
 // A device that was sent these commands, and fails at this transmission.
 fn used(alloc: Global, commands: &[&[u8]], failing: u64) -> Result<Hidden, Fail> {
     let device = MemoryDevice::new(alloc, [0; 32], vec![in alloc; failing]?)?;
-    let mut device = Hidden { device };
+    let mut device = HiddenDevice::new(device);
     let mut reply = Buffer::new(alloc)?;
     for command in commands {
         if !tab_wire::is_frame(command) || device.transmit(command, &mut reply).is_err() {
