@@ -1,3 +1,4 @@
+pub mod Carried
 pub mod Link
 pub mod Receive
 pub mod Watched

@@ -1,32 +1,37 @@
-ghost use Rattle.std.specs.Prelude.{refl, ◌≡◌, IsTrue};
+ghost use Rattle.std.specs.Prelude.{refl, ◌≡◌, IfSome, IsTrue};
 ghost use Rattle.tab_spec.specs.Frame.{is_frame};
 ghost use Rattle.tab_spec.specs.declared.contexts.TheConstants.{PROFILE_CONTEXTS};
 ghost use Rattle.device_port.specs.Device.{Transmits};
+ghost use Rattle.device_link.specs.Carried.{HasCarried};
 ghost use Rattle.device_link.specs.Link.{Carries, ends_of, new_device, told_by};
 
-use crate::LinkFault;
 use crate::receive::exchange;
+use crate::{Began, LinkFault};
 use device_port::{Device, DeviceFailed, Trace};
 use link_port::{Sink, Source};
-use std::marker::Model;
+use std::marker::{Brand, Model, PhantomData};
 use tab_bytes::Buffer;
 use tab_spec::{ContextLimits, PROFILE_CONTEXTS};
 
 /// A TPM behind a byte stream: commands go to the sink, and responses come from the source (Part 1,
 /// "Command/Response Structure"). It shows no state. Of a response it reads the tag and the size
 /// first, then the rest, and no byte more. After a failure nothing more is written or read, since
-/// the next bytes could belong to an earlier command, and each further transmission fails too.
+/// the next bytes could belong to an earlier command, and each further transmission fails too. What
+/// its ends told when it was made is `J`'s: so contracts know all that went over them since.
 #[derive(Drop)]
-pub struct LinkDevice<S: Source, K: Sink> {
+pub struct LinkDevice<S: Source, K: Sink, J: Began = Brand> {
     source: S,
     sink: K,
     fault: LinkFault,
     faults: u64,
     trace: Trace,
+    of: PhantomData<J>,
 }
 
-impl<S: Source, K: Sink> Model for LinkDevice<S, K> {
-    ghost use Rattle.device_link.specs.Link.{DeviceAtLink};
+impl<S: Source, K: Sink, J: Began> Model for LinkDevice<S, K, J> {
+    ghost use Rattle.std.specs.Prelude.{IfSome};
+    ghost use Rattle.device_link.specs.Link.{DeviceAtLink, ends_of};
+    ghost use Rattle.device_link.specs.Carried.{HasCarried};
 
     ghost Value = { DeviceAtLink S K };
 
@@ -37,6 +42,9 @@ impl<S: Source, K: Sink> Model for LinkDevice<S, K> {
       faults = d.faults;
       trace = d.trace;
     } };
+
+    ghost invariant = { λ d. IfSome J.began (λ began. HasCarried d.fault began d.faults d.trace
+        (ends_of S.left S.faults K.written K.faults d.source d.sink)) };
 }
 
 impl<S: Source, K: Sink> LinkDevice<S, K> {
@@ -51,7 +59,45 @@ impl<S: Source, K: Sink> LinkDevice<S, K> {
             fault: LinkFault::Absent,
             faults: 0,
             trace: Trace::new(),
+            of: PhantomData,
         }
+    }
+}
+
+impl<S: Source, K: Sink, J: Began> LinkDevice<S, K, J> {
+    /// The same, where `J` is what the two ends tell now.
+    pub fn begun(source: S, sink: K) -> LinkDevice<S, K, J>
+        requires { IfSome J.began
+            (λ began. began ≡ ends_of S.left S.faults K.written K.faults source sink) }
+        ensures { result ≡ new_device source sink }
+    {
+        LinkDevice {
+            source,
+            sink,
+            fault: LinkFault::Absent,
+            faults: 0,
+            trace: Trace::new(),
+            of: PhantomData,
+        }
+    }
+
+    /// Gives the two ends back: what went over them since the device was made is what was sent to
+    /// it.
+    pub fn into_ends(self) -> (S, K)
+        ensures ends { (result.0 ≡ self.source) × (result.1 ≡ self.sink) }
+        ensures carried { IfSome J.began
+            (λ began. HasCarried self.fault began self.faults self.trace
+            (ends_of S.left S.faults K.written K.faults result.0 result.1)) }
+    {
+        let LinkDevice {
+            source,
+            sink,
+            fault: _,
+            faults: _,
+            trace: _,
+            of: _,
+        } = self;
+        (source, sink)
     }
 
     /// Why a transmission failed first, and `Absent` before one did.
@@ -62,7 +108,7 @@ impl<S: Source, K: Sink> LinkDevice<S, K> {
     }
 }
 
-impl<S: Source, K: Sink> Device for LinkDevice<S, K> {
+impl<S: Source, K: Sink, J: Began> Device for LinkDevice<S, K, J> {
     ghost seen = { told_by };
 
     ghost CONTEXTS = { PROFILE_CONTEXTS };

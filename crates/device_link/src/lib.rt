@@ -5,6 +5,7 @@
 #![tactic(auto)]
 
 mod answered;
+mod began;
 mod device;
 mod fault;
 mod receive;
@@ -12,6 +13,7 @@ mod tpm;
 mod watched;
 
 pub use answered::Answered;
+pub use began::Began;
 pub use device::LinkDevice;
 pub use fault::LinkFault;
 pub use tpm::TpmLink;

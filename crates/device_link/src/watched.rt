@@ -1,14 +1,15 @@
-ghost use Rattle.std.specs.Prelude.{refl, ◌≡◌, IsTrue, OnOk, OnErr, None, Some};
+ghost use Rattle.std.specs.Prelude.{refl, ◌≡◌, IfSome, IsTrue, OnOk, OnErr, None, Some};
 ghost use Rattle.tab_spec.specs.Frame.{is_frame};
 ghost use Rattle.tab_spec.specs.declared.contexts.TheConstants.{PROFILE_CONTEXTS};
 ghost use Rattle.device_port.specs.Device.{Transmits};
+ghost use Rattle.device_link.specs.Carried.{HasCarried};
 ghost use Rattle.device_link.specs.Link.{Carries, ends_of, has_failed, told_by};
 ghost use Rattle.device_link.specs.Watched.{answer_of, new_watched};
 
-use crate::{Answered, LinkDevice, LinkFault};
+use crate::{Answered, Began, LinkDevice, LinkFault};
 use device_port::{Device, DeviceFailed};
 use link_port::{Sink, Source};
-use std::marker::Model;
+use std::marker::{Brand, Model};
 use tab_bytes::Buffer;
 use tab_spec::{ContextLimits, PROFILE_CONTEXTS};
 use tab_wire::code_of;
@@ -29,13 +30,13 @@ impl<W: Watcher> Watcher for &W {
 /// A [`LinkDevice`] that tells a watcher of its first failure, once, and keeps what it answered to
 /// the newest command.
 #[derive(Drop)]
-pub struct WatchedLink<S: Source, K: Sink, W: Watcher> {
-    device: LinkDevice<S, K>,
+pub struct WatchedLink<S: Source, K: Sink, W: Watcher, J: Began = Brand> {
+    device: LinkDevice<S, K, J>,
     watcher: W,
     newest: Option<Answered>,
 }
 
-impl<S: Source, K: Sink, W: Watcher> Model for WatchedLink<S, K, W> {
+impl<S: Source, K: Sink, W: Watcher, J: Began> Model for WatchedLink<S, K, W, J> {
     ghost use Rattle.device_link.specs.Watched.{WatchedAtLink};
 
     ghost Value = { WatchedAtLink S K };
@@ -43,9 +44,9 @@ impl<S: Source, K: Sink, W: Watcher> Model for WatchedLink<S, K, W> {
     ghost view = { λ w. record { device = w.device; newest = w.newest } };
 }
 
-impl<S: Source, K: Sink, W: Watcher> WatchedLink<S, K, W> {
+impl<S: Source, K: Sink, W: Watcher, J: Began> WatchedLink<S, K, W, J> {
     /// This device, with this watcher.
-    pub fn new(device: LinkDevice<S, K>, watcher: W) -> WatchedLink<S, K, W>
+    pub fn new(device: LinkDevice<S, K, J>, watcher: W) -> WatchedLink<S, K, W, J>
         ensures { result ≡ new_watched device }
     {
         WatchedLink {
@@ -62,9 +63,26 @@ impl<S: Source, K: Sink, W: Watcher> WatchedLink<S, K, W> {
     {
         self.newest
     }
+
+    /// Gives the two ends of the device back, and lets the watcher go.
+    pub fn into_ends(self) -> (S, K)
+    where
+        W: Drop,
+        ensures ends { (result.0 ≡ self.device.source) × (result.1 ≡ self.device.sink) }
+        ensures carried { IfSome J.began
+            (λ began. HasCarried self.device.fault began self.device.faults self.device.trace
+            (ends_of S.left S.faults K.written K.faults result.0 result.1)) }
+    {
+        let WatchedLink {
+            device,
+            watcher: _,
+            newest: _,
+        } = self;
+        device.into_ends()
+    }
 }
 
-impl<S: Source, K: Sink, W: Watcher> Device for WatchedLink<S, K, W> {
+impl<S: Source, K: Sink, W: Watcher, J: Began> Device for WatchedLink<S, K, W, J> {
     ghost seen = { λ w. told_by w.device };
 
     ghost CONTEXTS = { PROFILE_CONTEXTS };

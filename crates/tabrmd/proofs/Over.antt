@@ -8,6 +8,9 @@ use Rattle.history_spec.specs.Entry.{Entry}
 use Rattle.broker_lock.specs.Known.{Fixed}
 use Rattle.broker_core.specs.Broker.{told_origin}
 use Rattle.device_port.specs.Device.{Seen}
+use Rattle.device_link.specs.Carried.{HasCarried}
+use Rattle.device_link.specs.Link.{Ends as LinkEnds}
+use Rattle.device_link.specs.declared.fault.LinkFault.{LinkFault}
 use Rattle.accept_loop.specs.Connections.{Ends}
 use Rattle.accept_loop.specs.declared.serving.LinkDone.{LinkDone}
 use Rattle.link_pool.specs.Services.{IsServed, client_of, given_of}
@@ -18,9 +21,10 @@ use Rattle.tab_server.specs.Run.{Before, before_of}
 use Rattle.tab_server.specs.Serving.{IsLinkDone, LeavesPool, LeavesServe}
 use Rattle.tab_server.specs.Status.{EndsStart}
 use Rattle.tab_server.specs.declared.serving.TheConstants.{LINKS_MOST}
+use Rattle.tabrmd.specs.declared.finished.Finished.{Finished}
 use Rattle.tabrmd.specs.declared.target.Target.{Target}
 use Rattle.tabrmd.specs.Found.{contexts_of, seen_at}
-use Rattle.tabrmd.specs.Over.{Around, IsOver, after_at, around}
+use Rattle.tabrmd.specs.Over.{Around, IsCarriedSince, IsCarried, IsOver, after_at, around}
 
 -- how far a start came is told by what the device tells
 start_told : {D : Type 0} (contexts : ContextLimits) (seen : D
@@ -90,10 +94,11 @@ is_over : {S K In Out A : Type 0} (Q R : Type 0) (plans : Option Plan) (target :
     (left : In → Option (List ℕ)) (written : Out → Option (List ℕ))
     (source_faults : In → ℕ) (sink_faults : Out → ℕ) (coming : A
     → Option (List (In × Out))) (accept : A
-    → ℕ) (acceptor acceptor' : A) (ends ends' : Ends) (status detail : ℕ)
-    (first seen : Seen) (journal : Option (List Entry)) (links : List (LinkDone In Out))
+    → ℕ) (acceptor acceptor' : A) (ends ends' : Ends) (link : S → K → LinkEnds)
+    (status detail : ℕ) (back : Option (S × K)) (first seen : Seen)
+    (journal : Option (List Entry)) (links : List (LinkDone In Out))
     (served : List (Service In Out))
-    → first ≡ seen_at target
+    → first ≡ seen_at target → IsCarried link target seen back
     → (let old : Around (In × Out) = record {
       ends = ends;
       coming = coming acceptor;
@@ -119,12 +124,13 @@ is_over : {S K In Out A : Type 0} (Q R : Type 0) (plans : Option Plan) (target :
     (after_at seen new) old.coming new.coming old.accept new.accept status detail journal served)
     → IfNone journal (EndsStart (contexts_of target) (λ (s : Seen). s) status detail first seen ×
     (new ≡ old))
-    → IfSome plans (λ plan. IsOver target plan left written source_faults sink_faults old new
-    status detail))
-is_over _ _ None _ _ _ _ _ _ _ _ _ _ _ _ _ _ _ _ _ _ at_first played serves pool none = tt
+    → IfSome plans (λ plan. IsOver target plan left written source_faults sink_faults link old new
+    (record { status = status; detail = detail; ends = back })))
+is_over _ _ None _ _ _ _ _ _ _ _ _ _ _ _ _ _ _ _ _ _ _ _ at_first over played serves pool none =
+    tt
 is_over _ _ (Some plan) target left written source_faults sink_faults coming accept acceptor
-    acceptor' ends ends' status detail first seen journal links served at_first played serves pool
-    none =
+    acceptor' ends ends' link status detail back first seen journal links served at_first over
+    played serves pool none =
     let old : Around _ = record { ends = ends; coming = coming acceptor; accept = accept acceptor }
     in
     let new : Around _ = record {
@@ -155,6 +161,7 @@ is_over _ _ (Some plan) target left written source_faults sink_faults coming acc
       accepts = λ other. (ap coming (played other).1, ap accept (played other).1);
       none = subst (λ (f : Seen). IfNone journal (EndsStart (contexts_of target) (λ
           (s : Seen). s) status detail f seen × (new ≡ old))) at_first none;
+      carried = over;
     }
 
 -- the same by the target that was found, and as it is told on
@@ -162,9 +169,11 @@ pub handed : {S K In Out A : Type 0} (Q R : Type 0) (plans : Option Plan)
     (target found : Target S K) (left : In → Option (List ℕ)) (written : Out → Option (List ℕ))
     (source_faults : In → ℕ) (sink_faults : Out → ℕ) (coming : A
     → Option (List (In × Out))) (accept : A → ℕ) (acceptor acceptor' : A) (ends ends' : Ends)
-    (status detail told_status told_detail : ℕ) (first seen : Seen) (journal : Option
-    (List Entry)) (links : List (LinkDone In Out)) (served : List (Service In Out))
-    → first ≡ seen_at target → found ≡ target → told_status ≡ status → told_detail ≡ detail
+    (link : S → K → LinkEnds) (status detail : ℕ) (back : Option (S × K)) (finished : Finished S K)
+    (first seen : Seen) (journal : Option (List Entry)) (links : List (LinkDone In Out))
+    (served : List (Service In Out))
+    → first ≡ seen_at target → IsCarried link target seen back → found ≡ target
+    → finished ≡ record { status = status; detail = detail; ends = back }
     → (let old : Around (In × Out) = record {
       ends = ends;
       coming = coming acceptor;
@@ -190,12 +199,12 @@ pub handed : {S K In Out A : Type 0} (Q R : Type 0) (plans : Option Plan)
     (after_at seen new) old.coming new.coming old.accept new.accept status detail journal served)
     → IfNone journal (EndsStart (contexts_of target) (λ (s : Seen). s) status detail first seen ×
     (new ≡ old))
-    → IfSome plans (λ plan. IsOver found plan left written source_faults sink_faults old new
-    told_status told_detail))
+    → IfSome plans (λ plan. IsOver found plan left written source_faults sink_faults link old new
+    finished))
 handed Q R plans target found left written source_faults sink_faults coming accept acceptor
     acceptor' ends ends' =
-    λ status detail told_status told_detail first seen journal links served at_first same
-    same_status same_detail played serves pool none.
+    λ link status detail back finished first seen journal links served at_first over same
+    same_finished played serves pool none.
     let old : Around _ = record { ends = ends; coming = coming acceptor; accept = accept acceptor }
     in
     let new : Around _ = record {
@@ -203,13 +212,25 @@ handed Q R plans target found left written source_faults sink_faults coming acce
       coming = coming acceptor';
       accept = accept acceptor';
     } in
-    subst (λ (d : ℕ). IfSome plans (λ plan. IsOver found plan left written source_faults
-    sink_faults old new told_status d)) (sym same_detail)
-    (subst (λ (s : ℕ). IfSome plans (λ plan. IsOver found plan left written source_faults
-    sink_faults old new s detail)) (sym same_status)
+    subst (λ (f : Finished _ _). IfSome plans (λ plan. IsOver found plan left written source_faults
+    sink_faults link old new f)) (sym same_finished)
     (subst (λ (t : Target _ _). IfSome plans
-    (λ plan. IsOver t plan left written source_faults sink_faults old new status detail))
+    (λ plan. IsOver t plan left written source_faults sink_faults link old new
+    (record { status = status; detail = detail; ends = back })))
     (sym same)
     (is_over Q R plans target left written source_faults sink_faults coming accept acceptor
-    acceptor' ends ends' status detail first seen journal links served
-    at_first played serves pool none)))
+    acceptor' ends ends' link status detail back first seen journal links served
+    at_first over played serves pool none))
+
+-- the ends of a link that came back carried what its device was sent, since they told this
+pub carried_since : {S K : Type 0} (link : S → K → LinkEnds) (began : Option LinkEnds)
+    (first : LinkEnds) (fault : LinkFault) (seen : Seen) (pair : S × K)
+    → began ≡ Some first
+    → IfSome began (λ b. HasCarried fault b seen.faults seen.trace (link pair.0 pair.1))
+    → IsCarriedSince link first seen (Some pair)
+carried_since link began first fault seen pair is carried =
+    let at_first : IfSome (Some first) (λ b. HasCarried fault b seen.faults seen.trace
+    (link pair.0 pair.1)) =
+    subst (λ (o : Option LinkEnds). IfSome o (λ b. HasCarried fault b seen.faults seen.trace
+    (link pair.0 pair.1))) is carried in
+    (fault, at_first)
