@@ -51,7 +51,7 @@ impl<'a, A: Acceptor> Passed for Lent<'a, A> {
     }
 }
 
-/// Does nothing. That the reference that was lent is used once more shows that it came back.
+/// Does nothing. It uses the lent reference once more, which shows that the reference came back.
 pub fn take_back<A>(acceptor: &mut A)
     ensures { acceptor.new ≡ acceptor.old }
 {}

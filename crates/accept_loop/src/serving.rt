@@ -21,7 +21,7 @@ use std::thread::Threads;
 /// Why fewer connections were accepted than came.
 #[derive(Clone, Copy, PartialEq, Eq)]
 pub enum AcceptError {
-    /// Memory lacked before the first one. Nobody was accepted.
+    /// Memory lacked before the first one. No connection was accepted.
     Memory,
     /// The acceptor failed. The connections before were served.
     Failed,
@@ -34,17 +34,17 @@ pub struct LinkDone<S, K> {
     pub source: S,
     /// The end that its replies went to.
     pub sink: K,
-    /// Its client, which is closed now. `None` where it wasn't opened.
+    /// Its client, which is closed now. `None` if it wasn't opened.
     pub client: Option<u32>,
     /// What the word that cancels its commands was raised to, and what was loaded from it before
-    /// each command. `None` where it has no client.
+    /// each command. `None` if the connection has no client.
     pub word: Option<WordSeat>,
     /// How many commands were taken up.
     pub done: u64,
     pub ending: Ending,
 }
 
-/// What comes of [`serve`].
+/// The result of [`serve`].
 pub struct Served<B, A: Acceptor> {
     /// Whether as many connections were accepted as were asked for, or all that came.
     pub accepted: Result<(), AcceptError>,
@@ -103,8 +103,8 @@ pub fn serve_ends<
     (pass, link)
 }
 
-// Accepts so many connections, or as many as come, and serves each by a thread of its own. Where
-// none can be made, it serves the connection itself, after the later ones.
+// Accepts so many connections, or as many as come, and serves each by a thread of its own. If no
+// thread can be made, it serves the connection itself, after the later ones.
 fn serve_coming<B: Serves + Send, A: Passed, G: Gate, R: Threads + Wait + Sync>(
     rt: &R,
     alloc: Global,
@@ -219,10 +219,9 @@ fn serve_under_lock<B: Serves + Send, A: Acceptor, G: Gate, R: Threads + Wait + 
 }
 
 /// Accepts so many connections, at most 1,023, or as many as come, and serves each by a thread of
-/// its own ([`serve_link`]). Where no thread can be made it serves the connection itself, after
-/// those that come later. It returns when all have ended; after a failure of the acceptor nobody
-/// more is accepted. It takes memory before the first connection, and then only what a connection
-/// takes.
+/// its own ([`serve_link`]). If no thread can be made, it serves the connection itself, after those
+/// that come later. It returns when all have ended. After a failure of the acceptor it accepts no
+/// more. It takes memory before the first connection, and then only what a connection takes.
 pub fn serve<B: Serves + Send, A: Acceptor, G: Gate, R: Threads + Wait + Sync>(
     rt: &R,
     alloc: Global,

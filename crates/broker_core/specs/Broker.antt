@@ -65,7 +65,7 @@ pub record IsAtBase (base : Option Persist) (state : Option SlotState) : Type 0 
   pub object_counter : IfSome state (λ slots. slots.object_counter ≤ 2 ^ 61)
   pub counter : IfSome state (λ slots. slots.counter ≤ 2 ^ 61)
 
--- what the history of a device begins from, where this tells it: what it keeps, and its numbers
+-- what the history of a device begins from, if the device shows it: what it keeps, and its numbers
 abbrev pub told_origin : Option Persist → Option SlotState → Option Origin
 told_origin base None = None
 told_origin base (Some slots) = origin_of base slots.numbers
@@ -79,7 +79,7 @@ pub record StandsAfter (base : Persist) (slots : SlotState) (history : List Entr
   pub legal : Legal base slots.numbers.active history
   pub stands : Stands (world_of base slots.numbers.active history) slots tables held (length history)
 
--- the same, where the device tells what it is in
+-- the same, if the device shows its state
 abbrev pub StandsFor : Option Persist → Option SlotState → List Entry → List (List (Option ℕ)) → Held → Type 0
 StandsFor base state history tables held =
     (b : Persist) (slots : SlotState) → base ≡ Some b → state ≡ Some slots → StandsAfter b slots history tables held
@@ -88,7 +88,7 @@ StandsFor base state history tables held =
 abbrev pub FaultsCounted : ℕ → ℕ → List Entry → ℕ → Type 0
 FaultsCounted old new history left = (faults_in history + left + old ≤ new) ⊎ (largest_count ≤ new)
 
--- what a client was told is one whole frame, over every device
+-- the client's reply is one whole frame, over every device
 abbrev pub IsWhole : EntryKind → List ℕ → Type 0
 IsWhole Open reply = Unit {0}
 IsWhole Command reply = is_frame reply ≡ true
@@ -135,10 +135,10 @@ pub record AnswersHold (contexts : ContextLimits) (seen : Seen) (wrong_code : Op
   pub answer : IfSome wrong_code (IsWrongAnswer contexts (asked_of seen) (last_of seen))
   -- no answer was taken that every broker would refuse
   pub right : wrong_code ≡ None → IsRight contexts (asked_of seen) (last_of seen)
-  -- a device that tells its state gives no wrong answer
+  -- a device that shows its state gives no wrong answer
   pub taken : IsSome seen.state → wrong_code ≡ None
 
--- what holds of each broker over a device with these contexts, with what its device tells
+-- what holds of each broker over a device with these contexts, with what its device shows
 pub record Holds (contexts : ContextLimits) (began : ℕ) (seen : Seen) (history : List Entry) (limit : ℕ) (tables : List (List (Option ℕ))) (lists : List ℕ) (held : Held) (present : ℕ) (wrong_code : Option ℕ) : Type 0 where
   pub stands : StandsFor seen.base seen.state history tables held
   pub journal : JournalHolds history limit seen.faults (length tables) present
@@ -187,7 +187,7 @@ IsAdmitted contexts b client bytes = (a : Admitted) × (checked contexts b clien
 abbrev pub IsReadyFor : JournalView → List ℕ → Type 0
 IsReadyFor journal command = kept journal.entries + ENTRY_BYTES + length command + MOST_BYTES ≤ journal.limit
 
--- what a client is told where there is no room for the entry of its command
+-- what a client gets if there is no room for the entry of its command
 abbrev pub TellsNoRoom : Told → (limit : ℕ) (history : List Entry) (bytes reply : List ℕ) → Type 0
 TellsNoRoom tolds.Entered limit history bytes reply = ⊥
 TellsNoRoom tolds.Memory limit history bytes reply = ⊥
@@ -244,7 +244,7 @@ pub record IsFull {D : Type 0} (old new : BrokerView D) (bytes reply : List ℕ)
   pub kept_is : count ≡ kept old.journal
   pub limit_is : limit ≡ old.limit
 
--- what a client is told, and what becomes of the broker
+-- what a client gets, and what becomes of the broker
 abbrev pub Tells : {D : Type 0} (contexts : ContextLimits) (seen : D → Seen) → Told → (old new : BrokerView D) (client number : ℕ) (bytes reply : List ℕ) → Type 0
 Tells contexts seen tolds.Entered old new client number bytes reply = IsEntered contexts seen old new client number bytes reply
 Tells contexts seen tolds.Memory old new client number bytes reply =
@@ -252,7 +252,7 @@ Tells contexts seen tolds.Memory old new client number bytes reply =
 Tells contexts seen (tolds.JournalFull count limit) old new client number bytes reply = IsFull old new bytes reply count limit
 Tells contexts seen tolds.Answer old new client number bytes reply = (new.journal ≡ old.journal) × (reply ≡ error_reply RC_DEVICE_ANSWER) × (new.tables ≡ old.tables)
 
--- what a command sends at the most, whatever is told, also over a device that shows nothing
+-- what a command sends at the most, whatever its result is, also over a device that shows nothing
 pub record Costs {D : Type 0} (contexts : ContextLimits) (seen : D → Seen) (old new : BrokerView D) (client : ℕ) (bytes : List ℕ) : Type 0 where
   pub most : SendsUpTo seen (new_bound (orphan_count old.held) (gap_kept old.held.sessions) old.held.sessions.numbers) old.device new.device
   pub at_hand : (a : Admitted) → checked contexts old client bytes ≡ Ok a → IsAtHand contexts old.held (table_of old.tables client) a bytes
@@ -282,7 +282,7 @@ pub record IsCanceled {D : Type 0} (old new : BrokerView D) (client number upto 
   pub room : HasRoom old.limit old.journal bytes
   pub same : new ≡ record old { journal = old.journal ++ canceled_entry client number upto bytes reply ∷ [] }
 
--- what a client is told of a command that it canceled, and what becomes of the broker
+-- what a client gets for a command that it canceled, and what becomes of the broker
 abbrev pub TellsCanceled : {D : Type 0} → Told → (old new : BrokerView D) (client number upto : ℕ) (bytes reply : List ℕ) → Type 0
 TellsCanceled tolds.Entered old new client number upto bytes reply = IsCanceled old new client number upto bytes reply
 TellsCanceled tolds.Memory old new client number upto bytes reply = ⊥
@@ -294,7 +294,8 @@ abbrev pub HasLeft : (held new_held : Held) → Type 0
 HasLeft held new_held =
     (more : List ℕ) × (new_held.objects.left ≡ held.objects.left ++ more) × (orphan_count held + length more ≤ orphan_count new_held)
 
--- what a close tells of orphans: that there are no more, or that there are more, and how many
+-- what a close reports of orphans: that there are no more than before; or that there are more, and
+-- how many there are in all
 abbrev pub TellsLeft : Closed → (held new_held : Held) → Type 0
 TellsLeft closes.Clean held new_held = (orphan_count new_held ≡ orphan_count held) × (new_held.objects.left ≡ held.objects.left)
 TellsLeft (closes.Orphans count) held new_held =
@@ -330,9 +331,10 @@ pub record Closes {D : Type 0} (contexts : ContextLimits) (seen : D → Seen) (c
 abbrev pub LackedMemory : (old new : Seen) → Type 0
 LackedMemory old new = (numbers : Numbers) × IsStarted old.trace new.trace numbers × AreInRange numbers × ClearedIf old.state new.state
 
--- why a broker didn't begin: a transmission failed, or the response to it is a wrong answer, and that was the last one; or memory
--- lacked; or a number of the device is out of range, and nothing was sent after the response that tells it. In the other cases each
--- number that the device told is in range.
+-- why a broker didn't begin: a transmission failed, or the response to it is a wrong answer, and
+-- that was the last one; or memory lacked; or a number of the device is out of range, and nothing
+-- was sent after the response that has it. In the other cases each number that the device reported
+-- is in range.
 abbrev pub HasCause : {D : Type 0} (contexts : ContextLimits) (seen : D → Seen) → BeginError → (old new : D) → Type 0
 HasCause contexts seen (begin_errors.Device count) old new =
     StopsUnanswered contexts (seen old).trace (seen new).trace × (last_of (seen new) ≡ None) × Rose (seen old).faults (seen new).faults × (count ≡ (seen new).faults)

@@ -22,7 +22,7 @@ pub record ListsStand (present lists : List ℕ) (owners : List (Option ℕ)) : 
   pub own : (client : ℕ) → is_open client present ≡ true → owner_at owners (list_of lists client) ≡ Some client
   pub owned : (list client : ℕ) → owner_at owners list ≡ Some client → (is_open client present ≡ true) × (list ≡ list_of lists client)
 
--- there is one list more at most, and none where one is nobody's
+-- there is one list more at most, and none if a list is free
 pub record AddsList (owners new_owners : List (Option ℕ)) : Type 0 where
   pub again : has_free_list owners ≡ true → length new_owners ≡ length owners
   pub more : length new_owners ≤ length owners + 1

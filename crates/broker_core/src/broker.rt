@@ -53,7 +53,7 @@ pub enum BeginError {
     Device(u64),
     /// The device gave a wrong answer; its code.
     Answer(u32),
-    /// Memory lacked: before anything was sent, or when the device was started and flushed.
+    /// Memory lacked, either before anything was sent or once the device was started and flushed.
     Memory,
     /// One of the device's numbers is out of range: the property (Part 2, "TPM_PT") and its value.
     Numbers { property: u32, value: u32 },
@@ -67,8 +67,8 @@ pub enum BeginError {
 pub struct Broker<D: Device> {
     machine: Machine<D>,
     pub(crate) journal: Journal,
-    // The tables of the open clients, and which list has the objects of each. A closed one has
-    // none.
+    // The table of each open client, and the number of its list of objects. A closed client has
+    // neither.
     tables: ClientTables,
     // How many clients are open.
     present: u64,
@@ -101,8 +101,8 @@ impl<D: Device> Model for Broker<D> {
         × (b.tables.present ≡ (clients_of b.journal.entries).present) };
 }
 
-// Whether the journal has room for the entry of a command with the largest reply, and for the close
-// of each open client. Where there is none, the client is told so.
+// Checks that the journal has room for the entry of a command with the largest reply, and for the
+// close of each open client. If it hasn't, the reply says so.
 fn find_room(journal: &Journal, present: u64, bytes: &[u8], reply: &mut Buffer) -> Result<(), Told>
     requires present { present ≡ length (clients_of journal.now.entries).present }
     requires most { journal.now.limit ≤ SILENT_LIMIT }
@@ -133,7 +133,7 @@ fn has_room_for_client(journal: &Journal, present: u64, opened: u32) -> bool
     journal.room_for_client(present)
 }
 
-// Tells a client the code with which its command is refused, and adds the entry.
+// Answers a client's command with the code that refuses it, and adds its entry.
 fn enter_refusal(
     journal: &mut Journal,
     client: u32,
@@ -189,8 +189,8 @@ fn enter_reply(
     });
 }
 
-// Tells a client that a transmission failed, and adds the entry of its command, with the device's
-// fault count.
+// Answers a client's command whose transmission failed, and adds its entry with the device's fault
+// count.
 fn enter_fault(
     journal: &mut Journal,
     client: u32,
@@ -217,7 +217,8 @@ fn enter_fault(
     });
 }
 
-// Tells a client that its command was canceled, and adds the entry, with the word that covered it.
+// Answers a client's command that was canceled, and adds its entry with the number up to which
+// commands were canceled.
 fn enter_canceled(
     journal: &mut Journal,
     client: u32,
@@ -262,11 +263,11 @@ fn enter_close(journal: &mut Journal, client: u32)
 }
 
 impl<D: Device> Broker<D> {
-    /// Starts the device, asks for its numbers, flushes what an earlier broker left in it, and keeps
-    /// an empty journal of at most so many bytes, 8,192 to 1,073,741,824, or one that only counts
-    /// its entries, with the limit 2^58. The journal's memory is taken before anything is sent, and
-    /// that for objects and sessions when the device was started and flushed. An error hands the
-    /// device back.
+    /// Starts the device, asks for its numbers, and flushes what an earlier broker left in it. The
+    /// journal is empty, and keeps at most `limit` bytes, 8,192 to 1,073,741,824; with the limit
+    /// 2^58 it only counts its entries. Memory for the journal is taken before anything is sent,
+    /// and memory for objects and sessions once the device was started and flushed. An error hands
+    /// the device back.
     pub fn begin(alloc: Global, device: D, limit: u64) -> Result<Broker<D>, (BeginError, D)>
         requires at_base { IsAtBase (D.seen device).base (D.seen device).state }
         requires limit { IsLimit limit }
@@ -335,8 +336,8 @@ impl<D: Device> Broker<D> {
         })
     }
 
-    /// Opens the next client, numbered from 0, which holds nothing, and gives it a list for its
-    /// objects. An error changes nothing.
+    /// Opens the next client, which holds nothing, gives it a list for its objects, and returns its
+    /// number, from 0. An error changes nothing.
     pub fn open_client(&mut self) -> Result<u32, OpenClientError>
         ensures ok { IfOk result (λ client. (client ≡ (clients_of self.old.journal).opened)
             × HasRoomForClient self.old.limit self.old.journal × (self.new ≡ record self.old {
@@ -385,11 +386,11 @@ impl<D: Device> Broker<D> {
         Ok(client)
     }
 
-    /// Runs a client's command, and writes what the client is told over whatever `reply` holds. The
-    /// number counts the client's commands from 1. The handles of objects are the client's own
-    /// (Part 1, "Handles"). Other clients see nothing of a command but what it changes of what all
-    /// share; after a wrong answer each command of any client is told so. Memory may lack only for
-    /// the object that a command makes: no other command takes any.
+    /// Runs a client's command, and overwrites `reply` with the reply to it. `number` counts the
+    /// client's commands from 1. Handles of objects are the client's own (Part 1, "Handles"). Other
+    /// clients see nothing of a command but its changes to what all share. After a wrong answer of
+    /// the device the result is `Answer` for each command of any client. Only a command that makes
+    /// an object takes memory, so no other can lack it.
     pub fn command(&mut self, client: u32, number: u64, bytes: &[u8], reply: &mut Buffer) -> Told
         requires present { IsOpen self.old.journal client }
         requires number { IsNextNumber self.old.journal client number }
@@ -444,9 +445,9 @@ impl<D: Device> Broker<D> {
     }
 
     /// Answers a client's command that was canceled before it ran (0x909, `TPM_RC_CANCELED`), and
-    /// writes what the client is told over whatever `reply` holds. `upto` is the number up to which
-    /// the client canceled its commands. The device isn't asked, and nothing changes but the
-    /// journal. It takes no memory.
+    /// overwrites `reply` with the reply to it. `upto` is the number up to which the client
+    /// canceled its commands. The device isn't asked, and nothing changes but the journal. It takes
+    /// no memory.
     pub fn cancel(
         &mut self,
         client: u32,
@@ -462,7 +463,7 @@ impl<D: Device> Broker<D> {
             bytes.now reply.new }
         // `Answer` comes exactly after a wrong answer.
         ensures answer { (result ≡ tolds.Answer) ↔ IsSome self.old.wrong_code }
-        // Whatever is told, the device, the tables and what is held are as before.
+        // Whatever the result is, the device, the tables and all that is held are as before.
         ensures unchanged { self.new ≡ record self.old { journal = self.new.journal } }
     {
         if self.wrong_code.is_some() {
@@ -476,12 +477,13 @@ impl<D: Device> Broker<D> {
         Told::Entered
     }
 
-    /// Closes a client: flushes its sessions in use and what of its objects is in the device, and
-    /// forgets its other objects. The sessions that it saved are left, by rising number: whoever
-    /// gives back the context that was handed out for one gets it. While more are left than the
-    /// lesser of 8 and a quarter of the sessions that may be active, the one that was left longest
-    /// is flushed. What can't be flushed is an orphan then, and the next command that needs the
-    /// device flushes it first. Objects of other clients aren't looked at. It takes no memory.
+    /// Closes a client. It flushes the client's sessions in use and those of its objects that are
+    /// in the device, and forgets its other objects. The sessions that the client saved are left,
+    /// by rising number: whoever gives back the context that was handed out for one gets it. At
+    /// most 8, and at most a quarter of the sessions that may be active, stay left: while there are
+    /// more, the one that was left longest is flushed. What can't be flushed becomes an orphan, and
+    /// the next command that needs the device flushes it first. Objects of other clients aren't
+    /// visited. It takes no memory.
     pub fn close_client(&mut self, client: u32) -> Closed
         requires { IsOpen self.old.journal client }
         ensures { Closes D.CONTEXTS D.seen client result self.old self.new }
@@ -489,8 +491,8 @@ impl<D: Device> Broker<D> {
         self.close_by(client, &mut Uncounted)
     }
 
-    /// `close_client`, which visits three to six records for each object of the client; no more than
-    /// six after a wrong answer.
+    /// `close_client`, with a count of the records that it visits: three to six for each object of
+    /// the client, and no more than six after a wrong answer.
     pub fn close_client_counted<L: Ledger>(&mut self, client: u32, steps: &mut Steps<L>) -> Closed
         requires { IsOpen self.old.journal client }
         ensures closes { Closes D.CONTEXTS D.seen client result self.old self.new }
@@ -509,15 +511,16 @@ impl<D: Device> Broker<D> {
         self.machine.held.orphans()
     }
 
-    /// How many commands its device was sent, answered or not: for clients, and of its own.
+    /// How many commands the device was sent, answered or not: clients' commands and the broker's
+    /// own.
     pub fn sent_count(&self) -> u64
         ensures { result ≡ sent_of (D.seen self.now.device) }
     {
         self.machine.device.sent_count()
     }
 
-    /// The code of the device's wrong answer, where one came: bytes 6 to 9 of it, or 0 where it has
-    /// fewer than ten bytes.
+    /// The code of the device's wrong answer, if one came: bytes 6 to 9 of it, or 0 if it has fewer
+    /// than ten bytes.
     pub fn wrong_answer(&self) -> Option<u64>
         ensures code { result ≡ self.now.wrong_code }
         ensures cause { IfSome result (IsWrongAnswer D.CONTEXTS
@@ -526,15 +529,15 @@ impl<D: Device> Broker<D> {
         self.wrong_code
     }
 
-    /// The device and the journal.
+    /// Ends the broker, and returns the device and the journal.
     pub fn finish(self) -> (D, Journal)
         ensures device { result.0 ≡ self.device }
         ensures journal { (result.1.entries ≡ self.journal) × (result.1.limit ≡ self.limit) }
         ensures stands { StandsFor (D.seen self.device).base (D.seen self.device).state self.journal
             self.tables self.held }
         ensures faulted { FaultsCounted self.began (D.seen self.device).faults self.journal 0 }
-        // Where no client is open, the device holds the sessions that were left, and orphans, no
-        // more than its failures.
+        // If no client is open, the device holds only left sessions and orphans, and no more
+        // orphans than transmissions failed.
         ensures held { (clients_of self.journal).present ≡ []
             → IfSome (D.seen self.device).state (λ slots.
             HoldsLeft self.began (D.seen self.device).faults self.journal slots
@@ -543,7 +546,7 @@ impl<D: Device> Broker<D> {
         ensures last_answer { AnswersHold D.CONTEXTS (D.seen self.device) self.wrong_code }
     {
         self.machine.held.objects.show_vacant();
-        // So which sessions are left is known here.
+        // This call is for proofs: it makes known which sessions are left.
         let _ = self.machine.held.sessions.left();
         let Broker {
             machine,
@@ -564,7 +567,7 @@ impl<D: Device> Broker<D> {
 }
 
 impl<D: Device> Broker<D> {
-    // `close_client`, which tells what it visits.
+    // `close_client`, which counts in `steps` the records that it visits.
     fn close_by<C: Visits>(&mut self, client: u32, steps: &mut C) -> Closed
         requires { IsOpen self.old.journal client }
         ensures closes { Closes D.CONTEXTS D.seen client result self.old self.new }

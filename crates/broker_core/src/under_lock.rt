@@ -10,12 +10,12 @@ use device_port::Device;
 use tab_bytes::Buffer;
 
 impl<D: Device> Broker<D> {
-    // What holds of each broker: a law, which does nothing when it runs.
+    // A law about every broker. It does nothing when it runs.
     fn show_sound(&self)
         ensures legal { IsLegalOver LegalOver
             (origin_of (D.seen self.now.device).base self.now.held.sessions.numbers)
             self.now.journal }
-        // Where the device tells what it kept, no wrong answer came.
+        // If the device shows what it kept, no wrong answer came.
         ensures untold { IsSome self.now.wrong_code → (D.seen self.now.device).base ≡ None }
         ensures began { self.now.began ≤ largest_count }
         ensures faulted { FaultsCounted self.now.began (D.seen self.now.device).faults

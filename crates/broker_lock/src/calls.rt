@@ -12,7 +12,7 @@ pub enum OpenClientError {
     Answer,
 }
 
-/// What became of a command. Its reply says what its client is told.
+/// What became of a command. The client's reply says the rest.
 #[derive(Clone, Copy, PartialEq, Eq)]
 pub enum Told {
     /// It has an entry, with that reply.

@@ -70,7 +70,7 @@ impl<B> Pass<B> {
 
 impl<B: Recorded> Shared<B> {
     /// Puts a value with an empty history under a lock of its own. The pass has all parts, and
-    /// knows nobody. Without memory the value comes back.
+    /// knows no client. If memory lacks, the value comes back.
     pub fn new(alloc: Global, value: B) -> Result<(Shared<B>, Pass<B>), (AllocError, B)>
         requires empty { B.history value ≡ [] }
         ensures ok { IfOk result (λ r. r.1 ≡ record {
@@ -103,7 +103,7 @@ impl<B: Recorded> Shared<B> {
         }
     }
 
-    /// A pass with one of the parts, which has seen as much and knows nobody.
+    /// A pass with one of the parts, which has seen as much and knows no client.
     pub fn split(&self, pass: &mut Pass<B>) -> Pass<B>
         requires lock { pass.old.lock ≡ self.now }
         requires parts { 2 ≤ pass.old.parts }
@@ -144,8 +144,9 @@ impl<B: Recorded> Shared<B> {
 }
 
 impl<B: Serves> Shared<B> {
-    /// Waits for its turn, and makes the call that the job names. `bytes` is the command, and
-    /// `reply` is set to what its client is told. Another job looks at neither. It takes no memory.
+    /// Waits for its turn, and makes the call that the job names. `bytes` is the command that a job
+    /// runs or cancels, and `reply` gets the reply to it. Other jobs use neither. It takes no
+    /// memory.
     pub fn act<R: Wait>(
         &self,
         rt: &R,

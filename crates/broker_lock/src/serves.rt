@@ -41,9 +41,9 @@ pub trait Serves: Recorded {
             × (Self.wrong self.new ≡ Self.wrong self.old) }
         ensures fixed { Self.fixed self.new ≡ Self.fixed self.old };
 
-    /// Runs an open client's command, and writes what the client is told over whatever `reply`
-    /// holds. The number is above those of the client's earlier commands, from 1 on. A command that
-    /// isn't `Told::Entered` enters nothing.
+    /// Runs an open client's command, and overwrites `reply` with the reply to it. The number is
+    /// above those of the client's earlier commands, from 1 on. A command whose result isn't
+    /// `Told::Entered` enters nothing.
     fn command(&mut self, client: u32, number: u64, bytes: &[u8], reply: &mut Buffer) -> Told
         requires present { IsOpen (Self.history self.old) client }
         requires number { IsNextNumber (Self.history self.old) client number }

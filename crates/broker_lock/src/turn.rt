@@ -74,7 +74,7 @@ fn wait<B: Recorded, R: Wait>(rt: &R, table: &Table<B>, sleepers: &AtomicU64)
     sleepers.fetch_sub(1, Ordering::SeqCst);
 }
 
-/// Puts the value back, tells how long its history is, and wakes one that sleeps until the turn is
+/// Puts the value back, says how long its history is, and wakes one that sleeps until the turn is
 /// free.
 pub fn give_back<B: Recorded>(table: &Table<B>, sleepers: &AtomicU64, seat: &mut Place<B>, value: B)
     requires own { seat.old.table_id ≡ table.now.table_id }

@@ -136,8 +136,8 @@ impl CancelWord {
             .join_seat::<BothSeats>(&mut seat.seat, ended.into_seat());
     }
 
-    // Loads the word once more, for the proof alone: a join tells nothing, and a load tells what
-    // the rule says of both.
+    // Loads the word once more, for the proof alone: a join shows proofs nothing, and a load shows
+    // what the rule says of both.
     fn settle(&self, seat: &mut WordSeat)
         requires word { seat.old.word ≡ self.now }
         requires role { seat.old.role ≡ of_both }

@@ -146,9 +146,9 @@ pub fn clients_contexts_of_objects_are_loaded()
         → opened_object seed (drop a.auths.params bytes) ≡ Some o → IsObject o }
 {}
 
-/// A list that is the device's (Part 3, "TPM2_GetCapability"). A started device that keeps what
-/// the plain machine keeps tells the client what the plain machine tells it, whatever stands in
-/// its slots and whose sessions it has. Nothing changes, and a broker takes the response, whatever
+/// A list that is the device's (Part 3, "TPM2_GetCapability"). A started device that keeps what the
+/// plain machine keeps answers a client as the plain machine does, whatever is in the device's
+/// slots and whoever has its sessions. Nothing changes, and a broker takes the response, whatever
 /// it holds.
 pub fn devices_list_for_clients()
     ensures told { (slots : SlotState) (client : ℕ) (state : ClientState) (bytes : List ℕ)

@@ -195,12 +195,12 @@ pub record IsLeastOf (client : ℕ) (view : SessionsView) (handle : ℕ) : Type 
   pub own : is_owner client (owner_in view.items handle) ≡ true
   pub least : (lower : ℕ) → lower < number_of_session handle → is_owned client (item_at view.items lower) ≡ false
 
--- The session of this handle is dropped, and the call tells how many flushes failed. What isn't this session stays, after a wrong
--- answer too
+-- The session of this handle is dropped, and the call returns how many flushes failed. Every other
+-- session stays, after a wrong answer too
 pub record DropsSession (handle : ℕ) (held new_held : Held) (result : Result ℕ ℕ) : Type 0 where
   -- it isn't left any more
   pub gone : OnOk result (new_held.sessions.left ≡ without_one (number_of_session handle) held.sessions.left)
-  -- each client has as many as before, but for whose it was: that one has one fewer
+  -- the session's owner has one fewer, and every other client has as many as before
   pub count : OnOk result ((client : ℕ)
       → count_by (is_owned client) new_held.sessions.items
       + flag (is_owned client (item_at held.sessions.items (number_of_session handle)))
@@ -210,8 +210,8 @@ pub record DropsSession (handle : ℕ) (held new_held : Held) (result : Result �
   pub others : (number : ℕ) → (number == number_of_session handle) ≡ false
       → item_at new_held.sessions.items number ≡ item_at held.sessions.items number
 
--- One session of the client's is dropped or left, and the call tells how many flushes failed. What other clients have stays, after
--- a wrong answer too
+-- One session of the client's is dropped or left, and the call returns how many flushes failed.
+-- What other clients have stays, after a wrong answer too
 pub record ClosesSession (client : ℕ) (held new_held : Held) (result : Result ℕ ℕ) : Type 0 where
   -- the client has one fewer
   pub count : OnOk result (count_by (is_owned client) new_held.sessions.items + 1 ≡ count_by (is_owned client) held.sessions.items)

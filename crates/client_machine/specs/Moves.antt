@@ -36,7 +36,8 @@ use Rattle.client_machine.specs.Replies.{own_answer, reply_of, view_given}
 use Rattle.client_machine.specs.Settled.{AreBelow, Sequences, Settled, call_contexts, most_contexts, orphan_count, sessions_in}
 use Rattle.client_machine.specs.Tables.{AreOpenOwners, IsPlaced, IsTable, device_handle, flush_fault_of, flush_sent, flushed_handle, flushed_sessions, flushed_table, is_open, objects_in, owned_handles, sessions_without, table_with, table_without, tables_had, tables_seen}
 
--- what each call keeps of a device: what its history began from, and whether it tells its state. Its fault count never falls
+-- what each call keeps of a device: what its history began from, and whether it shows its state.
+-- Its fault count never falls
 pub record Keeps {D : Type 0} (seen : D → Seen) (old new : D) : Type 0 where
   pub base_is : (seen new).base ≡ (seen old).base
   pub tells : is_some (seen new).state ≡ is_some (seen old).state
@@ -122,7 +123,7 @@ abbrev pub GainsNone : (ℕ → Bool) → List Item → List Item → Type 0
 GainsNone whose items new_items =
     (index owner : ℕ) → (item_at new_items index).client ≡ Some owner → whose owner ≡ true → (item_at items index).client ≡ Some owner
 
--- and what they are, where the device tells its state
+-- and what they are, if the device shows its state
 abbrev pub KeepsObjectsOf : (ℕ → Bool) → Option SlotState → Option SlotState → List Item → List Item → Type 0
 KeepsObjectsOf whose old_state new_state items new_items =
     (slots new : SlotState) (index owner : ℕ) → old_state ≡ Some slots → new_state ≡ Some new → Names items index
@@ -172,8 +173,9 @@ pub record Moves {D : Type 0} (seen : D → Seen) (client : ℕ) (old new : D) (
   pub left : length new_held.sessions.left ≤ length held.sessions.left
   pub length_is : length new_held.objects.items ≡ length held.objects.items
 
--- where the device tells its state, this is the step of the plain machine from any sequences below the device's: what it keeps, the
--- client's objects, all sessions, the reply, and sequences that are below the device's again
+-- if the device shows its state, this is the step of the plain machine from any sequences below the
+-- device's: what it keeps, the client's objects, all sessions, the reply, and sequences that are
+-- below the device's again
 abbrev pub StepsAs : (ClientState → Option ClientStep) → Option SlotState → Option SlotState → (held new_held : Held) → (table new_table : List (Option ℕ)) → List ℕ → Type 0
 StepsAs step old_state new_state held new_held table new_table reply =
     (slots new : SlotState) (least : Sequences) → old_state ≡ Some slots → new_state ≡ Some new → AreBelow least slots
@@ -204,8 +206,9 @@ pub record Loses (held new_held : Held) : Type 0 where
   pub sessions : (number : ℕ) → (sessions.item_at new_held.sessions.items number ≡ sessions.item_at held.sessions.items number)
       ⊎ (sessions.item_at new_held.sessions.items number ≡ None)
 
--- Before a client's command: objects and sessions were moved, sessions renewed, and orphans flushed. What clients have and left
--- stands as before, and whose it is. At most so many contexts of either sort were made
+-- Before a client's command: objects and sessions were moved, sessions renewed, and orphans
+-- flushed. What clients have and left stands as before, and has the same owners. At most so many
+-- contexts of either sort were made
 pub record Prepares {D : Type 0} (most : ℕ) (seen : D → Seen) (old new : D) (held new_held : Held) : Type 0 where
   pub keeps : Keeps seen old new
   pub counts : CountsOnBy most (seen old).state (seen new).state
@@ -268,11 +271,11 @@ pub record Serves {D A : Type 0} (contexts : ContextLimits) (seen : D → Seen) 
 abbrev pub named_by : List (Option ℕ) → ℕ → Option ℕ
 named_by table handle = if octet_of handle == HT_TRANSIENT then held_under table handle else None
 
--- the handle that a response tells
+-- the handle in a response
 abbrev pub told_handle : List ℕ → ℕ
 told_handle reply = from_be_bytes w32 (take 4 (drop 10 reply))
 
--- the object that a response tells can be held for its client
+-- the object whose handle a response has can be held for its client
 pub record MayAdopt (view : objects.ObjectsView) (table : List (Option ℕ)) (spare : ℕ) (reply : List ℕ) : Type 0 where
   pub vacant : list_any is_vacant view.items ≡ true
   pub slot : objects.residents view.items + length view.left < view.slots
@@ -281,7 +284,7 @@ pub record MayAdopt (view : objects.ObjectsView) (table : List (Option ℕ)) (sp
   pub long : 14 ≤ length reply
   pub transient : (octet_of (told_handle reply) == HT_TRANSIENT) ≡ true
 
--- the session that a response tells can be held
+-- the session whose handle a response has can be held
 pub record MayStart (reply : List ℕ) (view : sessions.SessionsView) : Type 0 where
   pub long : 14 ≤ length reply
   pub handle : is_session_handle (told_handle reply) ≡ true
@@ -522,7 +525,7 @@ pub record MakesReady {D A : Type 0} (contexts : ContextLimits) (seen : D → Se
   pub asks : AsksSome contexts seen old new result
   pub before : OnOk result (SentBefore contexts seen nobodys old new)
 
--- how many objects a response tells: a new one, or none
+-- how many new objects a response has a handle for: one, or none
 abbrev pub objects_told : Admitted → List ℕ → ℕ
 objects_told a answer = if tells_object a answer then 1 else 0
 
@@ -546,7 +549,7 @@ pub record Ran {D : Type 0} (contexts : ContextLimits) (seen : D → Seen) (clie
   pub reply_is : reply ≡ client_reply table a answer
   pub item : ℕ
   pub table_is : new_table ≡ table_with table item (tells_object a answer)
-  -- a new object is in the slot that the response tells
+  -- a new object is in the slot of the response's handle
   pub object_is : tells_object a answer ≡ true
       → item_at new_held.objects.items item ≡ new_item client (told_handle answer - TRANSIENT_FIRST)
   -- where it needs a slot, one was free when it was sent: without what it made there is room for one object more
@@ -640,7 +643,8 @@ Executes contexts seen client old new held new_held table new_table a bytes repl
     ⊎ (Replied contexts client old new held new_held table new_table a bytes reply
     ⊎ Ran contexts seen client old new held new_held table new_table a bytes reply)
 
--- a client's command was carried out: what it did, and where the device tells its state, the step of the plain machine that it is
+-- a client's command was carried out: what it did, and, if the device shows its state, which step
+-- of the plain machine that is
 pub record CarriesOut {D : Type 0} (contexts : ContextLimits) (seen : D → Seen) (client : ℕ) (old new : D)
     (held new_held : Held) (table new_table : List (Option ℕ)) (a : Admitted) (bytes reply : List ℕ) : Type 0 where
   pub did : Executes contexts seen client old new held new_held table new_table a bytes reply

@@ -29,7 +29,7 @@ pub record IsSettled (slots : SlotState) (held : Held) : Type 0 where
   pub sessions : SessionsStand slots held.sessions []
   pub gap : HasGapRoom (Some slots)
 
--- the same, where the device tells its state
+-- the same, if the device shows its state
 abbrev pub Settled : Option SlotState → Held → Type 0
 Settled state held = IfSome state (λ slots. IsSettled slots held)
 
@@ -51,7 +51,8 @@ owned_by_client None handle None found = None
 owned_by_client None handle (Some context) found = owned_as None handle (Some context) found
 owned_by_client (Some client) handle handed found = owned_as (Some client) handle handed found
 
--- the session of an item, whose it is, and whether it is in use, in the state of a device; nothing where it is an orphan
+-- the session of an item, its client, and whether it is in use, in the state of a device; `None`
+-- for an orphan
 abbrev pub owned_in : SlotState → Option sessions.Item → Option Owned
 owned_in slots None = None
 owned_in slots (Some item) = owned_by_client item.client item.handle item.handed (item_session slots (Some item))

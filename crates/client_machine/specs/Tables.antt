@@ -64,7 +64,8 @@ IsOpenOwner present (Some item) = IfSome item.client (λ client. is_open client 
 abbrev pub AreOpenOwners : List ℕ → List (Option sessions.Item) → Type 0
 AreOpenOwners present sessions = AllByRecursion (λ item. IsOpenOwner present item) sessions
 
--- whose a session is, nobody's where it was left; its handle, and what was handed out for it; nothing where it is an orphan
+-- a session's client, none if it was left; its handle, and what was handed out for it; `None` for
+-- an orphan
 abbrev pub OwnedHandle : Type 0
 OwnedHandle = Option ℕ × ℕ × Option (List ℕ)
 

@@ -48,7 +48,7 @@ impl ClientView<'_> {
     }
 }
 
-// What it may name: its objects, and its sessions in use.
+// What the client may name: its objects, and its sessions in use.
 impl Tables for ClientView<'_> {
     ghost tables = { λ s. tables_seen s.contexts s.client s.table.now.items s.sessions.now.items };
 
@@ -69,7 +69,8 @@ impl Tables for ClientView<'_> {
     }
 }
 
-// What is listed for it. The laws are stated of all values, also of those that are no table's.
+// What GetCapability lists for the client. The laws hold of all values, not only of those of
+// tables.
 impl Holdings for ClientView<'_> {
     ghost objects = { λ s. objects_had s.table.now.items };
 

@@ -28,11 +28,11 @@ fn is_in_use(sessions: &Sessions, handle: u32) -> bool
 }
 
 impl<D: Device> Machine<D> {
-    /// Drops all that the client of a list has: each session in use, and each object that is in a
-    /// slot, is flushed (Part 3, "TPM2_FlushContext"). Sessions that the client saved are left, by
-    /// rising number; while more are left than may be, the one that was left longest is flushed.
-    /// What can't be flushed is an orphan then, and the list is nobody's. It returns how much
-    /// couldn't be flushed. An error is the code of a wrong answer.
+    /// Drops all that the client of a list has. It flushes each session in use and each object in a
+    /// slot (Part 3, "TPM2_FlushContext"). Sessions that the client saved are left, by rising
+    /// number; while more are left than may be, the one that was left longest is flushed. What
+    /// can't be flushed becomes an orphan. The list is free afterwards. It returns how many flushes
+    /// failed. An error is the code of a wrong answer.
     pub fn drop_all(&mut self, client: u32, list: u32) -> Result<u32, u32>
         requires list { owner_at self.old.held.objects.owners list ≡ Some client }
         requires may { MayMove call_contexts D.CONTEXTS D.seen self.old.device self.old.held }
@@ -42,8 +42,8 @@ impl<D: Device> Machine<D> {
         self.drop_all_by(client, list, &mut Uncounted)
     }
 
-    /// `drop_all`, which visits three to six records for each object of the client; no more than six
-    /// where it fails.
+    /// `drop_all`, with a count of the records that it visits: three to six for each object of the
+    /// client, and no more than six if it fails.
     pub fn drop_all_counted<L: Ledger>(
         &mut self,
         client: u32,
@@ -64,7 +64,7 @@ impl<D: Device> Machine<D> {
 }
 
 impl<D: Device> Machine<D> {
-    /// `drop_all`, which tells what it visits.
+    /// `drop_all`, which counts in `steps` the records that it visits.
     pub fn drop_all_by<C: Visits>(
         &mut self,
         client: u32,
@@ -114,9 +114,9 @@ impl<D: Device> Machine<D> {
         Ok(failed)
     }
 
-    // The session of a client that has the least number. One that is in use is dropped, and one
-    // that the client saved is left. Where more are left than may be, the one that was left longest
-    // is dropped. It returns how many flushes failed, 0 or 1.
+    // Closes the session of a client that has the least number. It drops one that is in use, and
+    // leaves one that the client saved. If more are left than may be, it drops the one that was
+    // left longest. It returns how many flushes failed, 0 or 1.
     fn close_session(&mut self, client: u32, handle: u32) -> Result<u32, u32>
         requires least { IsLeastOf client self.old.held.sessions handle }
         requires slots { self.old.held.objects.slots
@@ -138,8 +138,8 @@ impl<D: Device> Machine<D> {
         }
     }
 
-    // One session: a client's that is in use, or the one that was left longest, where more are left
-    // than may be. It returns how many flushes failed, 0 or 1.
+    // Drops one session: one that its client has in use, or the one that was left longest if more
+    // are left than may be. It returns how many flushes failed, 0 or 1.
     fn drop_session(&mut self, handle: u32) -> Result<u32, u32>
         requires named { Names self.old.held.sessions.items handle }
         requires slots { self.old.held.objects.slots
@@ -169,7 +169,7 @@ impl<D: Device> Machine<D> {
         }
     }
 
-    // The objects of the client of a list. It returns how many flushes failed.
+    // Drops the objects of the client of a list. It returns how many flushes failed.
     fn drop_objects<C: Visits>(&mut self, list: u32, steps: &mut C) -> Result<u8, u32>
         requires list { (client : ℕ) × (owner_at self.old.held.objects.owners list ≡ Some client) }
         requires slots { self.old.held.objects.slots
@@ -206,7 +206,7 @@ impl<D: Device> Machine<D> {
         Ok(self.held.objects.orphans() - before)
     }
 
-    // One object, which is a client's. Where its flush failed it is an orphan.
+    // Drops one object of a client. If its flush failed, it is an orphan.
     fn drop_object<C: Visits>(&mut self, item: u32, steps: &mut C) -> Result<(), u32>
         requires named { objects.Names self.old.held.objects.items item }
         requires slots { self.old.held.objects.slots

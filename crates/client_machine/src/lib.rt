@@ -1,5 +1,5 @@
-//! The device, and what clients have in it and beside it: one command of one client runs, or all
-//! that a client has goes.
+//! The device with the objects and sessions of all clients. A call carries out one command of one
+//! client, or drops all that a client has.
 #![tactic(auto)]
 
 mod client_view;

@@ -42,19 +42,19 @@ use tab_values::{end_parameters, in_parameter};
 use tab_wire::{Tables, error_reply, is_session_handle, octet_of, response_handle, start_response};
 use virtual_handles::ClientTable;
 
-/// The device, and what clients have in it and beside it.
+/// The device with the objects and sessions of all clients.
 pub struct Machine<D: Device> {
     pub device: D,
     /// The objects and the sessions of all clients.
     pub held: Held,
-    /// The present command over the device's handles.
+    /// The current command, with the device's handles.
     pub translated: Buffer,
-    /// What the device answers to commands of the broker's own.
+    /// Room for responses to the broker's own commands.
     pub scratch: Buffer,
 }
 
-// Whether no new session can have the number of a handle: one has it, or as many as may be active
-// are clients' or were left.
+// Whether no new session can have the number of a handle: a session has it, or as many sessions as
+// may be active are clients' or were left.
 fn is_taken(sessions: &Sessions, handle: u32) -> bool
     ensures { result
         ≡ (nat_le sessions.now.numbers.active (count_by is_held sessions.now.items)
@@ -85,8 +85,8 @@ fn loads_kept(objects: &Objects, command: &[u8]) -> bool
         && objects.keeps_context(&command[HEADER_BYTES as usize..])
 }
 
-// Whether a command loads a context that is kept for an object, where the response refuses it. A
-// success is taken either way, so that a load that succeeds goes over no objects. This is so of any
+// Whether the response refuses a command that loads a context kept for an object. A success is
+// taken in either case, so a load that succeeds doesn't walk the objects. This holds for any
 // contexts that the device may have.
 fn refuses_kept(objects: &Objects, command: &[u8], reply: &[u8]) -> bool
     requires { 10 ≤ length command.now }
@@ -127,8 +127,8 @@ fn send<D: Device>(
     Ok(())
 }
 
-// What FlushContext names: the handle of an object or of a session that the client has. An error is
-// the code of the first fault.
+// Returns the handle of the client's object or session that FlushContext names. An error is the
+// code of the first fault.
 fn flushed(seen: &ClientView<'_>, params: &[u8]) -> Result<u32, u32>
     ensures ok { IfOk result (λ handle. (flush_handle params.now ≡ Ok handle)
         × (flush_fault_of (tables_had seen.now.client seen.now.table.now.items
@@ -174,8 +174,8 @@ impl<D: Device> Machine<D> {
         ensures none { makes_object_by D.CONTEXTS (Ok admitted.now.shape) bytes.now ≡ false
             → self.new.held.objects.items ≡ self.old.held.objects.items }
         ensures err { OnErr result (self.new.held.objects.items ≡ self.old.held.objects.items) }
-        // It fails only for a command that may make an object, where its table had to grow or no
-        // place is vacant.
+        // It fails only for a command that may make an object, if its table had to grow or no place
+        // is vacant.
         ensures grows { OnErr result
             ((makes_object_by D.CONTEXTS (Ok admitted.now.shape) bytes.now ≡ true)
             × ((table.old.spare ≡ 0) ⊎ (list_any is_vacant self.old.held.objects.items ≡ false))) }
@@ -192,8 +192,8 @@ impl<D: Device> Machine<D> {
         self.held.objects.reserve()
     }
 
-    /// Carries out a client's command that was admitted over its table and its sessions. Where it
-    /// may make an object there is room for it. After an error the client has what it had.
+    /// Carries out a client's command that was admitted over its table and its sessions. If the
+    /// command may make an object, there is room for it. After an error the client has what it had.
     pub fn answer(
         &mut self,
         table: &mut ClientTable,
@@ -227,8 +227,8 @@ impl<D: Device> Machine<D> {
         self.run(table, client, list, admitted, bytes, reply)
     }
 
-    // Runs a client's command that was admitted, and that is sent. ContextSave of a session goes by
-    // `client_save` and not by `send`: its context is kept too, so that it can be renewed.
+    // Runs an admitted command of a client by sending it. ContextSave of a session goes by
+    // `client_save` and not by `send`: the broker keeps its context too, so that it can renew it.
     fn run(
         &mut self,
         table: &mut ClientTable,
@@ -313,8 +313,8 @@ impl<D: Device> Machine<D> {
         }
     }
 
-    // Drops the object or the session of a client's handle. Orphans go first, where anything is
-    // sent.
+    // Drops the object or the session of a client's handle. If anything has to be sent, orphans are
+    // flushed first.
     fn flush(&mut self, table: &mut ClientTable, handle: u32) -> Result<(), SwapError>
         requires there { (client : ℕ) × MayFlush client handle self.old.held table.old.items }
         requires may { MayMove call_contexts D.CONTEXTS D.seen self.old.device self.old.held }

@@ -35,11 +35,11 @@ pub(crate) fn flush_orphans<D: Device>(
 ) -> Result<(), SwapError>
     requires slots { held.old.objects.slots ≡ held.old.sessions.numbers.slots }
     requires settled { Settled (D.seen device.old).state held.old }
-    // What is a client's, or was left, stays where it is.
+    // Objects and sessions of clients, and sessions that were left, stay where they are.
     ensures clears { Clears D.seen device.old device.new held.old held.new }
     ensures none { OnOk result (orphan_count held.new ≡ 0) }
     ensures costs { SendsUpTo D.seen (orphan_count held.old) device.old device.new }
-    // One flush for each is all that was sent.
+    // Only one flush for each orphan was sent.
     ensures flushed { OnOk result
         (FlushesSome D.CONTEXTS D.seen (orphan_count held.old) device.old device.new) }
     ensures asks { AsksSome D.CONTEXTS D.seen device.old device.new result }
@@ -97,8 +97,8 @@ fn sessions_of(admitted: &Admitted) -> (usize, [u32; 3])
     (count, named)
 }
 
-// Loads the sessions that a command names, and frees a place for one that it may start. Where as
-// many are active as may be, no place is freed: the device refuses the command by itself.
+// Loads the sessions that a command names, and frees a place for one that it may start. If as many
+// are active as may be, it frees no place: the device refuses the command by itself.
 fn load_sessions<D: Device>(
     held: &mut Held,
     device: &mut D,
@@ -139,7 +139,7 @@ fn item_of(table: &ClientTable, handle: u32) -> Option<u32>
     table.find(handle)
 }
 
-// The device's handle of an item that a handle names, and else the handle itself.
+// The device's handle of the item that a handle names; the handle itself if it names none.
 fn device_handle(objects: &Objects, named: Option<u32>, handle: u32) -> u32
     ensures { result ≡ handle_or handle (slot_handle objects.now.items named) }
 {
@@ -149,8 +149,8 @@ fn device_handle(objects: &Objects, named: Option<u32>, handle: u32) -> u32
     }
 }
 
-// Sees to it that an item is in a slot, where one is named, and that so many slots are free.
-// Nothing is sent where the item is in a slot and no slot has to be free.
+// Brings an item into a slot, if one is named, and frees so many slots. It sends nothing if the
+// item is in a slot and no slot has to be free.
 fn bring<D: Device>(
     held: &mut Held,
     device: &mut D,
@@ -185,9 +185,9 @@ fn bring<D: Device>(
     }
 }
 
-// Makes all ready for a client's command: flushes orphans, renews old contexts, loads what the
-// command names, makes room for what it may make or build, and writes it over the device's handles.
-// The order is the project's own.
+// Prepares a client's command: flushes orphans, renews old contexts, loads what the command names,
+// makes room for what it may make or build, and writes it with the device's handles. The order is
+// the project's own.
 pub(crate) fn prepare<D: Device>(
     held: &mut Held,
     device: &mut D,

@@ -23,7 +23,8 @@ use tab_values::{end_parameters, in_parameter, read_context};
 use tab_wire::{end_response, error_reply, is_session_handle, makes_object, start_response};
 use virtual_handles::ClientTable;
 
-// ContextSave: refuses what follows its handle. Whether it does; else the reply stays.
+// Refuses a ContextSave that has bytes after its handle. It returns whether it did; if not, the
+// reply stays.
 fn refuse_surplus(params: &[u8], reply: &mut Buffer) -> bool
     ensures told { MatchBool result (((length params.now == 0) ≡ false)
         × (reply.new ≡ reply_of (nothing_told (save_parameters params.now))))
@@ -62,7 +63,7 @@ fn take_back_context(sessions: &mut Sessions, client: u32, params: &[u8]) -> Res
     sessions.client_load(client, params)
 }
 
-// ContextLoad of what isn't an object's context.
+// Answers a ContextLoad of anything but an object's context.
 fn load_context(sessions: &mut Sessions, client: u32, params: &[u8], reply: &mut Buffer)
     ensures reply { reply.new
         ≡ reply_of (handle_told
@@ -82,7 +83,7 @@ fn load_context(sessions: &mut Sessions, client: u32, params: &[u8], reply: &mut
     }
 }
 
-// GetCapability of what is the client's own. Whether it is.
+// Answers GetCapability of what is the client's own. It returns whether the command asks for that.
 fn tell_capability(seen: &ClientView<'_>, params: &[u8], reply: &mut Buffer) -> bool
     ensures told { MatchBool result
         ((is_of_device params.now ≡ false) × ((persist : Persist) → reply.new ≡ reply_of
@@ -111,8 +112,8 @@ fn tell_capability(seen: &ClientView<'_>, params: &[u8], reply: &mut Buffer) -> 
     }
 }
 
-// Answers over what the client has, and sends nothing, where the command is one that isn't sent to
-// a device with these contexts; whether it is. FlushContext is answered elsewhere.
+// Answers a command that isn't sent to a device with these contexts, over what the client has. It
+// returns whether the command is one of these. FlushContext is answered elsewhere.
 pub(crate) fn answer_alone(
     contexts: ContextLimits,
     sessions: &mut Sessions,

@@ -1,4 +1,4 @@
-//! What a response to a client's command tells, and what is held by it.
+//! What the broker reads from a response to a client's command, and what it holds after it.
 ghost use Rattle.std.specs.Prelude.{◌≡◌, ◌≤◌, ◌+◌, ◌++◌, ◌∷◌, true, false};
 ghost use Rattle.std.specs.Prelude.{ℕ, Some, None, [], length, set};
 ghost use Rattle.effect_spec.specs.Operands.{command_auth};
@@ -25,7 +25,7 @@ use tab_spec::{
 use tab_wire::{is_session_handle, set_response_handle};
 use virtual_handles::ClientTable;
 
-// Whether a response tells the handle of a new object, or of a new session.
+// Whether a response has the handle of a new object; below, of a new session.
 pub(crate) fn tells_object(admitted: &Admitted, reply: &[u8]) -> bool
     requires { 10 ≤ length reply.now }
     ensures { result ≡ ready.tells_object admitted.now reply.now }
@@ -70,7 +70,7 @@ pub(crate) fn saves_one(admitted: &Admitted) -> bool
     admitted.shape.row.code == CC_CONTEXT_SAVE && is_session_handle(admitted.shape.handles[0])
 }
 
-// The handle that a response tells.
+// The handle in a response.
 fn told_handle(reply: &[u8]) -> u32
     requires { 14 ≤ length reply.now }
     ensures { result ≡ moves.told_handle reply.now }
@@ -78,7 +78,7 @@ fn told_handle(reply: &[u8]) -> u32
     u32::from_be_bytes([reply[10], reply[11], reply[12], reply[13]])
 }
 
-// The sequence of the context that a response has.
+// The sequence of the context in a response.
 fn told_sequence(reply: &[u8]) -> u64
     requires { 18 ≤ length reply.now }
     ensures { result ≡ moves.told_sequence reply.now }
@@ -88,8 +88,8 @@ fn told_sequence(reply: &[u8]) -> u64
         .unwrap()
 }
 
-/// A value that the device chose: which number it gave to a session that it started, or which
-/// sequence to a context that it made.
+/// The value that the device chose: the number of a session that it started, or the sequence of a
+/// context that it made; `Nothing` if it chose none.
 pub fn pick_of(admitted: &Admitted, reply: &[u8]) -> Pick
     requires header { 10 ≤ length reply.now }
     requires long { ready.tells_session admitted.now reply.now ≡ true → 14 ≤ length reply.now }
@@ -105,8 +105,8 @@ pub fn pick_of(admitted: &Admitted, reply: &[u8]) -> Pick
     Pick::Nothing
 }
 
-// Holds a client's new object, whose handle in the device a response tells, and writes the client's
-// own handle into it.
+// Holds a client's new object. The response has its handle in the device, and gets the client's own
+// handle instead.
 pub(crate) fn adopt(
     objects: &mut Objects,
     table: &mut ClientTable,
@@ -132,7 +132,7 @@ pub(crate) fn adopt(
     set_response_handle(reply, own);
 }
 
-// Forgets a session of a client, which the device ended. None that was left goes.
+// Forgets a session of a client, which the device ended. Left sessions stay.
 fn forget_session(sessions: &mut Sessions, handle: u32)
     requires { (client : ℕ) × (is_owner client (owner_in sessions.old.items handle) ≡ true) }
     ensures { sessions.new ≡ record sessions.old {
@@ -144,8 +144,7 @@ fn forget_session(sessions: &mut Sessions, handle: u32)
     sessions.end_session(handle);
 }
 
-// Holds the session that a command started, and forgets the one that it ended, which was the
-// client's.
+// Holds the session that a command started, and forgets the client's session that it ended.
 pub(crate) fn keep_sessions(sessions: &mut Sessions, client: u32, admitted: &Admitted, reply: &[u8])
     requires long { 10 ≤ length reply.now }
     requires started { ready.tells_session admitted.now reply.now ≡ true

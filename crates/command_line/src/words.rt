@@ -33,7 +33,7 @@ pub enum Verb {
     Run,
     /// Serve connections to a Unix socket.
     Serve,
-    /// Play the script of a workload, and write what is told of its replies.
+    /// Play the script of a workload, and write a summary of its replies.
     Workload,
 }
 
@@ -44,7 +44,7 @@ pub enum DeviceWord {
     Memory([u8; 32]),
     /// A device behind the Unix socket at this path, 1 to 100 bytes.
     Unix(PathText),
-    /// The same, where it is a TPM that needn't be of this project's profile.
+    /// The same, for a TPM that needn't be of this project's profile.
     Tpm(PathText),
 }
 
@@ -57,8 +57,8 @@ pub struct Plan {
     pub socket: PathText,
     /// How many connections are served in all, 1 to 4,294,967,295; 0 for `run` and `workload`.
     pub connections: u32,
-    /// How many bytes the entries of the journal may keep, 8,192 to 1,073,741,824; 2^58 where they
-    /// are only counted.
+    /// How many bytes the entries of the journal may keep, 8,192 to 1,073,741,824; 2^58 if they are
+    /// only counted.
     pub limit: u64,
     /// Whether the audit text of the journal is written at the end.
     pub audit: bool,
@@ -142,7 +142,7 @@ fn read_plan(words: &[String]) -> Option<Plan>
     }
 }
 
-// A plan, but not one that asks for the text of entries that aren't kept.
+// Refuses a plan that asks for the text of entries that aren't kept.
 fn that_keeps(plan: Option<Plan>) -> Option<Plan>
     ensures { result ≡ option_and_then that_keeps plan }
 {
@@ -165,7 +165,8 @@ fn read_verb(word: &str) -> Option<Verb>
     }
 }
 
-// The options that words give, each once at most. Nothing where they give none, or one twice.
+// The options that words give, each once at most. `None` if words give no option, or give one
+// twice.
 fn read_settings(words: &[String]) -> Option<Settings>
     ensures { result
         ≡ option_and_then (gathered no_settings) (settings_of (map string_bytes words.now)) }
@@ -189,7 +190,7 @@ fn read_settings(words: &[String]) -> Option<Settings>
 }
 
 impl Settings {
-    // The same with one option more. Nothing where it was given already.
+    // The same with one option more. `None` if it was given already.
     fn with(self, setting: Setting) -> Option<Settings>
         ensures { result ≡ joined self setting }
     {
@@ -225,8 +226,8 @@ impl Settings {
         }
     }
 
-    // The plan of a command. Nothing where an option is missing that it needs, or one is there that
-    // it doesn't take.
+    // The plan of a command. `None` if an option is missing that it needs, or one is there that it
+    // doesn't take.
     fn plan(self, job: Verb) -> Option<Plan>
         ensures { result ≡ plan_by job self }
     {
@@ -258,7 +259,7 @@ impl Verb {
     }
 }
 
-// The value of an option that has to be given where it is asked for. Else it may not be given, and
+// The value of an option. It has to be given if it is asked for; if not, it may not be given, and
 // has the other value.
 fn asked<T: Copy>(is_asked: bool, given: Option<T>, otherwise: T) -> Option<T>
     ensures { result ≡ asked is_asked otherwise given }
@@ -272,7 +273,7 @@ fn asked<T: Copy>(is_asked: bool, given: Option<T>, otherwise: T) -> Option<T>
     }
 }
 
-// The value of an option. Nothing where the option was given already.
+// The value of an option. `None` if the option was given already.
 fn once<T: Copy>(given: Option<T>, value: T) -> Option<T>
     ensures { result ≡ once given value }
 {
@@ -411,7 +412,7 @@ fn read_number(word: &[u8], least: u64, most: u64) -> Option<u64>
     Some(number)
 }
 
-// The number that these digits spell. Nothing where one isn't a digit, or no u64 is so large.
+// The number that these digits spell. `None` if one isn't a digit, or no u64 is so large.
 fn number_of(digits: &[u8]) -> Option<u64>
     ensures { result ≡ (if list_all is_digit digits.now && nat_lt (number_of digits.now) (2 ^ 64)
         then Some (number_of digits.now) else None) }

@@ -20,7 +20,7 @@ pub(crate) struct Between {
     waiting: AtomicU64,
 }
 
-// What one of them shows to use these.
+// What the reader or the worker needs to use these.
 #[derive(Drop)]
 pub(crate) struct Side {
     pub pass: LinePass,
@@ -29,8 +29,8 @@ pub(crate) struct Side {
 }
 
 impl Between {
-    // With the reader's side and the worker's, and with few buffers where the reader runs the
-    // commands itself. It fails only for want of memory, and takes none later.
+    // Makes what both use, the reader's side and the worker's, with few buffers if the reader runs
+    // the commands itself. It fails only for want of memory, and takes none later.
     pub fn new<R: Wait>(
         rt: &R,
         alloc: Global,
@@ -61,17 +61,17 @@ impl Between {
         Ok((between, reader, worker))
     }
 
-    // Counts a message that will be sent, and answers how many waited before it.
+    // Counts a message that will be sent, and returns how many waited before it.
     pub fn count_in(&self) -> u64 {
         self.waiting.fetch_add(1, Ordering::SeqCst)
     }
 
-    // Takes a message away that was taken up. Whether none waits then.
+    // Takes off the count a message that was taken up, and returns whether none waits then.
     pub fn count_out(&self) -> bool {
         self.waiting.fetch_sub(1, Ordering::SeqCst) == 1
     }
 
-    // Once both sides are done: one seat of the two.
+    // Joins the seats of the two sides, once both are done.
     pub fn finish(&self, reader: Side, worker: Side) -> WordSeat
         requires reader { IsReaders self.now reader }
         requires worker { IsWorkers self.now worker }

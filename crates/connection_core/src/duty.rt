@@ -28,7 +28,7 @@ pub(crate) enum Stage {
     CutOver,
 }
 
-// The client's worker, and what became of it.
+// The client's worker, and the state of its duty.
 #[derive(Drop)]
 pub(crate) struct Duty<B, K: Drop> {
     pub worker: Worker<B, K>,
@@ -37,8 +37,8 @@ pub(crate) struct Duty<B, K: Drop> {
 }
 
 impl<B: Serves, K: Sink + Drop> Duty<B, K> {
-    // Takes the next message, where there is one, and does what it says: it has a command run, or
-    // answered where it is canceled. Whether there was one.
+    // Takes the next message, if there is one, and does what it says: it has a command run, or only
+    // answered if it is canceled. It returns whether there was a message.
     pub fn take_up<J: Begins, G: Gate, R: Wait>(
         &mut self,
         rt: &R,
@@ -57,7 +57,7 @@ impl<B: Serves, K: Sink + Drop> Duty<B, K> {
         }
     }
 
-    // The same, where all went well.
+    // The same, as long as every reply was written.
     fn go_on<J: Begins, G: Gate, R: Wait>(
         &mut self,
         rt: &R,
@@ -94,7 +94,7 @@ impl<B: Serves, K: Sink + Drop> Duty<B, K> {
         }
     }
 
-    // The same, where a reply wasn't written to its end.
+    // The same, after a reply wasn't written to its end.
     fn drop_next<J: Begins, R: Wait>(
         &mut self,
         rt: &R,
@@ -124,8 +124,7 @@ impl<B: Serves, K: Sink + Drop> Duty<B, K> {
         }
     }
 
-    // Takes up all that is left, once the last message was sent, and tells the client of a bad
-    // size.
+    // Takes up all that is left, once the last message was sent, and answers a bad size.
     pub fn finish<J: Begins, G: Gate, R: Wait>(
         &mut self,
         rt: &R,
@@ -149,7 +148,7 @@ impl<B: Serves, K: Sink + Drop> Duty<B, K> {
         unreachable!()
     }
 
-    // Says how a connection ends all of whose commands were answered.
+    // Returns how a connection ends once all of its commands were answered.
     fn tell_end<J: Begins>(&mut self, ended: Ended) -> Ending
         requires keeps { KeepsTo B.legal K.written K.ended K.faults J.begun self.old }
         requires over { self.old.stage ≡ stages.Over ended }

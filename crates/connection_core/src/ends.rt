@@ -14,14 +14,14 @@ pub enum Ending {
     WriteFault,
     /// There was no memory for the connection or for its client, so there is no client.
     Memory,
-    /// The journal had no room for the client, so there is none: the bytes that it keeps, and its
-    /// limit.
+    /// The journal had no room for the client, so there is no client. The values are the bytes that
+    /// the journal keeps and its limit.
     JournalFull { kept: u64, limit: u64 },
     /// The device gave a wrong answer before, so there is no client.
     Answer,
 }
 
-/// What a connection leaves.
+/// What is left when a connection has ended.
 pub struct LinkEnd<B, S, K> {
     /// The end that the commands came from.
     pub source: S,
@@ -29,7 +29,7 @@ pub struct LinkEnd<B, S, K> {
     pub sink: K,
     /// The pass, which knows the connection's client now.
     pub pass: Pass<B>,
-    /// The connection's client, which is closed now. `None` where it wasn't opened.
+    /// The connection's client, which is closed now. `None` if it wasn't opened.
     pub client: Option<u32>,
     /// How many commands were taken up.
     pub done: u64,

@@ -91,7 +91,7 @@ impl<B: Recorded, K: Sink + Drop, J: Begins> Link<B, K, J> {
 }
 
 impl<B: Serves, K: Sink + Drop> Keeper<B, K> {
-    // Sends a command, and takes it up where the reader has the duty then.
+    // Sends a command, and takes it up if the reader has the duty then.
     pub fn send<J: Begins, G: Gate, R: Wait>(
         &mut self,
         rt: &R,
@@ -118,8 +118,8 @@ impl<B: Serves, K: Sink + Drop> Keeper<B, K> {
         self.take_up(rt, shared, gate, link);
     }
 
-    // Counts the next message, before it is sent, and sees to it that somebody takes it up: the
-    // reader where it may do so alone, and else the helper.
+    // Counts the next message before it is sent, and makes sure that it is taken up: by the reader
+    // if it may do so alone, and by the helper if not.
     pub fn make_way<J: Begins, R: Wait>(&mut self, rt: &R, link: &Link<B, K, J>, alone: bool)
         requires { IsKeeper B.legal K.written K.ended K.faults J.begun link.now self.old }
         ensures { IsKeeper B.legal K.written K.ended K.faults J.begun link.now self.new }
@@ -131,7 +131,7 @@ impl<B: Serves, K: Sink + Drop> Keeper<B, K> {
         }
     }
 
-    // Takes the duty home where no message waited before this one: the helper brings it then.
+    // Takes the duty home if no message waited before this one: the helper brings it then.
     fn bring_home<J: Begins, R: Wait>(&mut self, rt: &R, link: &Link<B, K, J>, waiting: u64)
         requires { IsKeeper B.legal K.written K.ended K.faults J.begun link.now self.old }
         ensures { IsKeeper B.legal K.written K.ended K.faults J.begun link.now self.new }
@@ -142,7 +142,7 @@ impl<B: Serves, K: Sink + Drop> Keeper<B, K> {
         self.duty = Some(link.take_home(rt, &mut self.hand));
     }
 
-    // Gives the duty to the helper, where the reader has it.
+    // Gives the duty to the helper, if the reader has it.
     fn give_out<J: Begins, R: Wait>(&mut self, rt: &R, link: &Link<B, K, J>)
         requires { IsKeeper B.legal K.written K.ended K.faults J.begun link.now self.old }
         ensures { IsKeeper B.legal K.written K.ended K.faults J.begun link.now self.new }
@@ -153,7 +153,7 @@ impl<B: Serves, K: Sink + Drop> Keeper<B, K> {
         link.out.give(rt, &mut self.hand.out, Handed::Over(duty));
     }
 
-    // Takes up the next message, where the reader has the duty.
+    // Takes up the next message, if the reader has the duty.
     fn take_up<J: Begins, G: Gate, R: Wait>(
         &mut self,
         rt: &R,
@@ -174,9 +174,9 @@ impl<B: Serves, K: Sink + Drop> Keeper<B, K> {
         self.duty = Some(duty);
     }
 
-    // The duty, once the last message was sent. The helper, which may have had it till now, is told
-    // that there is nothing more to be done. Where it never began, for want of a thread, the duty
-    // is still on its way out.
+    // Returns the duty, once the last message was sent, and makes the helper stop. The helper may
+    // have had the duty till now. If it never began, for want of a thread, the duty is still on its
+    // way out.
     pub fn into_duty<J: Begins, R: Wait>(self, rt: &R, link: &Link<B, K, J>) -> Duty<B, K>
         requires { IsKeeper B.legal K.written K.ended K.faults J.begun link.now self }
         ensures { KeepsTo B.legal K.written K.ended K.faults J.begun result }
@@ -203,7 +203,7 @@ impl<B: Serves, K: Sink + Drop> Keeper<B, K> {
     }
 }
 
-// The helper: as often as it has the duty it takes up all that waits.
+// Runs the helper: each time that it has the duty it takes up all that waits.
 pub(crate) fn help<B: Serves, K: Sink + Drop, J: Begins, G: Gate, R: Wait>(
     rt: &R,
     shared: &Shared<B>,

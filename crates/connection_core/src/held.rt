@@ -32,8 +32,8 @@ impl Model for Held {
 }
 
 impl Held {
-    // It holds nothing, and has no room where it isn't used. It fails only for want of memory, and
-    // takes none later.
+    // Makes one that holds nothing, without room if it isn't used. It fails only for want of
+    // memory, and takes none later.
     pub fn new(alloc: Global, is_used: bool) -> Result<Held, AllocError>
         ensures { IfOk result (λ held. held ≡ []) }
     {
@@ -52,7 +52,7 @@ impl Held {
         self.lengths.is_empty()
     }
 
-    // Holds one more command, where there is room for it. Whether there was.
+    // Holds one more command, if there is room for it, and returns whether there was.
     pub fn push(&mut self, command: &Buffer) -> bool
         ensures room { result ≡ true → self.new ≡ self.old ++ command.now ∷ [] }
         ensures full { result ≡ false → self.new ≡ self.old }

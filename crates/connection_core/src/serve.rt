@@ -42,8 +42,8 @@ struct Outfit {
     reply: Buffer,
 }
 
-// What the reader pulls into. Where it runs the commands itself those that wait are held together,
-// and else each waits in a buffer of its own.
+// Makes what the reader pulls into. If the reader runs the commands itself, those that wait are
+// held together; if not, each waits in a buffer of its own.
 fn make_intake(alloc: Global, alone: bool) -> Result<(Intake, Held), AllocError>
     ensures { IfOk result (λ made. (made.0.framer ≡ []) × (made.1 ≡ [])) }
 {
@@ -57,7 +57,7 @@ fn make_buffers(alloc: Global) -> Result<(Buffer, Buffer), AllocError> {
     Ok((frame, Buffer::new(alloc)?))
 }
 
-// Takes it. Nothing was pulled yet.
+// Takes all that memory. Nothing was pulled yet.
 fn make_outfit<R: Wait>(rt: &R, alloc: Global, alone: bool) -> Result<Outfit, AllocError>
     ensures { IfOk result (λ outfit. IsFresh outfit) }
 {
@@ -75,7 +75,7 @@ fn make_outfit<R: Wait>(rt: &R, alloc: Global, alone: bool) -> Result<Outfit, Al
     })
 }
 
-// Opens the next client, or says how the connection ends without one.
+// Opens the next client, or returns how the connection ends without one.
 fn open_client<B: Serves, R: Wait>(
     rt: &R,
     shared: &Shared<B>,
@@ -101,7 +101,7 @@ fn open_client<B: Serves, R: Wait>(
     }
 }
 
-// The duty's end: takes up what is left, and closes the client.
+// Ends the duty: takes up what is left, and closes the client.
 fn close_duty<B: Serves, K: Sink + Drop, J: Begins, G: Gate, R: Wait>(
     rt: &R,
     shared: &Shared<B>,
@@ -229,7 +229,7 @@ fn serve_open<
     (end, seat)
 }
 
-// What a connection leaves whose client wasn't opened.
+// What is left of a connection whose client wasn't opened.
 fn refuse<B: Serves, S: Source, K: Sink>(
     pass: Pass<B>,
     source: S,
@@ -260,8 +260,8 @@ fn refuse<B: Serves, S: Source, K: Sink>(
     (end, None)
 }
 
-// Tells the gate where the journal had no room for the client, and where the device gave a wrong
-// answer before.
+// Tells the gate if the journal had no room for the client, or if the device gave a wrong answer
+// before.
 fn tell_refused<G: Gate>(gate: &G, ending: Ending) {
     match ending {
         Ending::JournalFull { kept: _, limit: _ } => gate.journal_full(),
@@ -343,8 +343,8 @@ fn serve_fitted<
 }
 
 /// Serves one connection: opens a client, has each command that comes run in a turn of its own,
-/// writes its reply, closes the client, and then ends the sink. Where reading or the gate may wait,
-/// a second thread runs the commands, and this one reads on meanwhile. Where neither may (a prompt
+/// writes its reply, closes the client, and then ends the sink. If reading or the gate may wait, a
+/// second thread runs the commands, and this one reads on meanwhile. If neither may wait (a prompt
 /// source and an open gate), one thread does both: before each command it reads what has come. A
 /// cancel frame cancels the commands that came before it: one that wasn't taken up yet is answered
 /// and not run. Before each command it waits for the gate, looks whether the command is canceled,

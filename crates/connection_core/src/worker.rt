@@ -30,7 +30,7 @@ pub(crate) struct Worker<B, K> {
 }
 
 impl<B: Serves, K: Sink> Worker<B, K> {
-    // Waits for the gate, has the client's next command run, or answered where it is canceled,
+    // Waits for the gate, has the client's next command run, or only answered if it is canceled,
     // gives its buffer back, tells the gate of a full journal or a wrong answer, and writes the
     // reply.
     pub fn run<G: Gate, R: Wait>(
@@ -58,7 +58,7 @@ impl<B: Serves, K: Sink> Worker<B, K> {
         push_all(&mut self.sink, reply.as_slice())
     }
 
-    // Tells the client of a size that no frame has.
+    // Answers a size that no frame has.
     pub fn tell_bad_size(&mut self, reply: &mut Buffer) -> Result<(), Failed>
         ensures client { self.new.client ≡ self.old.client }
         ensures done { self.new.done ≡ self.old.done }
@@ -95,7 +95,7 @@ impl<B: Serves, K: Sink> Worker<B, K> {
     }
 }
 
-// Loads the word once, before the client's next command waits for its turn: where it covers that
+// Loads the word once, before the client's next command waits for its turn. If the word covers that
 // command's number, the command isn't run.
 fn next_job(word: &CancelWord, seat: &mut WordSeat, client: u32, number: u64) -> Job
     requires word { seat.old.word ≡ word.now }
@@ -112,8 +112,7 @@ fn next_job(word: &CancelWord, seat: &mut WordSeat, client: u32, number: u64) ->
     }
 }
 
-// Tells the gate where the journal had no room for a command, and where the device gave a wrong
-// answer.
+// Tells the gate if the journal had no room for a command, or if the device gave a wrong answer.
 fn tell_gate<G: Gate>(gate: &G, done: Done) {
     match done {
         Done::Told(Told::JournalFull { kept: _, limit: _ }) => gate.journal_full(),

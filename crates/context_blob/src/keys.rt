@@ -5,9 +5,9 @@ use tab_hash::Mac;
 
 const CONTEXT_MAC: &[u8] = b"CONTEXT MAC";
 
-/// The keys of the contexts of a device (Part 1, "Context Management"), of which each was padded
-/// and hashed once: so what saves and loads often makes them once, and keeps them. They are seen
-/// as the 32 bytes of the device's seed, from which they follow.
+/// The keys of the contexts of a device (Part 1, "Context Management"), each padded and hashed
+/// once: a caller that saves and loads often makes them once, and keeps them. Contracts see the 32
+/// bytes of the device's seed, from which they follow.
 #[derive(Drop)]
 pub struct ContextKeys {
     seed: [u8; 32],

@@ -57,9 +57,9 @@ pub fn commands_run_over_other_handles()
         ≡ slots.sessions }
 {}
 
-/// The handle of a slot stands for its object, and one of neither an object nor a session for
-/// itself: these are what a command names over handles of which the second is such a one, and its
-/// authorization names no session.
+/// The handle of a slot stands for its object, and a handle of neither an object nor a session
+/// stands for itself. So these are what a command names if its second handle is of neither sort and
+/// its authorization names no session.
 pub fn handles_stand_for_what_is_there()
     ensures object { (slots : SlotState) (shape : Shape) (auths : Auths) (first second : ℕ)
         (o : Object) → is_present (get_or shape.row.handles 0 Absent) ≡ true

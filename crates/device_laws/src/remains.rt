@@ -18,7 +18,7 @@ pub fn remains_are_listed()
         → IsListed slots 0x03000000 (session_handles false slots) }
 {}
 
-/// A started device tells its numbers, each alone, and is as it was (Part 3,
+/// A started device reports each of its numbers alone, and is as it was (Part 3,
 /// "TPM2_GetCapability").
 pub fn numbers_are_told()
     ensures slots { (slots : SlotState) → slots.started ≡ true → FitWords slots.numbers

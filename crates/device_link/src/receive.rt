@@ -13,7 +13,7 @@ use tab_bytes::{BUFFER_BYTES, Buffer};
 use tab_spec::{HEADER_BYTES, MOST_BYTES};
 use tab_wire::size_of;
 
-// How many bytes tell a response's size: its tag and its size field.
+// How many bytes it takes to know a response's size: its tag and its size field.
 const SIZED_BYTES: usize = 6;
 
 // How many bytes are read at once, at most.

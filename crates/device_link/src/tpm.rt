@@ -36,7 +36,7 @@ impl<S: Source, K: Sink, W: Watcher, J: Began> TpmLink<S, K, W, J> {
         TpmLink { link }
     }
 
-    /// What it answered to the newest command: nothing where that one failed, and before the first.
+    /// What it answered to the newest command. `None` if that one failed, and before the first.
     pub fn newest(&self) -> Option<Answered>
         ensures { result ≡ self.now.newest }
     {

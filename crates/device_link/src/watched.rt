@@ -14,7 +14,7 @@ use tab_bytes::Buffer;
 use tab_spec::{ContextLimits, PROFILE_CONTEXTS};
 use tab_wire::code_of;
 
-/// Is told that a link to a device has failed.
+/// Is called when a link to a device has failed.
 pub trait Watcher: Sync {
     /// The first transmission over a link has failed, for this reason.
     fn link_failed(&self, fault: LinkFault)
@@ -56,8 +56,8 @@ impl<S: Source, K: Sink, W: Watcher, J: Began> WatchedLink<S, K, W, J> {
         }
     }
 
-    /// What the device answered to the newest command: nothing where that one failed, and before
-    /// the first.
+    /// What the device answered to the newest command. `None` if that one failed, and before the
+    /// first.
     pub fn newest(&self) -> Option<Answered>
         ensures { result ≡ self.now.newest }
     {

@@ -17,7 +17,7 @@ use tab_spec::{ContextLimits, Numbers, PROFILE_CONTEXTS};
 use tab_values::Persist;
 
 /// A device in memory, which is the project's profile byte for byte, with any numbers of slots,
-/// places and sessions. It tells its state.
+/// places and sessions. It shows its state.
 #[derive(Drop)]
 pub struct MemoryDevice {
     machine: SlotMachine,

@@ -1,4 +1,4 @@
--- What a device tells, and what a transmission does to it.
+-- What a device shows, and what a transmission does to it.
 use Rattle.std.specs.Prelude.{◌≡◌, ◌≤◌, ℕ, List, [], ◌∷◌, Option, Some, None, Result, is_ok, OnOk, OnErr, if◌then◌else◌}
 use Rattle.tab_spec.specs.Count.{Rose, one_more}
 use Rattle.tab_spec.specs.Persist.{Persist}
@@ -24,9 +24,9 @@ abbrev pub newest_response : List Transmission → Option (List ℕ)
 newest_response [] = None
 newest_response (newest ∷ trace) = newest.response
 
--- what a device tells of itself, and what was sent to it
+-- what a device shows of itself, and what was sent to it
 pub record Seen : Type 0 where
-  -- what it kept when its history began, and the state that it is in, where it tells them
+  -- what it kept when its history began, and the state that it is in, if it shows them
   pub base : Option Persist
   pub state : Option SlotState
   -- how often a transmission has failed. The count never falls, and stands still at the largest u64

@@ -27,7 +27,8 @@ pub record Succeeds (contexts : ContextLimits) (asked last : List ℕ) : Type 0 
   pub code : code_of last ≡ RC_SUCCESS
   pub form : is_success_form contexts true asked last ≡ true
 
--- why a call failed: a transmission did, or its response is a wrong answer, which no device that tells its state gives
+-- why a call failed: a transmission did, or its response is a wrong answer, which no device that
+-- shows its state gives
 abbrev pub HasCause : {D : Type 0} (contexts : ContextLimits) (seen : D → Seen) → SwapError → (old new : D) → Type 0
 HasCause contexts seen (errors.Failed failed) old new = Rose (seen old).faults (seen new).faults × (last_of (seen new) ≡ None)
 HasCause contexts seen (errors.Answer code) old new =

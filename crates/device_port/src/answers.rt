@@ -28,9 +28,9 @@ use tab_wire::{code_of, is_saved_object, is_session_handle, octet_of, row_of, ta
 /// GetCapability the handles or the one property that it asks for. An error is ten bytes, and has
 /// none of the codes that the broker sees to. Every other response is a wrong answer.
 ///
-/// Two things the broker tells that no bytes show: whether a context that the command loads is one
-/// that it kept itself, and whether no new session can have the number of the response's handle:
-/// a client has one with it, one was left with it, or as many are active as may be.
+/// The broker adds two facts that no bytes show: whether a context that the command loads is one
+/// that the broker kept itself, and whether no new session can have the number of the response's
+/// handle: a client has one with it, one was left with it, or as many are active as may be.
 pub fn takes(
     contexts: ContextLimits,
     asked: &[u8],
@@ -462,7 +462,7 @@ fn asks_of_properties(asked: &[u8]) -> bool
     word_at(asked, HEADER_BYTES as usize) == Some(6)
 }
 
-// Whether a response tells this property and nothing else (Part 2, "TPMS_TAGGED_PROPERTY").
+// Whether a response has this property and nothing else (Part 2, "TPMS_TAGGED_PROPERTY").
 fn tells_property(last: &[u8], property: u32) -> bool
     ensures { result ≡ answers.tells_property last.now property }
 {
@@ -478,7 +478,7 @@ fn tells_property(last: &[u8], property: u32) -> bool
     last.len() == VALUE_PLACE + 4
 }
 
-// Whether the response tells the property that was asked for, where one was.
+// Whether the response has the property that was asked for, if one was.
 fn tells_asked(asked: &[u8], last: &[u8]) -> bool
     requires { IsTrue (is_frame asked.now) }
     ensures { result ≡ answers.tells_asked asked.now last.now }

@@ -16,7 +16,7 @@ pub trait Device {
     ghost use Rattle.tab_spec.specs.declared.contexts.ContextLimits.{ContextLimits};
     ghost use Rattle.tab_spec.specs.declared.contexts.TheConstants.{PROFILE_CONTEXTS};
 
-    /// What it tells of itself, and what was sent to it.
+    /// What it shows of itself, and what was sent to it.
     ghost seen: { Self → Seen };
 
     ghost CONTEXTS: { ContextLimits };
@@ -24,9 +24,9 @@ pub trait Device {
     /// What its contexts may be: an answer that has a larger one is wrong.
     const CONTEXTS: ContextLimits;
 
-    /// Sends one whole command, and writes the response over whatever `reply` holds. `DeviceFailed`
-    /// comes only where the fault count rose. Then `reply` is empty, and a state that is shown
-    /// stays.
+    /// Sends one whole command, and overwrites `reply` with the response. It returns `DeviceFailed`
+    /// only if the fault count rose. Then `reply` is empty, and a state that the device shows is as
+    /// before.
     fn transmit(&mut self, command: &[u8], reply: &mut Buffer) -> Result<(), DeviceFailed>
         requires { IsTrue (is_frame command.now) }
         ensures { Transmits (seen self.old) command.now result reply.new (seen self.new) };
@@ -39,11 +39,11 @@ pub trait Device {
     fn sent_count(&self) -> u64
         ensures { result ≡ sent_of (seen self.now) };
 
-    /// The state and the base are told together.
+    /// A device shows both the state and the base, or neither.
     ghost told_together: { (device : Self)
         → is_some (seen device).state ≡ is_some (seen device).base };
 
-    /// A device that tells its state is of the profile.
+    /// A device that shows its state is of the profile.
     ghost profile: { (device : Self)
         → IfSome (seen device).state (λ slots. CONTEXTS ≡ PROFILE_CONTEXTS) };
 

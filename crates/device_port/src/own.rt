@@ -65,7 +65,7 @@ pub fn handle_of(reply: &[u8]) -> u32
     u32::from_be_bytes([reply[10], reply[11], reply[12], reply[13]])
 }
 
-/// The value of the one property that a response tells.
+/// The value of the one property in a response.
 pub fn value_told(reply: &[u8]) -> u32
     requires { 27 ≤ length reply.now }
     ensures { result ≡ answers.value_told reply.now }
@@ -73,8 +73,8 @@ pub fn value_told(reply: &[u8]) -> u32
     u32::from_be_bytes([reply[23], reply[24], reply[25], reply[26]])
 }
 
-/// Sends a command of the broker's own, to which a device has no reason to answer anything but
-/// success. The response is then in `scratch`.
+/// Sends a command of the broker's own, which a device has no reason to answer with anything but
+/// success. The response is in `scratch` then.
 pub fn ask<D: Device>(device: &mut D, command: &[u8], scratch: &mut Buffer) -> Result<(), SwapError>
     requires own { IsOwn D.CONTEXTS command.now }
     requires told { IfSome (D.seen device.old).state (λ slots.

@@ -54,7 +54,7 @@ impl<'a> Grows<Failure<'a>> for Transmissions {
 }
 
 /// Each command that was sent to a device and what came of it, the newest one first. Contracts see
-/// them all; when it runs, it has only their count. A device tells it of each transmission, once.
+/// them all; when it runs, it has only their count. A device enters each transmission once.
 #[derive(Drop)]
 pub struct Trace {
     transmissions: Snapshot<Transmissions>,
@@ -73,7 +73,7 @@ impl Model for Trace {
 }
 
 impl Trace {
-    /// Nothing was sent yet.
+    /// An empty trace: nothing was sent yet.
     pub fn new() -> Trace
         ensures { result ≡ [] }
     {
@@ -83,7 +83,7 @@ impl Trace {
         }
     }
 
-    /// This command was sent, and this response came.
+    /// Enters a command that was sent, and the response that came.
     pub fn answered(&mut self, command: &[u8], reply: &[u8])
         ensures { self.new ≡ record { command = command.now; response = Some reply.now }
             ∷ self.old }
@@ -92,7 +92,7 @@ impl Trace {
         grow(&mut self.transmissions, &Answer { command, reply });
     }
 
-    /// This command was sent, and its transmission failed.
+    /// Enters a command that was sent, and whose transmission failed.
     pub fn failed(&mut self, command: &[u8])
         ensures { self.new ≡ record { command = command.now; response = None } ∷ self.old }
     {

@@ -210,8 +210,8 @@ impl SlotMachine {
         Ok(())
     }
 
-    // An object goes to the least free slot, and the response tells its handle. Without a free one
-    // it is lost, but then no command that makes an object is admitted.
+    // An object goes to the least free slot, and the response has its handle. If no slot is free
+    // the object is lost, but then no command that makes an object is admitted.
     pub(crate) fn place(&mut self, object: Object, reply: &mut Buffer)
         requires { 14 ≤ length reply.old }
         ensures { (self.new, reply.new) ≡ slots.placed self.old (object_of object) reply.old }
@@ -221,8 +221,8 @@ impl SlotMachine {
         set_response_handle(reply, TRANSIENT_FIRST + slot as u32);
     }
 
-    // A session that started gets the least unused number, and the response tells its handle. Where
-    // every number is somebody's, no session starts.
+    // A session that started gets the least unused number, and the response has its handle. If
+    // every number is in use, no session starts.
     pub(crate) fn place_session(&mut self, session: Session, reply: &mut Buffer)
         requires { 14 ≤ length reply.old }
         ensures { (self.new, reply.new)

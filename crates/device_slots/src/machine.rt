@@ -207,7 +207,7 @@ impl SlotMachine {
         self.put_made(made.created, reply);
     }
 
-    // What a command made gets a place, and the response tells its handle.
+    // What a command made gets a place, and the response has its handle.
     fn put_made(&mut self, created: Created, reply: &mut Buffer)
         requires { HasHandle (created_of created) reply.old }
         ensures { (self.new, reply.new) ≡ made_by self.old (created_of created) reply.old }

@@ -19,7 +19,7 @@ use tab_values::{Object, Session};
 use tab_wire::{is_session_handle, octet_of};
 
 impl SlotMachine {
-    // The object of a transient handle; nothing where its slot is free, or where it has none.
+    // The object of a transient handle; `None` if its slot is free, or if it has none.
     pub(crate) fn object(&self, handle: u32) -> Option<&Object>
         ensures { MatchOption result
             (slots.in_slot self.now handle ≡ None)

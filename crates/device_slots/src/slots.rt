@@ -31,7 +31,7 @@ pub(crate) fn slot_of(handle: u32) -> usize
     handle.saturating_sub(TRANSIENT_FIRST) as usize
 }
 
-// The object of a slot; nothing where it is free, or where there is no such slot.
+// The object of a slot; `None` if it is free, or if there is no such slot.
 pub(crate) fn in_slot(slots: &[Option<Object>], slot: usize) -> Option<&Object>
     ensures { MatchOption result
         (get_or (slots_of slots.now) slot None ≡ None)

@@ -189,7 +189,7 @@ value_place = list_place + 4
 abbrev pub value_told : List ℕ → ℕ
 value_told last = from_be_bytes w32 (take 4 (drop value_place last))
 
--- whether a response tells this property and nothing else, whether or not more are left over
+-- whether a response has this property and nothing else, whether or not it says that there are more
 abbrev pub tells_property : List ℕ → ℕ → Bool
 tells_property last property =
     is_word (λ capability. capability == 6) (word_at (HEADER_BYTES + 1) last)
@@ -197,7 +197,7 @@ tells_property last property =
     && is_word (λ first. first == property) (word_at list_place last)
     && length last == value_place + 4
 
--- whether the response tells the property that was asked for, where one was
+-- whether the response has the property that was asked for, if one was
 abbrev pub tells_asked : List ℕ → List ℕ → Bool
 tells_asked asked last = not (asks_of_properties asked) || is_word (tells_property last) (word_at (HEADER_BYTES + 4) asked)
 

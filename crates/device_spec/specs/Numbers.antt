@@ -17,7 +17,7 @@ number_properties = PT_HR_TRANSIENT_MIN ∷ PT_HR_LOADED_MIN ∷ PT_ACTIVE_SESSI
 abbrev pub values_of : Numbers → List ℕ
 values_of numbers = numbers.slots ∷ numbers.loaded ∷ numbers.active ∷ numbers.gap ∷ []
 
--- each of them is what a response can tell
+-- each of them fits into a UINT32 of a response
 pub record FitWords (numbers : Numbers) : Type 0 where
   pub slots : numbers.slots < 2 ^ 32
   pub loaded : numbers.loaded < 2 ^ 32

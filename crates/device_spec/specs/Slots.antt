@@ -237,7 +237,7 @@ started_with slots code =
 abbrev pub with_slot : SlotState → ℕ → Option Object → SlotState
 with_slot slots slot held = record slots { slots = set slots.slots slot held }
 
--- an object goes to the least free slot, and the response tells its handle
+-- an object goes to the least free slot, and the response has its handle
 abbrev pub placed : SlotState → Object → List ℕ → Step
 placed slots o reply = (with_slot slots (free_slot slots.slots) (Some o), with_response_handle reply (TRANSIENT_FIRST + free_slot slots.slots))
 
@@ -379,7 +379,7 @@ abbrev pub free_number : List SessionPlace → ℕ
 free_number [] = 0
 free_number (place ∷ places) = if is_inactive place then 0 else 1 + free_number places
 
--- a session that started gets that number, and the response tells its handle
+-- a session that started gets that number, and the response has its handle
 abbrev pub session_placed : SlotState → Session → List ℕ → Step
 session_placed slots s reply =
     let number = free_number slots.sessions in

@@ -75,7 +75,7 @@ const COUNT_PLACE: usize = HEADER_BYTES as usize + 5;
 
 const LIST_PLACE: usize = HEADER_BYTES as usize + 9;
 
-// Whether the device started now, or had started before.
+// Whether the response says that the device started now, or had started before.
 fn is_started(response: &[u8]) -> bool
     ensures { result ≡ takes true true startup_command response.now }
 {
@@ -175,7 +175,7 @@ fn ask_numbers<D: Device>(device: &mut D, scratch: &mut Buffer) -> Result<Number
     })
 }
 
-// Asks a device that was started what it holds.
+// Asks a device that was started which objects and sessions it holds.
 fn find<D: Device>(device: &mut D, lists: &mut Lists) -> Result<(), SwapError>
     requires running { IfSome (D.seen device.old).state IsRunning }
     ensures finds { OnOk result (Finds (D.seen device.old).trace (D.seen device.new).trace
@@ -261,7 +261,7 @@ pub fn start<D: Device>(
     ensures started { IfOk result (λ numbers.
         IsStarted (D.seen device.old).trace (D.seen device.new).trace numbers) }
     ensures range { IfOk result AreInRange }
-    // A device that tells its state has these numbers.
+    // A device that shows its state has these numbers.
     ensures own { IfOk result (λ numbers.
         IfSome (D.seen device.old).state (λ slots. slots.numbers ≡ numbers)) }
     ensures cleared { OnOk result
@@ -270,8 +270,8 @@ pub fn start<D: Device>(
         (IsRight D.CONTEXTS (asked_of (D.seen device.new)) (last_of (D.seen device.new))) }
     // Also after an error it holds no more than it did, and what was sent is known.
     ensures attempts { Attempts D.CONTEXTS D.seen device.old device.new }
-    // Why it ended, and at which command. Each one before it was answered, and the numbers that
-    // these answers tell are in range.
+    // Why it ended, and at which command. Each earlier command was answered, and the numbers in
+    // these answers are in range.
     ensures cause { IfErr result
         (λ e. HasStartCause D.CONTEXTS D.seen e device.old device.new) }
 {

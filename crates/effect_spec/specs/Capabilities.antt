@@ -90,7 +90,7 @@ from_number least numbers = map (λ n. to_be_bytes w32 n) (filter (λ n. nat_le 
 
 -- ---- handles (Part 2, "TPM_CAP_HANDLES")
 
--- the handles of the objects that stand in places, the first of which has this handle
+-- the handles of the objects that stand in places; the first place has this handle
 abbrev pub transient_from : {A : Type 0} → ℕ → List (Option A) → List ℕ
 transient_from handle [] = []
 transient_from handle (None ∷ places) = transient_from (handle + 1) places
@@ -158,7 +158,7 @@ list_of limits rows persist objects sessions active asked =
     else if asked.capability == 6 then Ok (listed asked (property_items (property_pairs limits objects sessions active) asked.property))
     else Err (RC_VALUE + RC_P + RC_1)
 
--- whether a list tells of the caller's own: its objects, its sessions, and the properties
+-- whether a list is of the caller's own: its objects, its sessions, and the properties
 abbrev pub is_own_list : Asked → Bool
 is_own_list asked =
     if asked.capability == 1 then octet_of asked.property == HT_TRANSIENT || is_session_octet (octet_of asked.property)

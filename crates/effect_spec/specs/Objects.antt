@@ -26,7 +26,7 @@ object_name public = name_of (public_bytes public)
 abbrev pub qualified : List ℕ → Public → List ℕ
 qualified parent public = name_of (parent ++ object_name public)
 
--- an object of this public area, whose unique field tells its seed and secret
+-- an object of this public area, whose unique field is the hash of its seed and secret
 abbrev pub made_object : List ℕ → Public → List ℕ → List ℕ → List ℕ → Object
 made_object parent given auth seed secret =
     let public = record given { unique = sha256 (seed ++ secret) } in
@@ -34,7 +34,8 @@ made_object parent given auth seed secret =
 
 -- ---- CreatePrimary and Create
 
--- what is to be created: its secret, its public area, outsideInfo, and the PCRs that its creation data tell
+-- what is to be created: its secret, its public area, outsideInfo, and the PCRs for its creation
+-- data
 pub record Template : Type 0 where
   pub sensitive : Sensitive
   pub public : Public

@@ -42,7 +42,7 @@ policy_restart_row s params = when_read (nothing_of params) (λ none. Ok (restar
 abbrev pub policy_get_digest_row : Session → List ℕ → Result (List ℕ) ℕ
 policy_get_digest_row s params = when_read (nothing_of params) (λ none. Ok (sized_bytes s.digest))
 
--- both extend the digest by the same code; which one was the last tells what is needed
+-- both extend the digest by the same code; the last of them decides what is needed
 abbrev pub policy_needs_row : AuthNeeded → Session → List ℕ → Result Session ℕ
 policy_needs_row needed s params =
     when_read (nothing_of params) (λ none. Ok (record s { digest = extended_digest s.digest CC_POLICY_AUTH_VALUE []; needed = needed }))

@@ -71,8 +71,8 @@ fn device_of(
     MemoryDevice::with_numbers(alloc, seed, numbers, failing)
 }
 
-// Plays the lines of a script over a broker that has opened nobody, and closes all clients. Each
-// reply is written as a line.
+// Plays the lines of a script over a broker that has opened no client yet, and then closes all
+// clients. Each reply is written as a line.
 fn play_over<D: Device + Drop, W: Write>(
     alloc: Global,
     room: Room,

@@ -8,7 +8,7 @@ ghost use Rattle.fx_capability.specs.Views.{listed_of};
 /// A session as it is listed (Part 1, "Session Handles").
 #[derive(Clone, Copy)]
 pub struct HeldSession {
-    /// Its first octet tells its kind; the other three are its number.
+    /// Its first octet is its kind; the other three are its number.
     pub handle: u32,
     /// Whether it is loaded; else it is saved.
     pub in_use: bool,

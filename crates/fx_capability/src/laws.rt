@@ -4,7 +4,7 @@ ghost use Rattle.tab_spec.specs.Persist.{Persist};
 ghost use Rattle.effect_spec.specs.Capabilities.{Limits, Listed, capability_of, is_of_device};
 
 /// A list that a resource manager leaves to the device is the same for all who ask, whatever there
-/// is of each. So what the device tells for itself, a client may be told. It is a law: a function
+/// is of each. So a client may get what the device answers for itself. It is a law: a function
 /// without a body, whose `ensures` crates above cite.
 pub fn a_device_lists_for_clients()
     ensures { (params : List ℕ) (rows : List CommandRow) (persist : Persist)

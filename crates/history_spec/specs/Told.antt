@@ -26,17 +26,17 @@ pub record IsToldFull (limit : ℕ) (before : List Entry) (command reply : List 
   pub reply_is : reply ≡ error_reply RC_JOURNAL_FULL
   pub lacks : LacksRoom limit before command
 
--- memory lacked for the object that the command makes: no other command is told so
+-- memory lacked for the object that the command makes: no other command gets this reply
 pub record IsToldMemory (contexts : ContextLimits) (command reply : List ℕ) : Type 0 where
   pub reply_is : reply ≡ error_reply RC_MEMORY
   pub makes : makes_object contexts command ≡ true
 
--- what is told where there is an entry, and where there is none: that memory lacked, or room
+-- the reply if there is an entry, and if there is none: then memory lacked, or room
 abbrev pub ToldBy : Option Entry → Limits → List Entry → List ℕ → List ℕ → Type 0
 ToldBy (Some e) limit before command reply = IsEntryOf command reply e
 ToldBy None limit before command reply = IsToldMemory limit.contexts command reply ⊎ IsToldFull limit.bytes before command reply
 
--- within these limits the reply may be told to the client for its command of this number
+-- within these limits the client may get this reply to its command of this number
 abbrev pub Told : List Entry → Limits → ℕ → ℕ → List ℕ → List ℕ → Type 0
 Told history limit client number command reply =
     ToldBy (entry_of history client number) limit (part_before client number history) command reply
@@ -47,6 +47,6 @@ AnswersFrom history limit client number (command ∷ commands) bytes =
     (reply : List ℕ) × (more : List ℕ) × (bytes ≡ reply ++ more) × Told history limit client number command reply
     × AnswersFrom history limit client (number + 1) commands more
 
--- the bytes are one told reply for each command, one after another
+-- the bytes are one such reply for each command, one after another
 abbrev pub Answers : List Entry → Limits → ℕ → List (List ℕ) → List ℕ → Type 0
 Answers history limit client commands bytes = AnswersFrom history limit client 1 commands bytes

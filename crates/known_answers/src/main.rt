@@ -20,7 +20,7 @@ fn main(rt: HostRuntime) -> anyhow::Result<()> {
     play_lines(&rt, &mut player)
 }
 
-// Plays the lines of standard input, and tells which replies differ, and how many.
+// Plays the lines of standard input, and reports which replies differ, and how many.
 fn play_lines(rt: &HostRuntime, player: &mut Player) -> anyhow::Result<()> {
     for line in BufReader::new(rt.alloc(), rt.reader())?.lines(rt.alloc()) {
         if !player.play(line?.as_str())? {

@@ -2,7 +2,7 @@
 use std::sync::Wait;
 use std::sync::atomic::{AtomicBool, AtomicU64, Ordering};
 
-/// How many servers wait to accept, but for the newest one. No contract speaks of it.
+/// How many servers wait to accept, the newest one not counted. No contract speaks of it.
 #[derive(Drop)]
 pub(crate) struct Idle {
     count: AtomicU64,
@@ -15,8 +15,8 @@ impl Idle {
         }
     }
 
-    // Before a server waits to accept. The newest one waits here until no other has nothing to do:
-    // once it has accepted a connection, a further one is made.
+    // Called before a server waits to accept. The newest one waits here until every other one is
+    // busy: once it has accepted a connection, a further one is made.
     pub fn begin<R: Wait>(&self, rt: &R, newest: bool) {
         if newest {
             self.wait_for_none(rt);
@@ -25,7 +25,7 @@ impl Idle {
         self.count.fetch_add(1, Ordering::SeqCst);
     }
 
-    // After it has accepted one, or knows that none will come.
+    // Called after a server has accepted one, or knows that none will come.
     pub fn end(&self, newest: bool) {
         if newest {
             return;
@@ -62,7 +62,7 @@ pub(crate) struct Fork {
 }
 
 impl Fork {
-    // None is to begin.
+    // No further server is to begin.
     pub fn none() -> Fork {
         Fork {
             begun: AtomicBool::new(true),
@@ -93,7 +93,7 @@ impl Fork {
         self.ended.store(true, Ordering::SeqCst);
     }
 
-    // Whether the one beside it, which served so many connections, is to make room for it.
+    // Whether the server beside it, which served so many connections, is to make room for it.
     pub fn is_due(&self, served: u64) -> bool {
         served >= self.patience && !self.begun.load(Ordering::SeqCst)
     }

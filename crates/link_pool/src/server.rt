@@ -18,15 +18,15 @@ use std::snapshot::Snapshot;
 use std::sync::Wait;
 use std::thread::Threads;
 
-/// What a server has.
+/// One of the servers.
 #[derive(Drop)]
 pub(crate) struct Server<B, A, S, K> {
-    // With what it accepted.
+    // It has what the server accepted.
     pub hand: Hand<A, S, K>,
     // The pass that knows the clients of those that it served.
     pub pass: Pass<B>,
     pub served: Snapshot<Services<S, K>>,
-    // Whether one of them ended for want of memory.
+    // Whether one of its connections ended for want of memory.
     pub lacked: bool,
 }
 
@@ -40,8 +40,8 @@ fn has_lacked(lacked: bool, ending: Ending) -> bool
     lacks_memory(ending)
 }
 
-// Waits for the turn, and accepts the next connection, if one comes. The newest server waits first
-// until no other one does.
+// Waits for the turn, and accepts the next connection, if one comes. The newest server first waits
+// until no other one waits for the turn.
 pub(crate) fn accept_one<B: Serves, A: Passed, J: Begins<A::In, A::Out>, R: Wait>(
     rt: &R,
     way: &Way<A, J>,
@@ -111,7 +111,7 @@ fn serve_next<B: Serves + Send, A: Passed, G: Gate, R: Threads + Wait + Sync>(
     serve_one(rt, alloc, shared, gate, server, pass, ends);
 }
 
-// Serves connection after connection, until nobody more is accepted, or the server beside it is to
+// Serves connection after connection, until no more are accepted, or the server beside it is to
 // begin in this thread.
 pub(crate) fn serve_turns<
     B: Serves + Send,

@@ -56,7 +56,7 @@ fn part<B: Serves, A: Passed, J: Begins<A::In, A::Out>>(
     (given, pass)
 }
 
-// A server that served what both served.
+// Joins two servers into one that served what both served.
 fn join_servers<B: Serves, A: Passed, J: Begins<A::In, A::Out>>(
     shared: &Shared<B>,
     way: &Way<A, J>,
@@ -98,10 +98,10 @@ fn either(one: bool, other: bool) -> bool
     other
 }
 
-// The newest server, and up to so many more. It waits for the turn where no other one does. Once it
-// has accepted a connection, a further one is made. Where no thread can be made for that one, it
-// begins in this thread once some connections were served, and tries again. `last` is how this one
-// was made.
+// The newest server, and up to so many more. The newest one waits for the turn if no other one
+// does. Once it has accepted a connection, a further one is made. If no thread can be made for that
+// one, it begins in this thread once some connections were served, and tries again. `last` is how
+// this one was made.
 pub(crate) fn serve_as_needed<
     B: Serves + Send,
     A: Passed + Send,

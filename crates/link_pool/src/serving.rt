@@ -22,7 +22,7 @@ use std::snapshot::Snapshot;
 use std::sync::Wait;
 use std::thread::Threads;
 
-/// What comes of [`serve_all`].
+/// The result of [`serve_all`].
 pub struct ServedAll<B, S, K> {
     /// Whether as many connections were accepted as were asked for, or all that came.
     pub accepted: Result<(), AcceptError>,
@@ -36,7 +36,7 @@ pub struct ServedAll<B, S, K> {
     pub value: B,
 }
 
-// The turn, and what all servers know, once nobody more is accepted.
+// The turn, and what all servers know, once no more connections are accepted.
 #[derive(Drop)]
 struct Ended<B, A, S, K> {
     turn: Turn<A, S, K>,
@@ -45,7 +45,7 @@ struct Ended<B, A, S, K> {
     lacked: bool,
 }
 
-// What accepting came to.
+// Returns how accepting ended.
 fn outcome(stage: Stage) -> Result<(), AcceptError>
     ensures { result ≡ outcome_of stage }
 {
@@ -56,7 +56,7 @@ fn outcome(stage: Stage) -> Result<(), AcceptError>
     }
 }
 
-// Nobody was served, for want of memory.
+// The result if no connection was served, for want of memory.
 fn serve_nobody<B, S, K>(value: B) -> ServedAll<B, S, K>
     ensures accepted { result.accepted ≡ Err errors.Memory }
     ensures count { result.count ≡ 0 }
@@ -73,8 +73,8 @@ fn serve_nobody<B, S, K>(value: B) -> ServedAll<B, S, K>
     }
 }
 
-// Takes the turn from the way, once all servers have ended. Where more may be accepted it serves
-// that first.
+// Takes the turn from the way, once all servers have ended. If more connections may be accepted, it
+// serves them first.
 fn end_all<
     B: Serves + Send,
     A: Passed,
@@ -265,9 +265,9 @@ fn serve_legal<B: Serves + Send, A: Acceptor + Send, G: Gate, R: Threads + Wait 
 }
 
 /// Accepts so many connections, or as many as come, and serves each to its end. At most so many are
-/// served at once, each by a thread of its own that then goes on to the next one; further threads
-/// are made as they are needed. Where none can be made, those that there are serve all, and try
-/// again later. After a failure of the acceptor nobody more is accepted. It takes memory before the
+/// served at once, each by a thread of its own that then goes on to the next one. Further threads
+/// are made as they are needed. If no thread can be made, those that there are serve all, and try
+/// again later. After a failure of the acceptor no more are accepted. It takes memory before the
 /// first connection, and then only what a connection takes; nothing is kept of one that is over.
 pub fn serve_all<B: Serves + Send, A: Acceptor + Send, G: Gate, R: Threads + Wait + Sync>(
     rt: &R,
@@ -281,9 +281,9 @@ pub fn serve_all<B: Serves + Send, A: Acceptor + Send, G: Gate, R: Threads + Wai
     requires empty { B.history value ≡ [] }
     requires some { 0 < servers }
     requires few { servers ≤ 256 }
-    // The history is legal where it is told what it begins from. Each connection that was accepted
-    // was served once, has its commands in the history once and in order, and was written what they
-    // were told. The history has no other client, and all clients are closed.
+    // The history is legal, if it is known what it begins from. Each connection that was accepted
+    // was served once, and has its commands in the history, once and in order; the replies to them
+    // were written to it. The history has no other client, and all clients are closed.
     ensures { ServesLinks B.legal B.fixed B.wrong B.history A.coming A.faults
         A.In.left A.Out.written A.In.faults A.Out.faults connections
         value acceptor.old acceptor.new result }

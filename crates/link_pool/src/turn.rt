@@ -1,4 +1,4 @@
-//! The turn at an acceptor: who has it may accept the next connection.
+//! The turn at an acceptor: only the server that has it may accept the next connection.
 ghost use Rattle.std.specs.Prelude.{◌≡◌, ◌++◌, ◌∷◌, [], false, true, IfSome, IfNone};
 ghost use Rattle.link_pool.specs.Turns.{IsKept, is_over};
 
@@ -56,12 +56,12 @@ pub(crate) enum Stage {
     Going,
     /// As many were accepted as were asked for, or all that came.
     Over,
-    /// The acceptor failed, and nobody more is accepted.
+    /// The acceptor failed, and no more are accepted.
     Failed,
 }
 
 impl Stage {
-    /// Whether nobody more is accepted.
+    /// Whether no more are accepted.
     pub fn is_over(self) -> bool
         ensures { result ≡ is_over self }
     {
@@ -83,7 +83,7 @@ pub(crate) struct Turn<A, S, K> {
     pub accepted: Snapshot<Links<S, K>>,
 }
 
-/// Accepts the next connection, where one may still be accepted and one comes.
+/// Accepts the next connection, if one may still be accepted and one comes.
 pub(crate) fn accept_next<A: Passed, J: Begins<A::In, A::Out>>(
     turn: &mut Turn<A, A::In, A::Out>,
 ) -> Option<(A::In, A::Out)>

@@ -129,7 +129,7 @@ impl<A: Passed, J: Begins<A::In, A::Out>> Way<A, J> {
         ))
     }
 
-    // A hand that accepted what this one did, which has accepted nothing then.
+    // Splits off a hand that accepted what this one did. This one has accepted nothing then.
     pub fn split(&self, hand: &mut Hand<A, A::In, A::Out>) -> Hand<A, A::In, A::Out>
         requires way { IsSeatAt (sends_on self.now.sender) hand.old }
         requires parts { 1 < (view hand.old).parts }
@@ -141,7 +141,7 @@ impl<A: Passed, J: Begins<A::In, A::Out>> Way<A, J> {
         self.sender.another::<HandedOn>(hand)
     }
 
-    // The hand accepted what both did.
+    // Joins two hands: the hand accepted what both did then.
     pub fn join(&self, hand: &mut Hand<A, A::In, A::Out>, ended: Hand<A, A::In, A::Out>)
         requires way { IsSeatAt (sends_on self.now.sender) hand.old }
         requires ended { IsSeatAt (sends_on self.now.sender) ended }
@@ -196,7 +196,7 @@ impl<A: Passed, J: Begins<A::In, A::Out>> Way<A, J> {
         unreachable!()
     }
 
-    // Waits for the turn, and accepts the next connection, where one may still be accepted and one
+    // Waits for the turn, and accepts the next connection, if one may still be accepted and one
     // comes.
     pub fn next<R: Wait>(
         &self,

@@ -33,9 +33,9 @@ impl Model for MemoryAcceptor {
 }
 
 impl MemoryAcceptor {
-    /// An acceptor of these connections, each of which is handed out once, the first one first. It
-    /// fails at the calls, counted from 0, whose numbers are in `failing`, and at no other. The
-    /// call count stands still at the largest u64.
+    /// An acceptor of these connections. It hands out each once, the first one first. It fails at
+    /// the calls, counted from 0, whose numbers are in `failing`, and at no other. The call count
+    /// stands still at the largest u64.
     pub fn new(links: Vec<(MemorySource, MemorySink)>, failing: Vec<u64>) -> MemoryAcceptor
         ensures { result ≡ new_arrivals links.items failing.items }
     {

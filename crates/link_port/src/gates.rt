@@ -17,12 +17,12 @@ pub trait Gate: Sync {
         false
     }
 
-    /// The journal has no room for a command, whose client is told so next, or for a client. By
-    /// default nothing is done.
+    /// The journal has no room for a command, whose client gets that reply next, or for a client.
+    /// By default nothing is done.
     fn journal_full(&self) {}
 
-    /// The device gave a wrong answer, here or before: a command's client is told so next, a client
-    /// isn't opened, or one is closed. By default nothing is done.
+    /// The device gave a wrong answer, here or before: a command's client gets that reply next, a
+    /// client isn't opened, or one is closed. By default nothing is done.
     fn wrong_answer(&self) {}
 }
 

@@ -9,7 +9,7 @@ pub struct Failed;
 
 /// Where bytes come from: a script, or one end of a connection.
 pub trait Source {
-    /// The bytes that are still to come, where the source tells them.
+    /// The bytes that are still to come, if the source shows them.
     ghost left: { Self → Option (List ℕ) };
 
     /// How often it has failed. The count never falls, and stands still at the largest u64.
@@ -56,10 +56,10 @@ pub trait Source {
 
 /// Where bytes go to: the replies of a script, or one end of a connection.
 pub trait Sink {
-    /// The bytes that were written, where the sink tells them.
+    /// The bytes that were written, if the sink shows them.
     ghost written: { Self → Option (List ℕ) };
 
-    /// Whether its end was said, where the sink tells it.
+    /// Whether the sink was ended, if it shows that.
     ghost ended: { Self → Option Bool };
 
     /// How often it has failed. The count never falls, and stands still at the largest u64.
@@ -99,7 +99,7 @@ pub trait Acceptor {
     /// The end that its replies go to.
     type Out: Sink + Send + Drop;
 
-    /// The connections that are still to come, where the acceptor tells them.
+    /// The connections that are still to come, if the acceptor shows them.
     ghost coming: { Self → Option (List (Self.In × Self.Out)) };
 
     /// How often it has failed. The count never falls, and stands still at the largest u64.

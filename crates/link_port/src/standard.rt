@@ -9,8 +9,8 @@ use crate::{Failed, Sink, Source};
 use std::io::{Read, Write};
 use std::marker::Model;
 
-/// A source over a reader, as standard input. As a source it tells none of its bytes; to contracts
-/// it is the reader and its fault count. This project's own.
+/// A source over a reader, as standard input. As a source it shows none of its bytes; contracts see
+/// the reader and its fault count. This project's own.
 #[derive(Drop)]
 pub struct StdSource<R: Read + Drop> {
     reader: R,
@@ -69,8 +69,8 @@ impl<R: Read + Drop> Source for StdSource<R> {
     }
 }
 
-/// A sink over a writer, as standard output. As a sink it tells none of its bytes; to contracts it
-/// is the writer and its fault count. This project's own.
+/// A sink over a writer, as standard output. As a sink it shows none of its bytes; contracts see
+/// the writer and its fault count. This project's own.
 #[derive(Drop)]
 pub struct StdSink<W: Write + Drop> {
     writer: W,

@@ -110,7 +110,7 @@ impl<T> Records<T> {
         self.arena.ends.len()
     }
 
-    /// The index of the first record of a list; nothing where it is empty.
+    /// The index of the first record of a list; `None` if the list is empty.
     pub fn front(&self, list: u32) -> Option<u32>
         requires { list < length self.now.lists }
         ensures { result ≡ first_index (get_or self.now.lists list []) }
@@ -118,7 +118,7 @@ impl<T> Records<T> {
         self.arena.ends[list as usize].first
     }
 
-    /// The index of the record after one; nothing where it is the last of its list.
+    /// The index of the record after one; `None` if that one is the last of its list.
     pub fn next(&self, item: u32) -> Option<u32>
         requires { IsListed self.now.lists item }
         ensures { (at : IsListed self.now.lists item) → result ≡ first_index at.after }

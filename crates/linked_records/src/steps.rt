@@ -41,7 +41,7 @@ impl<L: Ledger> Steps<L> {
     }
 }
 
-/// What a call tells of each record that it visits.
+/// How a call visits records: with a count, or without.
 pub(crate) trait Visits {
     ghost count: { Self → ℕ };
 

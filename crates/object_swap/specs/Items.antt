@@ -19,8 +19,9 @@ pub record Item : Type 0 where
   pub slot : Option ℕ
   pub blob : Option (List ℕ)
 
--- what is seen of a swapper: its items, by index, how many slots its device has, the indices of the items in slots, the least
--- recently used first, whose each list is, if anybody's, the slots with objects of nobody, and what contexts it has room for
+-- what is seen of a swapper: its items, by index; how many slots its device has; the indices of the
+-- items in slots, the least recently used first; the owner of each list, if it has one; the slots
+-- of orphans; and what contexts it has room for
 pub record ObjectsView : Type 0 where
   pub items : List Item
   pub slots : ℕ
@@ -112,7 +113,7 @@ abbrev pub FindsFirst : ObjectsView → ℕ → Option ℕ → Type 0
 FindsFirst view list first = (client : ℕ) → owner_at view.owners list ≡ Some client
     → MatchOption first (HasNone view.items client) (λ index. Names view.items index × ((item_at view.items index).client ≡ Some client))
 
--- whether it is nobody's, and whether any list is
+-- whether there is no owner; and whether any list is free
 abbrev pub is_nobodys : Option ℕ → Bool
 is_nobodys owner = not (is_some owner)
 
@@ -124,7 +125,7 @@ has_free_list owners = list_any is_nobodys owners
 abbrev pub item_object : SlotState → Item → Option Object
 item_object slots item = object_at slots item.slot item.blob
 
--- the objects of all items; nothing where the device doesn't tell
+-- the objects of all items; `None` if the device doesn't show its state
 abbrev pub objects_of : Option SlotState → List Item → Option (List (Option Object))
 objects_of None items = None
 objects_of (Some slots) items = Some (map (λ item. item_object slots item) items)
@@ -137,7 +138,7 @@ abbrev pub rest_of : Option SlotState → Option SlotState
 rest_of None = None
 rest_of (Some slots) = Some (without_objects slots)
 
--- a resident of which no context is kept yet
+-- a resident whose context isn't kept yet
 abbrev pub is_unsaved : Item → Bool
 is_unsaved item = is_some item.slot && not (is_some item.blob)
 
@@ -185,7 +186,8 @@ taken slots slot = if is_some (get_or slots.slots slot None) then 1 else 0
 abbrev pub IsOwned : SlotState → List Item → List ℕ → Type 0
 IsOwned slots items others = (slot : ℕ) → naming items slot + count_by (λ other. other == slot) others ≡ taken slots slot
 
--- what holds of the items in the state of a device between the calls; the others are slots with objects of nobody
+-- what holds of the items in the state of a device between the calls; the others are slots with
+-- objects without an owner
 pub record ObjectsStand (slots : SlotState) (items : List Item) (others : List ℕ) : Type 0 where
   pub started : slots.started ≡ true
   pub sound : IsSlots slots
@@ -230,7 +232,8 @@ moves_of needed new_slots view =
 
 -- ---- what a call leaves
 
--- of the device: its base, whether it tells its state, and what isn't an object or the number of a context. That number never falls
+-- of the device: its base, whether it shows its state, and what isn't an object or the number of a
+-- context. That number never falls
 pub record KeepsRest {D : Type 0} (seen : D → Seen) (old new : D) : Type 0 where
   pub base_is : (seen new).base ≡ (seen old).base
   pub rest : rest_of (seen new).state ≡ rest_of (seen old).state
@@ -241,7 +244,7 @@ pub record KeepsRest {D : Type 0} (seen : D → Seen) (old new : D) : Type 0 whe
 abbrev pub KeepsContexts : List Item → List Item → Type 0
 KeepsContexts old new = (index : ℕ) (context : List ℕ) → (item_at old index).blob ≡ Some context → (item_at new index).blob ≡ Some context
 
--- every object stands as before, and whose it is
+-- every object stands as before, with the same owner
 pub record KeepsObjects (old_state new_state : Option SlotState) (old new : List Item) : Type 0 where
   pub objects : objects_of new_state new ≡ objects_of old_state old
   pub owners : owners new ≡ owners old
@@ -290,7 +293,7 @@ pub record MakesRoom {D : Type 0} (seen : D → Seen) (old new : D) (needed : Li
   pub listed : Lists new_view.order new_view.items
   pub counter : counter_of (seen new).state ≤ counter_of (seen old).state + length needed + new_slots
 
--- what moves leave, whether they failed or not: every object stands as before, and whose it is
+-- what moves leave, whether they failed or not: every object stands as before, with the same owner
 pub record Moved {D : Type 0} (seen : D → Seen) (old new : D) (old_view new_view : ObjectsView) : Type 0 where
   pub slots : new_view.slots ≡ old_view.slots
   pub owners : new_view.owners ≡ old_view.owners
@@ -332,7 +335,7 @@ abbrev pub OrphansObject : ℕ → ObjectsView → ObjectsView → Type 0
 OrphansObject index old new = (slot : ℕ) → (item_at old.items index).slot ≡ Some slot
     → new ≡ record old { items = set old.items index no_item; order = without_one index old.order; left = old.left ++ slot ∷ [] }
 
--- an object of nobody is gone, the last of them, and each other object stands as before
+-- an orphan is gone, the last of them, and each other object stands as before
 pub record LosesOrphan (old_state new_state : Option SlotState) (old new : ObjectsView) : Type 0 where
   pub slot : ℕ
   pub left : old.left ≡ new.left ++ slot ∷ []

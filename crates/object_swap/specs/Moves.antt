@@ -1,5 +1,5 @@
--- What the three commands that move objects do to the state of a device, where it tells it (Part 3, "TPM2_ContextSave",
--- "TPM2_FlushContext", "TPM2_ContextLoad").
+-- What the three commands that move objects do to the state of a device that shows it (Part 3,
+-- "TPM2_ContextSave", "TPM2_FlushContext", "TPM2_ContextLoad").
 use Rattle.std.specs.Prelude.{◌≡◌, ◌<◌, ℕ, ◌+◌, ◌-◌, min, ◌==◌, Bool, true, false, List, [], drop, get_or, set, take, length, ◌≤◌, Option, Some, None, is_some, IfSome, IsSomeAnd, Result, Ok, OnErr, OnOk}
 use Rattle.std.specs.List.{list_any, remove}
 use Rattle.tab_spec.specs.declared.TheConstants.{CONTEXT_LIMIT, HEADER_BYTES, TRANSIENT_FIRST}
@@ -41,7 +41,7 @@ pub record IsOut (slots : SlotState) (context : List ℕ) : Type 0 where
   pub room : list_any is_free slots.slots ≡ true
   pub there : is_some (object_at slots None (Some context)) ≡ true
 
--- what moves of objects keep, of a state and of the items: every object stands, and whose it is
+-- what moves of objects keep, of a state and of the items: every object stands, with the same owner
 pub record Keeps (old_state new_state : Option SlotState) (old new : List Item) (others : List ℕ) : Type 0 where
   pub rest : rest_of new_state ≡ rest_of old_state
   pub objects : KeepsObjects old_state new_state old new

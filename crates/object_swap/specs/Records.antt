@@ -45,13 +45,13 @@ residency records = map is_resident (items_of records)
 abbrev pub number : Bool → ℕ
 number flag = if flag then 1 else 0
 
--- what is seen of records, of the list of residents, of so many slots, of whose each list is, of the handles of what nobody has, and
--- of what contexts there is room for
+-- what is seen of records, of the list of residents, of so many slots, of the owner of each list,
+-- of the handles of the orphans, and of what contexts there is room for
 abbrev pub view_with : List Record → List ℕ → ℕ → List (Option ℕ) → List ℕ → ContextLimits → ObjectsView
 view_with records loaded slots owners left contexts =
     record { items = items_of records; slots = slots; order = loaded; owners = owners; left = map slot_of left; contexts = contexts }
 
--- the same where neither lists nor objects of nobody count, nor room
+-- the same if neither lists nor orphans count, nor room
 abbrev pub view_of : List Record → List ℕ → ℕ → ObjectsView
 view_of records loaded slots = view_with records loaded slots [] [] PROFILE_CONTEXTS
 
@@ -74,7 +74,7 @@ pub record OwnersView : Type 0 where
   pub owners : List (Option ℕ)
   pub spare : ℕ
 
--- a list of the lists that are nobody's, with room for the number of every list
+-- a list of the free lists, with room for the number of every list
 pub record ListsFree (owners : List (Option ℕ)) (free : List ℕ) (room : ℕ) : Type 0 where
   pub lists : ListsFlags (map is_nobodys owners) free
   pub most : length owners ≤ room
@@ -104,7 +104,7 @@ pub record AreThreaded (items : List Item) (lists : Threads) (owners : List (Opt
   pub owned : (index client : ℕ) → is_client client (item_at items index) ≡ true → has_list owners client ≡ true
   pub apart : (list other client : ℕ) → owner_at owners list ≡ Some client → owner_at owners other ≡ Some client → list ≡ other
 
--- an item is nowhere exactly where it is nobody's
+-- an item is vacant exactly if it has no client
 abbrev pub AreSomebodys : List Item → Type 0
 AreSomebodys items = (index : ℕ) → is_vacant (item_at items index) ≡ is_nobodys (item_at items index).client
 
@@ -127,8 +127,8 @@ pub record IsOwnedBy (items : List Item) (view : RecordsView (Unit {0})) (owners
 abbrev pub AreTransient : List ℕ → Type 0
 AreTransient handles = All (λ handle. (octet_of handle == HT_TRANSIENT) ≡ true) handles
 
--- what holds of the records, of the list of residents and of the handles of what nobody has, how many each of the two has room for, and
--- how many slots there are
+-- what holds of the records, of the list of residents and of the handles of the orphans, how many
+-- each of the two has room for, and how many slots there are
 pub record HoldsResidents (contexts : ContextLimits) (records : List Record) (loaded left : List ℕ) (loaded_room left_room slots : ℕ) : Type 0 where
   pub sound : AreRecords contexts records
   pub residents : ListsFlags (residency records) loaded

@@ -50,7 +50,7 @@ pub fn keep_context<D: Device>(
     Ok(())
 }
 
-/// Flushes an object of which a context is kept.
+/// Flushes an object whose context is kept.
 pub fn leave_slot<D: Device>(
     records: &mut [Record],
     index: usize,

@@ -4,8 +4,8 @@ ghost use Rattle.device_spec.specs.Slots.{SlotState};
 ghost use Rattle.object_swap.specs.Items.{Item, ObjectsStand, is_vacant, item_at};
 ghost use Rattle.object_swap.specs.Items.{item_object, new_item, no_item};
 
-/// An object in a slot that is nobody's yet may become an item, in the place of one that is
-/// nowhere. The objects of the other items stay, and that of the new one is what the slot holds.
+/// An object in a slot that has no owner yet may become an item, in place of a vacant one. The
+/// objects of the other items stay, and that of the new one is what the slot holds.
 pub fn adopted_objects_stand()
     ensures stand { (slots : SlotState) (items : List Item)
         (index client slot : ℕ) (others : List ℕ)
@@ -17,7 +17,7 @@ pub fn adopted_objects_stand()
         ≡ set (map (item_object slots) items) index (get_or slots.slots slot None) }
 {}
 
-/// An object that is left to nobody leaves its place, and its slot is that of nobody's object. The
+/// An object that becomes an orphan leaves its record, and its slot is an orphan's then. The
 /// objects of the other items stay.
 pub fn orphaned_objects_stand()
     ensures stand { (slots : SlotState) (items : List Item) (index slot : ℕ) (others : List ℕ)
@@ -27,7 +27,7 @@ pub fn orphaned_objects_stand()
     ensures objects { (slots : SlotState) (items : List Item) (index : ℕ)
         → map (item_object slots) (set items index no_item)
         ≡ set (map (item_object slots) items) index None }
-    // In which order those of nobody stand doesn't count.
+    // The order of the orphans' slots doesn't count.
     ensures last { (slots : SlotState) (items : List Item) (slot : ℕ) (others : List ℕ)
         → ObjectsStand slots items (slot ∷ others)
         → ObjectsStand slots items (others ++ slot ∷ []) }

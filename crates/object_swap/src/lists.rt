@@ -11,7 +11,7 @@ use crate::vacant::forget;
 use linked_records::{Records, Steps};
 use std::sync::ledger::Ledger;
 
-/// What a call tells of the records that it visits, those of objects and those of the lists.
+/// How a call visits records, those of objects and those of the lists: with a count, or without.
 pub trait Visits {
     ghost count: { Self → ℕ };
 
@@ -33,7 +33,7 @@ pub trait Visits {
             (λ item. count self.new ≡ count self.old + weight) }
         ensures few { count self.new ≤ count self.old + 1 };
 
-    /// One is taken out of its list.
+    /// Takes one out of its list.
     fn remove(&mut self, lists: &mut Records<()>, item: u32)
         requires { IsListed lists.old.lists item }
         ensures lists { (at : IsListed lists.old.lists item)
@@ -85,7 +85,7 @@ impl Visits for Uncounted {
     }
 }
 
-/// Takes an object out of the list of its client. Its record is a place for another one.
+/// Takes an object out of the list of its client. Its record is vacant then.
 pub fn release<C: Visits>(
     records: &mut Vec<Record>,
     lists: &mut Records<()>,

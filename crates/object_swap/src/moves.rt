@@ -56,7 +56,7 @@ pub fn flush<D: Device>(device: &mut D, handle: u32, scratch: &mut Buffer) -> Re
     ask(device, command.as_slice(), scratch)
 }
 
-/// Loads the object of a context (Part 3, "TPM2_ContextLoad"); its handle.
+/// Loads the object of a context, and returns its handle (Part 3, "TPM2_ContextLoad").
 pub fn load<D: Device>(
     device: &mut D,
     context: &[u8],

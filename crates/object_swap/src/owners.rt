@@ -1,4 +1,4 @@
-//! Whose each list of objects is.
+//! The owner of each list of objects.
 ghost use Rattle.std.specs.Prelude.{◌≡◌, ◌≤◌, ◌<◌, [], ◌∷◌, ◌++◌, length, set, Some, None};
 ghost use Rattle.std.specs.Prelude.{ℕ, false, MatchOption, OnErr, OnOk};
 ghost use Rattle.object_swap.specs.Items.{has_free_list, owner_at};
@@ -6,11 +6,11 @@ ghost use Rattle.object_swap.specs.Items.{has_free_list, owner_at};
 use std::alloc::{AllocError, Global};
 use std::marker::Model;
 
-/// Whose each list is, if anybody's. No call walks the lists.
+/// The owner of each list, if it has one. No call walks the lists.
 #[derive(Drop)]
 pub struct Owners {
     owners: Vec<Option<u32>>,
-    // The numbers of the lists that are nobody's, with room for the number of each list.
+    // The numbers of the free lists, with room for the number of each list.
     free: Vec<u32>,
 }
 
@@ -29,7 +29,7 @@ impl Model for Owners {
 }
 
 impl Owners {
-    /// No list. It takes no memory.
+    /// No lists yet. It takes no memory.
     pub fn new(alloc: Global) -> Owners
         ensures { result.owners ≡ [] }
     {
@@ -46,7 +46,7 @@ impl Owners {
         self.owners.len()
     }
 
-    /// Gives a client a list that is nobody's; nothing changes where there is none.
+    /// Gives a client a free list, and returns its number; nothing changes if no list is free.
     pub fn take_free(&mut self, client: u32) -> Option<u32>
         ensures { MatchOption result
             ((has_free_list self.old.owners ≡ false) × (self.new.owners ≡ self.old.owners))
@@ -58,8 +58,7 @@ impl Owners {
         Some(list)
     }
 
-    /// Takes memory for one more list, where it isn't there yet. It fails only where it has to take
-    /// some.
+    /// Takes memory for one more list, if there is none yet. It fails only if it has to take some.
     pub fn reserve(&mut self) -> Result<(), AllocError>
         ensures ok { OnOk result (1 ≤ self.new.spare) }
         ensures err { OnErr result (self.old.spare ≡ 0) }
@@ -69,7 +68,7 @@ impl Owners {
         self.free.reserve(self.owners.len() - self.free.len() + 1)
     }
 
-    /// One more list, which is this client's. It takes no memory.
+    /// Adds a list for this client. It takes no memory.
     pub fn push(&mut self, client: u32)
         requires { 1 ≤ self.old.spare }
         ensures { self.new.owners ≡ self.old.owners ++ Some client ∷ [] }
@@ -77,7 +76,7 @@ impl Owners {
         self.owners.push_reserved(Some(client));
     }
 
-    /// A list that was somebody's is nobody's. It takes no memory.
+    /// Frees a client's list. It takes no memory.
     pub fn end(&mut self, list: u32)
         requires { (client : ℕ) × (owner_at self.old.owners list ≡ Some client) }
         ensures { self.new.owners ≡ set self.old.owners list None }

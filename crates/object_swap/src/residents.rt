@@ -83,7 +83,7 @@ fn count_missing(records: &[Record], needed: &[u32]) -> usize
     count
 }
 
-// The object of a resident leaves its slot, and a context of it is kept.
+// Takes a resident out of its slot, and keeps a context of it.
 fn put_away<D: Device>(
     records: &mut [Record],
     loaded: &mut Vec<u32>,
@@ -109,8 +109,8 @@ fn put_away<D: Device>(
     Ok(())
 }
 
-// Residents that aren't needed leave their slots, the least recently used first, until no more
-// than so many are left.
+// Takes residents that aren't needed out of their slots, the least recently used first, until no
+// more than so many are left.
 fn clear_slots<D: Device>(
     records: &mut [Record],
     loaded: &mut Vec<u32>,
@@ -129,14 +129,14 @@ fn clear_slots<D: Device>(
     ensures asks { AsksSome D.CONTEXTS D.seen device.old device.new result }
 {
     while loaded.len() > most {
-        // What is needed alone would fit.
+        // One isn't needed: what is needed alone would fit.
         let at = unneeded(loaded, needed).unwrap();
         put_away(records, loaded, at, device, scratch)?;
     }
     Ok(())
 }
 
-// An object gets a slot, where it has none. It is the one that was used last then.
+// Brings an object into a slot, unless it is in one. It is the one that was used last then.
 fn make_resident<D: Device>(
     records: &mut [Record],
     loaded: &mut Vec<u32>,
@@ -164,7 +164,7 @@ fn make_resident<D: Device>(
     Ok(())
 }
 
-// Each object that is needed gets a slot.
+// Brings each object that is needed into a slot.
 fn fill_slots<D: Device>(
     records: &mut [Record],
     loaded: &mut Vec<u32>,
@@ -187,8 +187,8 @@ fn fill_slots<D: Device>(
     Ok(())
 }
 
-/// Each object that is needed gets a slot, and so many of the slots are free afterwards. For room
-/// alone others leave theirs, the least recently used first.
+/// Brings each object that is needed into a slot, and frees so many slots. Others leave theirs only
+/// to make room, the least recently used first.
 pub fn swap_objects<D: Device>(
     records: &mut [Record],
     loaded: &mut Vec<u32>,

@@ -28,22 +28,23 @@ use std::sync::ledger::Ledger;
 use tab_bytes::Buffer;
 use tab_spec::ContextLimits;
 
-/// The objects of all clients: more of them than the device has slots. Each stands in a slot, in a
-/// context that the device made of it, or in both. It is seen as its items, by index; an item that
-/// is nowhere is a place for another object. Each client has a list of its objects, and those of
-/// nobody are kept apart, by their slots alone.
+/// The objects of all clients: more of them than the device has slots. Each is in a slot, in a
+/// context that the device made of it, or in both. Contracts see the items, by index. A vacant item
+/// is in neither, and another object may take its place. Each client has a list of its objects. Of
+/// orphans only the slots are kept, apart from the items.
 #[derive(Drop)]
 pub struct Objects {
     alloc: Global,
     records: Vec<Record>,
-    // How many of the records are nowhere.
+    // How many of the records are vacant.
     vacant: u32,
-    // The indices of the records of each client, and whose each of these lists is, if anybody's.
+    // The indices of the records of each client, and the owner of each of these lists, if it has
+    // one.
     lists: Records<()>,
     owners: Owners,
     // The indices of the records that are in a slot, the least recently used first.
     loaded: Vec<u32>,
-    // The device's handles of the objects of nobody.
+    // The device's handles of the orphans.
     left: Vec<u32>,
     slots: u8,
     // What the contexts of the device may be. Each record has room for the largest of an object.
@@ -65,7 +66,7 @@ impl Model for Objects {
 }
 
 impl Objects {
-    /// No objects, for a device with so many slots, whose contexts may be these.
+    /// The objects of a device with so many slots, whose contexts may be these: none yet.
     pub fn new(alloc: Global, slots: u8, contexts: ContextLimits) -> Result<Objects, AllocError>
         ensures { IfOk result (λ o. o ≡ record {
           items = [];
@@ -91,8 +92,8 @@ impl Objects {
         })
     }
 
-    /// Gives a client a list for its objects: one that is nobody's, or one more. It takes memory
-    /// only where every list is somebody's, and fails only there: for want of memory, or where
+    /// Gives a client a list for its objects, a free one or a new one, and returns its number. Only
+    /// a new list takes memory. It fails only if no list is free, for want of memory or because
     /// there are 2,147,483,648 lists already. An error changes nothing.
     pub fn add_client(&mut self, client: u32) -> Result<u32, AllocError>
         requires new { has_list self.old.owners client ≡ false }
@@ -119,7 +120,7 @@ impl Objects {
         Ok(list)
     }
 
-    /// The client of a list is closed, and has no object left: its list is nobody's.
+    /// Frees the list of a client that is closed and has no object left.
     pub fn end_client(&mut self, list: u32)
         requires { (client : ℕ) × (owner_at self.old.owners list ≡ Some client)
             × HasNone self.old.items client }
@@ -128,9 +129,9 @@ impl Objects {
         self.owners.end(list);
     }
 
-    /// Takes memory for one more object, where it isn't there yet. It fails only for want of
-    /// memory, where no place is vacant, or where there are 2,147,483,648 places already. An error
-    /// changes nothing.
+    /// Takes memory for one more object, if there is none yet. It fails only if no place is vacant,
+    /// for want of memory or because there are 2,147,483,648 places already. An error changes
+    /// nothing.
     pub fn reserve(&mut self) -> Result<(), AllocError>
         ensures most { length self.old.items ≤ PLACES_MOST → length self.new.items ≤ PLACES_MOST }
         ensures ok { OnOk result (list_any is_vacant self.new.items ≡ true) }
@@ -161,11 +162,11 @@ impl Objects {
         Ok(())
     }
 
-    /// Sees to it that all of these objects are in slots, and that so many slots are free. Where
-    /// that is so already, nothing is sent. For room alone others leave their slots, the least
-    /// recently used first: each is saved, where no context of it is kept yet, and flushed. Then
-    /// what is needed is loaded (Part 3, "TPM2_ContextSave", "TPM2_FlushContext",
-    /// "TPM2_ContextLoad"), and counts as used. After an error the same objects stand.
+    /// Brings all of these objects into slots, and frees so many slots. If that is so already, it
+    /// sends nothing. Others leave their slots only to make room, the least recently used first:
+    /// each is saved, unless a context of it is kept, and flushed. Then what is needed is loaded
+    /// (Part 3, "TPM2_ContextSave", "TPM2_FlushContext", "TPM2_ContextLoad"), and counts as used.
+    /// After an error the same objects stand.
     pub fn make_objects<D: Device>(
         &mut self,
         device: &mut D,
@@ -197,7 +198,7 @@ impl Objects {
         )
     }
 
-    /// The device's handle of an object; nothing where it is in no slot.
+    /// The device's handle of an object; `None` if it is in no slot.
     pub fn slot_of(&self, item: u32) -> Option<u32>
         ensures { result ≡ handle_in (item_at self.now.items item).slot }
     {
@@ -208,8 +209,8 @@ impl Objects {
         self.records[index].handle
     }
 
-    /// Holds a new object, which is in the slot of this handle, for a client with this list; its
-    /// index. The object counts as used. It takes no memory.
+    /// Holds a new object, which is in the slot of this handle, for the client of this list, and
+    /// returns its index. The object counts as used. It takes no memory.
     pub fn adopt(&mut self, client: u32, list: u32, handle: u32) -> u32
         requires list { owner_at self.old.owners list ≡ Some client }
         requires room { list_any is_vacant self.old.items ≡ true }
@@ -231,7 +232,7 @@ impl Objects {
         item
     }
 
-    /// An object of the client of a list; nothing where it has none.
+    /// An object of the client of a list; `None` if it has none.
     pub fn first(&self, list: u32) -> Option<u32>
         requires { (client : ℕ) × (owner_at self.now.owners list ≡ Some client) }
         ensures { FindsFirst self.now list result }
@@ -239,7 +240,7 @@ impl Objects {
         self.first_by(list, &mut Uncounted)
     }
 
-    /// `first`, which visits the record that it names: one, or none where the client has none.
+    /// `first`, with a count of the records that it visits: one, or none if the client has none.
     pub fn first_counted<L: Ledger>(&self, list: u32, steps: &mut Steps<L>) -> Option<u32>
         requires { (client : ℕ) × (owner_at self.now.owners list ≡ Some client) }
         ensures first { FindsFirst self.now list result }
@@ -257,8 +258,8 @@ impl Objects {
         any_keeps(&self.records, context)
     }
 
-    /// Forgets an object, and flushes it where it is in a slot (Part 3, "TPM2_FlushContext"). Else
-    /// nothing is sent. An error changes nothing.
+    /// Forgets an object. If the object is in a slot, it is flushed (Part 3, "TPM2_FlushContext");
+    /// if not, nothing is sent. An error changes nothing.
     pub fn drop_object<D: Device>(
         &mut self,
         device: &mut D,
@@ -295,7 +296,7 @@ impl Objects {
         self.drop_by(device, item, scratch, steps)
     }
 
-    /// Leaves an object to nobody: its client is closed, and its flush failed. Its record is free.
+    /// Makes an object an orphan: its client is closed, and its flush failed. Its record is free.
     pub fn orphan_object(&mut self, item: u32)
         requires named { Names self.old.items item }
         requires slot { is_resident (item_at self.old.items item) ≡ true }
@@ -314,7 +315,7 @@ impl Objects {
         self.orphan_by(item, steps);
     }
 
-    /// How many objects of nobody are in slots.
+    /// How many orphans are in slots.
     pub fn orphans(&self) -> u8
         ensures { result ≡ length self.now.left }
     {
@@ -324,7 +325,7 @@ impl Objects {
         count as u8
     }
 
-    /// A place that is no client's is nowhere: a law, which does nothing when it runs.
+    /// A law: a place without a client is vacant. It does nothing when it runs.
     pub fn show_vacant(&self)
         ensures { (index : ℕ) → (item_at self.now.items index).client ≡ None
             → is_vacant (item_at self.now.items index) ≡ true }
@@ -332,8 +333,8 @@ impl Objects {
         let _slots = self.slots;
     }
 
-    /// Flushes one object of nobody, where there is one (Part 3, "TPM2_FlushContext"); whether
-    /// there was. Else nothing is sent. An error changes nothing.
+    /// Flushes one orphan, if there is one (Part 3, "TPM2_FlushContext"), and returns whether there
+    /// was. If there is none, nothing is sent. An error changes nothing.
     pub fn flush_orphan<D: Device>(
         &mut self,
         device: &mut D,
@@ -347,7 +348,7 @@ impl Objects {
         ensures err { OnErr result ((self.new ≡ self.old)
             × ((D.seen device.new).state ≡ (D.seen device.old).state)) }
         ensures some { OnErr result (1 ≤ length self.old.left) }
-        // Exactly one FlushContext is sent, of the handle of the last of them.
+        // If there are orphans, exactly one FlushContext is sent, of the handle of the last one.
         ensures sent { (left : List ℕ) (slot : ℕ) → self.old.left ≡ left ++ slot ∷ []
             → Asks D.CONTEXTS D.seen device.old device.new
             (flush_context_command (TRANSIENT_FIRST + slot)) result }
@@ -364,7 +365,7 @@ impl Objects {
 }
 
 impl Objects {
-    /// `first`, which tells what it visits.
+    /// `first`, which counts in `steps` the records that it visits.
     pub fn first_by<C: Visits>(&self, list: u32, steps: &mut C) -> Option<u32>
         requires { (client : ℕ) × (owner_at self.now.owners list ≡ Some client) }
         ensures first { FindsFirst self.now list result }
@@ -375,7 +376,7 @@ impl Objects {
         steps.first(&self.lists, list)
     }
 
-    /// `drop_object`, which tells what it visits.
+    /// `drop_object`, which counts in `steps` the records that it visits.
     pub fn drop_by<D: Device, C: Visits>(
         &mut self,
         device: &mut D,
@@ -415,7 +416,7 @@ impl Objects {
         Ok(())
     }
 
-    /// `orphan_object`, which tells what it visits.
+    /// `orphan_object`, which counts in `steps` the records that it visits.
     pub fn orphan_by<C: Visits>(&mut self, item: u32, steps: &mut C)
         requires named { Names self.old.items item }
         requires slot { is_resident (item_at self.old.items item) ≡ true }

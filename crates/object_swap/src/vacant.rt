@@ -23,7 +23,7 @@ fn place_of(indices: &[u32], index: u32) -> usize
     0
 }
 
-/// An index becomes the last of a list.
+/// Adds an index at the end of a list.
 pub fn list_last(indices: &mut Vec<u32>, index: u32)
     requires { length indices.old.items < vec_capacity indices.old }
     ensures last { indices.new.items ≡ indices.old.items ++ index ∷ [] }
@@ -44,7 +44,7 @@ pub fn unlist(indices: &mut Vec<u32>, index: u32)
     indices.remove(at);
 }
 
-/// An index of a list goes to its end.
+/// Moves an index of a list to its end.
 pub fn move_last(indices: &mut Vec<u32>, index: u32)
     requires { 1 ≤ count_by (λ one. one == index) indices.old.items }
     ensures listed { (flags : List Bool) → ListsFlags flags indices.old.items
@@ -57,7 +57,7 @@ pub fn move_last(indices: &mut Vec<u32>, index: u32)
     list_last(indices, index);
 }
 
-/// What was an object becomes a place for another one.
+/// Makes the record of an object vacant, for another one.
 pub fn forget(records: &mut Vec<Record>, item: u32)
     requires named { Names (items_of records.old.items) item }
     ensures items { items_of records.new.items ≡ set (items_of records.old.items) item no_item }

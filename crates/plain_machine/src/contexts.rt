@@ -259,7 +259,7 @@ fn load_session(client: u32, shared: &mut Shared, handle: u32, params: &[u8], re
     tell_handle(handle, reply);
 }
 
-// The response that tells a handle.
+// Writes the response that has a handle.
 fn tell_handle(handle: u32, reply: &mut Buffer)
     ensures { reply.new ≡ response ST_NO_SESSIONS RC_SUCCESS (to_be_bytes w32 handle) }
 {

@@ -160,7 +160,7 @@ fn run_effect(
 }
 
 // An object that a command made gets the least number that is free, and a session the one that is
-// picked. The response tells the handle.
+// picked. The response has the handle.
 fn put_made(
     client: u32,
     shared: &mut Shared,

@@ -19,9 +19,9 @@ use tab_wire::octet_of;
 // The context of a session, which has no more bytes.
 pub(crate) type SessionContext = SmallBytes<128>;
 
-// A session: whose it is, nobody's where its client left it; the first octet of its handle; what a
-// device has of it; and where a client saved it the context that was handed out for it. A session
-// without one is in use.
+// A session: its client, none once that client left it; the first octet of its handle; what a
+// device has of it; and, if a client saved it, the context that was handed out for it. A session
+// without such a context is in use.
 #[derive(Drop)]
 pub(crate) struct Owned {
     client: Option<u32>,

@@ -24,7 +24,7 @@ use tab_wire::size_of;
 /// takes time by the logarithm of the number of those that are open.
 #[derive(Drop)]
 pub struct Labels {
-    // By client; nothing where the label was closed.
+    // By client; `None` if the label was closed.
     items: Vec<Option<Label>>,
     // No label before this client is open.
     first: usize,
@@ -129,8 +129,8 @@ impl Labels {
     }
 
     /// Up to which number an open label's commands are canceled by the cancels that the piece
-    /// completes: the number of its commands before the last of them, if there is one. The label
-    /// doesn't change. What `ahead` and `frame` hold afterwards isn't told.
+    /// completes: the number of its commands before the last cancel, if there is one. The label
+    /// doesn't change. What `ahead` and `frame` hold afterwards isn't said.
     pub fn canceled_up_to(
         &self,
         label: u32,
@@ -169,7 +169,8 @@ impl Labels {
         client
     }
 
-    /// Closes the open label that was opened first. Its client, or nothing where none is open.
+    /// Closes the open label that was opened first, and returns its client; `None` if no label is
+    /// open.
     pub fn close_first(&mut self) -> Option<u32>
         ensures { MatchOption result ((self.old.present ≡ []) × (self.new ≡ self.old))
             (λ client. (x : Label) × (xs : List Label) × (self.old.present ≡ x ∷ xs)

@@ -34,8 +34,8 @@ use tab_frame::{Frame, Framer};
 use tab_spec::RC_COMMAND_SIZE;
 use tab_wire::error_reply;
 
-// The number by which a command is canceled, where commands are canceled up to one that isn't below
-// its own.
+// The number up to which commands are canceled, if it covers this command: if it isn't below the
+// command's own.
 fn cover(upto: Option<u64>, number: u64) -> Option<u64>
     ensures { result ≡ cover upto number }
 {
@@ -54,13 +54,13 @@ struct Player<B: Runs> {
     reply: Buffer,
     // The line of a reply.
     line: Vec<u8>,
-    // What is looked ahead at of a label's stream.
+    // The framer that looks ahead in a label's stream.
     ahead: Framer,
     ghost wide: { 8204 ≤ vec_capacity line },
 }
 
 impl<B: Runs> Player<B> {
-    // Opens a label where it isn't open.
+    // Opens a label, unless it is open.
     fn open_label(&mut self, alloc: Global, label: u32) -> Result<(), Stop>
         requires ready { MayRun self.old.labels (B.history self.old.value)
             (B.wrong self.old.value) }
@@ -114,7 +114,7 @@ impl<B: Runs> Player<B> {
         Ok(())
     }
 
-    // Answers the present frame as this command of an open client: runs it, or tells that it is
+    // Answers the current frame as this command of an open client: runs it, or answers that it is
     // canceled up to a number.
     fn answer(&mut self, client: u32, number: u64, covered: Option<u64>) -> Told
         requires present { IsOpen (B.history self.old.value) client }
@@ -136,8 +136,8 @@ impl<B: Runs> Player<B> {
         self.value.cancel(client, number, self.frame.as_slice(), upto, &mut self.reply)
     }
 
-    // Answers the present frame as the next command of an open label, and writes the reply.
-    // Commands up to this number are canceled, where there is one.
+    // Answers the current frame as the next command of an open label, and writes the reply.
+    // Commands up to `upto` are canceled, if there is such a number.
     fn run<O: Sink>(&mut self, label: u32, upto: Option<u64>, output: &mut O) -> Result<(), Stop>
         requires ready { MayRun self.old.labels (B.history self.old.value)
             (B.wrong self.old.value) }
@@ -170,8 +170,8 @@ impl<B: Runs> Player<B> {
         after_told(told)
     }
 
-    // Closes an open label and its client. An error is a wrong answer to that: they are closed then
-    // too.
+    // Closes an open label and its client. An error is a wrong answer of the device; both are
+    // closed even then.
     fn close_label(&mut self, label: u32) -> Result<(), Stop>
         requires fits { Fits self.old.labels (B.history self.old.value) }
         requires is_open { IsSome (label_in self.old.labels.present label) }
@@ -190,7 +190,7 @@ impl<B: Runs> Player<B> {
         after_closed(self.value.close_client(client))
     }
 
-    // Tells an open label of a bad size, and closes it.
+    // Answers a bad size on an open label, and closes the label.
     fn end_label<O: Sink>(&mut self, label: u32, output: &mut O) -> Result<(), Stop>
         requires ready { MayRun self.old.labels (B.history self.old.value)
             (B.wrong self.old.value) }
@@ -260,7 +260,7 @@ impl<B: Runs> Player<B> {
         }
     }
 
-    // Plays one line, its newline left out, behind so many others.
+    // Plays one line, without its newline, after so many others.
     fn play_line<O: Sink>(
         &mut self,
         alloc: Global,
@@ -360,17 +360,17 @@ impl<B: Runs> Player<B> {
     }
 }
 
-/// A script that was played, its clients closed.
+/// The result of a script that was played. Its clients are closed.
 pub struct PlayedScript<B: Runs> {
     /// Why no more of it was played. A wrong answer may have come in the closes afterwards, too.
     pub stop: Stop,
     pub value: B,
 }
 
-/// Plays the lines of an input over a value that has opened nobody, up to a reason to stop, and
-/// closes all clients, in the order of opening. Each line is a label, a space, and hexadecimal
-/// digits, a piece of that label's stream of commands, or the word `close`. A label that isn't open
-/// opens a client, and each reply is written as a line.
+/// Plays the lines of an input over a value that has opened no client yet, up to a reason to stop,
+/// and then closes all clients, in the order of opening. Each line is a label, a space, and
+/// hexadecimal digits, a piece of that label's stream of commands, or the word `close`. A label
+/// that isn't open opens a client, and each reply is written as a line.
 pub fn play_script<B: Runs, I: Source, O: Sink>(
     alloc: Global,
     room: Room,
@@ -380,7 +380,7 @@ pub fn play_script<B: Runs, I: Source, O: Sink>(
 ) -> PlayedScript<B>
     requires empty { B.history value ≡ [] }
     requires sound { B.wrong value ≡ false }
-    // Why no more was played, and what is left by it.
+    // Why no more was played, and what the run leaves then.
     ensures leaves { LeavesBy result.stop (limits_of (B.fixed value)) (B.wrong result.value)
         (I.left input.old) (I.left input.new) (O.written output.old) (O.written output.new)
         (B.history result.value) }

@@ -19,7 +19,7 @@ pub struct Room {
     pub(crate) reply: Buffer,
     // The line of a reply.
     pub(crate) line: Vec<u8>,
-    // What is looked ahead at of a label's stream.
+    // The framer that looks ahead in a label's stream.
     pub(crate) ahead: Framer,
     ghost fresh: { lines ≡ record { pending = []; room = 1073741824 } },
     ghost long: { 16384 ≤ vec_capacity text },

@@ -9,8 +9,7 @@ use broker_lock::{Closed, OpenClientError, Recorded, Told};
 use tab_bytes::Buffer;
 
 /// A value with a history that runs the calls of a script. Its calls do what those of
-/// [`broker_lock::Serves`] do. After a wrong answer of the device it is asked for nothing but
-/// closes.
+/// [`broker_lock::Serves`] do. After a wrong answer of the device only closes are called.
 pub trait Runs: Recorded {
     /// Opens the next client. An error enters nothing.
     fn open_client(&mut self) -> Result<u32, OpenClientError>
@@ -21,9 +20,9 @@ pub trait Runs: Recorded {
         ensures sound { (result ≡ Err open_errors.Answer → ⊥) × (Self.wrong self.new ≡ false) }
         ensures fixed { Self.fixed self.new ≡ Self.fixed self.old };
 
-    /// Runs an open client's command, and writes what the client is told over whatever `reply`
-    /// holds. The number is above those of the client's earlier commands, from 1 on. A command that
-    /// isn't `Told::Entered` enters nothing.
+    /// Runs an open client's command, and overwrites `reply` with the reply to it. The number is
+    /// above those of the client's earlier commands, from 1 on. A command whose result isn't
+    /// `Told::Entered` enters nothing.
     fn command(&mut self, client: u32, number: u64, bytes: &[u8], reply: &mut Buffer) -> Told
         requires present { IsOpen (Self.history self.old) client }
         requires number { IsNextNumber (Self.history self.old) client number }

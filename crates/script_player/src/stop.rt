@@ -13,10 +13,10 @@ pub enum Stop {
     End,
     /// The number of a bad line, from 1.
     BadLine(u64),
-    /// Memory lacked where a label was to be opened.
+    /// There was no memory to open a label.
     Memory,
-    /// The journal had no room for another client where a label was to be opened; the bytes that it
-    /// keeps.
+    /// The journal had no room for another client when a label was to be opened. The value is the
+    /// number of bytes that the journal keeps.
     Full(u64),
     /// The output failed; its fault count.
     Output(u64),
@@ -26,7 +26,7 @@ pub enum Stop {
     Answer,
 }
 
-// Why a label wasn't opened, where no client was.
+// The stop for a client that couldn't be opened.
 pub(crate) fn unopened(error: OpenClientError) -> Stop
     ensures { result ≡ stop_unopened error }
 {
@@ -36,7 +36,7 @@ pub(crate) fn unopened(error: OpenClientError) -> Stop
     }
 }
 
-// Whether more is played after a command that was told so: not after a wrong answer.
+// Goes on after a command, but not after a wrong answer.
 pub(crate) fn after_told(told: Told) -> Result<(), Stop>
     ensures ok { OnOk result (told ≡ tolds.Answer → ⊥) }
     ensures err { IfErr result (λ stop. (stop ≡ stops.Answer) × (told ≡ tolds.Answer)) }
@@ -49,7 +49,7 @@ pub(crate) fn after_told(told: Told) -> Result<(), Stop>
     }
 }
 
-// The same after a close.
+// Goes on after a close, but not after a wrong answer.
 pub(crate) fn after_closed(closed: Closed) -> Result<(), Stop>
     ensures ok { OnOk result (closed ≡ closes.Answer → ⊥) }
     ensures err { IfErr result (λ stop. (stop ≡ stops.Answer) × (closed ≡ closes.Answer)) }

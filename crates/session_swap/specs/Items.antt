@@ -74,7 +74,7 @@ loaded_items items = count_by is_loaded_item items
 abbrev pub new_item : ℕ → ℕ → Item
 new_item client handle = record { client = Some client; handle = handle; saved = None; handed = None }
 
--- the same session as an orphan: nobody's, and only still to be flushed
+-- the same session as an orphan: without a client, and only still to be flushed
 abbrev pub disowned : Option Item → Option Item
 disowned None = None
 disowned (Some item) = Some (record item { client = None; handed = None })
@@ -89,7 +89,8 @@ abbrev pub left_behind : Option Item → Option Item
 left_behind None = None
 left_behind (Some item) = Some (record item { client = None })
 
--- a session that a client saved and left: nobody's, but whoever gives back the context that was handed out gets it
+-- a session that a client saved and left: it has no client, and whoever gives back the context that
+-- was handed out gets it
 abbrev pub is_left : Option Item → Bool
 is_left None = false
 is_left (Some item) = not (is_some item.client) && is_some item.handed
@@ -107,7 +108,7 @@ with_handle handle (Some item) = if item.handle == handle then Some item else No
 abbrev pub item_of : List (Option Item) → ℕ → Option Item
 item_of items handle = with_handle handle (item_at items (number_of_session handle))
 
--- whose it is, and whether it is in use: its client didn't save it
+-- its client, and whether it is in use: its client didn't save it
 abbrev pub owner_by : Bool → Option ℕ → Option (ℕ × Bool)
 owner_by used None = None
 owner_by used (Some client) = Some (client, used)
@@ -312,7 +313,7 @@ abbrev pub item_session : SlotState → Option Item → Option Session
 item_session slots None = None
 item_session slots (Some item) = session_at slots item.handle (context_of item.saved)
 
--- the sessions of all items; nothing where the device doesn't tell
+-- the sessions of all items; `None` if the device doesn't show its state
 abbrev pub sessions_of : Option SlotState → List (Option Item) → Option (List (Option Session))
 sessions_of None items = None
 sessions_of (Some slots) items = Some (map (λ item. item_session slots item) items)
@@ -360,7 +361,8 @@ IsOwned slots items others =
     (number : ℕ) → flag (is_some (item_at items number)) + count_by (λ other. other == number) others
     ≡ flag (is_active (place_at slots number))
 
--- what holds of the sessions in the state of a device between the calls; the others are active numbers of nobody
+-- what holds of the sessions in the state of a device between the calls; the others are active
+-- numbers without an owner
 pub record SessionsStand (slots : SlotState) (view : SessionsView) (others : List ℕ) : Type 0 where
   pub started : slots.started ≡ true
   pub sound : IsSlots slots
@@ -420,8 +422,8 @@ pub record IsSentOut (asked : List ℕ) (last : Option (List ℕ)) (item : Item)
 
 -- ---- what a call leaves
 
--- of the device: its base, whether it tells its state, and what is neither a session nor the number of its next context. That number
--- never falls
+-- of the device: its base, whether it shows its state, and what is neither a session nor the number
+-- of its next context. That number never falls
 pub record KeepsRest {D : Type 0} (seen : D → Seen) (old new : D) : Type 0 where
   pub base_is : (seen new).base ≡ (seen old).base
   pub rest : rest_of (seen new).state ≡ rest_of (seen old).state
@@ -442,20 +444,20 @@ pub record SavesForClient (contexts : ContextLimits) (last : Option (List ℕ)) 
     saved = old.saved ++ number_of_session handle ∷ [];
   }
 
--- and over a device that tells its state: the reply hands out the context which the device makes of this session, under the number
--- that came next. That number rises by one
+-- and over a device that shows its state: the reply hands out the context which the device makes of
+-- this session, under the number that came next. That number rises by one
 pub record SavesTold (state new_state : Option SlotState) (reply : List ℕ) (handle : ℕ) (items : List (Option Item)) : Type 0 where
   pub context : IfSome state (λ slots. HandsOut slots handle (item_session slots (item_of items handle)) reply)
   pub number : IfSome state (λ slots. context_number (drop HEADER_BYTES reply) ≡ slots.counter)
   pub exact : IfSome new_state (λ slots. slots.counter ≡ counter_of state + 1)
 
--- every session stands as before, and whose it is, and what was handed out for it
+-- every session stands as before, with the same owner and the same context handed out
 pub record KeepsSessions (old_state new_state : Option SlotState) (old new : List (Option Item)) : Type 0 where
   pub sessions : sessions_of new_state new ≡ sessions_of old_state old
   pub holders : holders new ≡ holders old
 
--- every session stands as before, and whose it is, and which ones were left; the device keeps what is neither a session nor the
--- number of its next context
+-- every session stands as before, with the same owner, and the same ones were left; the device
+-- keeps what is neither a session nor the number of its next context
 pub record Moved {D : Type 0} (seen : D → Seen) (old new : D) (view new_view : SessionsView) : Type 0 where
   pub numbers : new_view.numbers ≡ view.numbers
   pub left : new_view.left ≡ view.left
@@ -464,8 +466,8 @@ pub record Moved {D : Type 0} (seen : D → Seen) (old new : D) (view new_view :
   pub stand : Stand (seen new).state new_view []
   pub rest : KeepsRest seen old new
 
--- sessions still stand, whichever active numbers are nobody's; the device keeps what is neither a session nor the number of its
--- next context
+-- sessions still stand, whichever active numbers have no owner; the device keeps what is neither a
+-- session nor the number of its next context
 pub record StillStand {D : Type 0} (seen : D → Seen) (old new : D) (view new_view : SessionsView) : Type 0 where
   pub stand : (others : List ℕ) → Stand (seen old).state view others → Stand (seen new).state new_view others
   pub rest : KeepsRest seen old new

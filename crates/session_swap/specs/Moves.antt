@@ -1,5 +1,5 @@
--- What the three commands that move sessions do to the state of a device, where it tells it (Part 3, "TPM2_ContextSave",
--- "TPM2_ContextLoad", "TPM2_FlushContext").
+-- What the three commands that move sessions do to the state of a device that shows it (Part 3,
+-- "TPM2_ContextSave", "TPM2_ContextLoad", "TPM2_FlushContext").
 use Rattle.std.specs.Prelude.{◌≡◌, ◌<◌, ◌≤◌, ℕ, ◌+◌, ◌-◌, min, ◌==◌, Bool, true, false, List, [], length, map, set, get_or, Option, Some, None, is_some, IfSome, IsSomeAnd, Result, Ok, OnErr, OnOk, drop, take}
 use Rattle.tab_spec.specs.declared.TheConstants.{CONTEXT_LIMIT, HEADER_BYTES}
 use Rattle.tab_spec.specs.declared.numbers.Numbers.{Numbers}
@@ -86,13 +86,13 @@ HasPlace state = IfSome state (λ slots. loaded_count slots.sessions < slots.num
 
 -- ---- what moves keep
 
--- records that moves may begin with, where these active numbers of the device are nobody's
+-- records that moves may begin with, if these active numbers of the device have no owner
 pub record Ready (contexts : ContextLimits) (state : Option SlotState) (numbers : Numbers) (records : List Record) (next : ℕ) (others : List ℕ) : Type 0 where
   pub sound : AreRecords contexts records
   pub stand : Stand state (view_of numbers records next) others
 
--- what moves of sessions keep, of a device and of the records: every session stands, and whose it is. The gap grows by no more
--- than the number of the next context
+-- what moves of sessions keep, of a device and of the records: every session stands, with the same
+-- owner. The gap grows by no more than the number of the next context
 pub record Swaps {D : Type 0} (seen : D → Seen) (old new : D)
     (records new_records : List Record) : Type 0 where
   pub rest : rest_of (seen new).state ≡ rest_of (seen old).state
@@ -170,7 +170,7 @@ pub record KeepsSaved (state : Option SlotState) (items new_items : List (Option
   pub fresh : (number last : ℕ) → number_of_item (item_at new_items number) ≡ Some last → last < counter_of state
       → number_of_item (item_at items number) ≡ Some last
 
--- the saved session of this number has the oldest context, where the device tells
+-- the saved session of this number has the oldest context, if the device shows its state
 pub record IsOldestAt (state : Option SlotState) (items : List (Option Item)) (number : ℕ) : Type 0 where
   pub saved : is_saved_item (item_at items number) ≡ true
   pub oldest : IfSome state (λ slots. number_of_item (item_at items number) ≡ oldest_number items)
@@ -219,7 +219,7 @@ AllNeeded items numbers needed count = (k : ℕ) → k < count → is_among need
 abbrev pub loadedness : List Record → List Bool
 loadedness records = map is_loaded_item (items_of records)
 
--- along the saved sessions the numbers of their contexts rise, where the device tells
+-- along the saved sessions the numbers of their contexts rise, if the device shows its state
 abbrev pub RiseIn : Option SlotState → List (Option Item) → List ℕ → Type 0
 RiseIn state items numbers = IfSome state (λ slots. Rise (numbers_along items numbers))
 

@@ -8,10 +8,10 @@ use linked_records::Steps;
 use std::sync::ledger::Ledger;
 use tab_bytes::Buffer;
 
-/// Renews contexts in the order in which they were saved, until the next number is less than the
-/// device's gap, less eight, above that of the first: so three sessions can be saved for the next
-/// command before the gap is met. It returns how many were renewed: no more than were saved
-/// before. Where the gap is small enough already, nothing is sent. After an error the same
+/// Renews contexts in the order in which they were saved, until the number of the next context is
+/// above that of the first by less than the device's gap less eight. So three sessions can be saved
+/// for the next command before the gap is met. It returns how many were renewed, no more than were
+/// saved before. If the gap is small enough already, it sends nothing. After an error the same
 /// sessions stand, and another try may follow.
 pub fn refresh<D: Device>(
     sessions: &mut Sessions,

@@ -49,7 +49,8 @@ impl Record {
         }
     }
 
-    /// Whose its session is, and whether it is in use; nothing where no client has it.
+    /// The client that has its session, and whether the session is in use; `None` if no client has
+    /// it.
     pub fn owner(&self) -> Option<(u32, bool)>
         ensures { result ≡ owner_of_item (item_of_record self.now) }
     {
@@ -104,7 +105,7 @@ impl Record {
         !self.in_use && context == self.handed.as_slice()
     }
 
-    /// Its client saved its session: the context that is kept was handed out.
+    /// Marks its session as saved by its client: the kept context was handed out.
     pub fn hand_out(&mut self)
         requires { length self.old.context.items ≤ vec_capacity self.old.handed }
         ensures handed { self.new.handed.items ≡ self.old.context.items }
@@ -116,7 +117,7 @@ impl Record {
         self.handed.extend_from_slice(&self.context).unwrap();
     }
 
-    /// The number of its context, where it is saved.
+    /// The number of its session's context, if the session is saved.
     pub fn saved_number(&self) -> Option<u64>
         ensures { result ≡ number_of_item (item_of_record self.now) }
     {
@@ -127,7 +128,7 @@ impl Record {
     }
 }
 
-/// The records of no sessions, with the memory of all 64 numbers, for such contexts.
+/// The records of all 64 session numbers, without sessions, and with memory for such contexts.
 pub fn unused_records(alloc: Global, contexts: ContextLimits) -> Result<Vec<Record>, AllocError>
     ensures sound { IfOk result (λ records. AreRecords contexts records.items) }
     ensures none { IfOk result (λ records. items_of records.items ≡ no_items) }
@@ -150,7 +151,8 @@ pub fn unused_records(alloc: Global, contexts: ContextLimits) -> Result<Vec<Reco
     Ok(records)
 }
 
-/// Whose the session of a handle is, and whether it is in use; nothing where no client has it.
+/// The client that has the session of a handle, and whether the session is in use; `None` if no
+/// client has it.
 pub fn owner_of(records: &[Record], handle: u32) -> Option<(u32, bool)>
     ensures { result ≡ owner_in (items_of records.now) handle }
 {
@@ -171,7 +173,7 @@ pub fn has_number(records: &[Record], handle: u32) -> bool
     }
 }
 
-/// The handle of the session of this client that has the least number; nothing where it has none.
+/// The handle of the session of this client that has the least number; `None` if it has none.
 pub fn find_owned(records: &[Record], client: u32) -> Option<u32>
     requires { (contexts : ContextLimits) × AreRecords contexts records.now }
     ensures { MatchOption result (list_any (is_owned client) (items_of records.now) ≡ false)
@@ -188,7 +190,7 @@ pub fn find_owned(records: &[Record], client: u32) -> Option<u32>
     None
 }
 
-/// The handle of an orphan; nothing where there is none.
+/// The handle of an orphan; `None` if there is none.
 pub fn find_orphan(records: &[Record]) -> Option<u32>
     requires { (contexts : ContextLimits) × AreRecords contexts records.now }
     ensures { MatchOption result (list_any is_orphan (items_of records.now) ≡ false)
@@ -213,8 +215,8 @@ fn saved_handle(context: &[u8]) -> Option<u32>
     Some(u32::from_be_bytes([context[8], context[9], context[10], context[11]]))
 }
 
-/// The handle of the session for which these bytes were handed out, where it is this client's or
-/// was left; nothing where there is none.
+/// The handle of the session for which these bytes were handed out, if it is this client's or was
+/// left; `None` if there is none.
 pub fn find_handed(records: &[Record], client: u32, context: &[u8]) -> Option<u32>
     ensures { MatchOption result (may_take_back (items_of records.now) client context.now ≡ false)
         (λ handle. (word_at 8 context.now ≡ Some handle)

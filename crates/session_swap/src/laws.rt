@@ -8,8 +8,9 @@ ghost use Rattle.session_swap.specs.Items.{AreAlike, Item, Names, SessionsStand,
 ghost use Rattle.session_swap.specs.Items.{disowned, item_at, item_session, left_behind};
 ghost use Rattle.session_swap.specs.Items.{new_item, place_at};
 
-/// Sessions stand over what else becomes of them: a client's command may change one that is loaded,
-/// start one, or end one that is loaded, and one may be left by its client, or become an orphan.
+/// Sessions still stand after changes from elsewhere: a client's command may change a loaded
+/// session, start one, or end a loaded one, and a session may be left by its client or become an
+/// orphan.
 pub fn sessions_stand_on()
     ensures changed { (slots new : SlotState) (view : SessionsView) (others : List ℕ)
         → SessionsStand slots view others → new.started ≡ true → IsSlots new

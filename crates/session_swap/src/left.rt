@@ -9,7 +9,7 @@ use std::alloc::{AllocError, Global};
 use std::marker::Model;
 use tab_spec::SESSION_NUMBERS;
 
-// The first place of a number in a list; nothing where it isn't there.
+// The first place of a number in a list; `None` if it isn't there.
 fn place_of(numbers: &[u8], number: usize) -> Option<usize>
     ensures { MatchOption result (without_one number numbers.now ≡ numbers.now)
         (λ at. (at < length numbers.now)
@@ -41,7 +41,7 @@ impl Model for Left {
 }
 
 impl Left {
-    /// None was left. It takes the memory of all 64 numbers.
+    /// An empty list, with memory for all 64 numbers.
     pub fn new(alloc: Global) -> Result<Left, AllocError>
         ensures { IfOk result (λ left. left ≡ []) }
     {
@@ -56,7 +56,7 @@ impl Left {
         self.numbers.len() as u8
     }
 
-    /// The session that was left at this place, from 0; nothing where no more were left.
+    /// The session that was left at this place, from 0; `None` if no more were left.
     pub fn at(&self, place: usize) -> Option<usize>
         ensures { result ≡ slice_get self.now place }
     {
@@ -67,7 +67,7 @@ impl Left {
         }
     }
 
-    /// A session is left: it was left last.
+    /// Adds a session at the end: it was left last.
     pub fn push(&mut self, number: usize)
         requires number { number < SESSION_NUMBERS }
         requires few { length self.old < SESSION_NUMBERS }
@@ -76,7 +76,7 @@ impl Left {
         self.numbers.push_reserved(number as u8);
     }
 
-    /// A session isn't left any more, if it was.
+    /// Takes a session off the list, if it is there.
     pub fn remove(&mut self, number: usize)
         ensures { self.new ≡ without_one number self.old }
     {

@@ -22,5 +22,5 @@ pub use gap::{refresh, refresh_counted};
 pub use laws::sessions_stand_on;
 pub use sessions::Sessions;
 
-/// A command needs at most so many sessions at once, named and new ones.
+/// The most sessions that one command needs at once, named and new ones.
 pub const NEEDED_MOST: u32 = 3;

@@ -1,4 +1,4 @@
-//! In which order sessions were used and saved: the numbers in lists, so that none is walked.
+//! The order in which sessions were used and saved, in lists, so that no call walks the records.
 ghost use Rattle.std.specs.Prelude.{◌≡◌, ◌≤◌, ◌<◌, ◌+◌, ◌*◌, ◌==◌, ℕ, false, length, slice_get};
 ghost use Rattle.std.specs.Prelude.{Some, IfOk, MatchOption, OnOk, OnErr, get_or, [], not};
 ghost use Rattle.std.specs.List.{count_by};
@@ -119,7 +119,7 @@ impl Model for Order {
 }
 
 impl Order {
-    /// No session is loaded or saved. It takes the memory of all 64 numbers.
+    /// The order of no sessions, with memory for all 64 numbers.
     pub fn new(alloc: Global) -> Result<Order, AllocError>
         ensures { IfOk result (λ order. order ≡ no_order) }
     {
@@ -149,7 +149,7 @@ impl Order {
         self.saved
     }
 
-    /// The loaded session that was used least recently; nothing where none is loaded.
+    /// The loaded session that was used least recently; `None` if none is loaded.
     pub fn first_loaded<C: Visits>(&self, steps: &mut C) -> Option<usize>
         ensures first { result ≡ slice_get self.now.loaded 0 }
         ensures steps { C.count steps.new ≤ C.count steps.old + 1 }
@@ -158,7 +158,7 @@ impl Order {
         Some(steps.first(&self.lists, LOADED)? as usize)
     }
 
-    /// The session that was saved first; nothing where none is saved.
+    /// The session that was saved first; `None` if none is saved.
     pub fn first_saved<C: Visits>(&self, steps: &mut C) -> Option<usize>
         ensures first { result ≡ slice_get self.now.saved 0 }
         ensures steps { C.count steps.new ≤ C.count steps.old + 1 }
@@ -169,7 +169,7 @@ impl Order {
         Some(steps.first(&self.lists, SAVED)? as usize)
     }
 
-    /// The loaded session that was used next after one; nothing where that was used last.
+    /// The loaded session that was used next after this one; `None` if this one was used last.
     pub fn next_loaded(&self, number: usize) -> Option<usize>
         requires { (at : ℕ) × (slice_get self.now.loaded at ≡ Some number) }
         ensures { (at : ℕ) → slice_get self.now.loaded at ≡ Some number
@@ -178,7 +178,7 @@ impl Order {
         Some(self.lists.next(number as u32)? as usize)
     }
 
-    /// A session starts. It was used last.
+    /// Adds a session that starts. It was used last.
     pub fn start(&mut self, number: usize)
         requires number { number < SESSION_NUMBERS }
         requires none { (count_by (λ one. one == number) self.old.loaded ≡ 0)
@@ -189,7 +189,7 @@ impl Order {
         self.loaded += 1;
     }
 
-    /// A loaded session is used.
+    /// Moves a loaded session to the end: it was used last.
     pub fn use_again(&mut self, number: usize)
         requires { count_by (λ one. one == number) self.old.loaded ≡ 1 }
         ensures { self.new ≡ order_used number self.old }
@@ -197,7 +197,7 @@ impl Order {
         carry(&mut self.lists, number, LOADED, &mut Uncounted);
     }
 
-    /// A loaded session is saved: it was saved last.
+    /// Moves a loaded session to the saved ones: it was saved last.
     pub fn move_out<C: Visits>(&mut self, number: usize, steps: &mut C)
         requires { count_by (λ one. one == number) self.old.loaded ≡ 1 }
         ensures order { self.new ≡ order_out number self.old }
@@ -209,7 +209,7 @@ impl Order {
         self.saved += 1;
     }
 
-    /// A saved session is loaded: it was used last.
+    /// Moves a saved session to the loaded ones: it was used last.
     pub fn move_in<C: Visits>(&mut self, number: usize, steps: &mut C)
         requires { count_by (λ one. one == number) self.old.saved ≡ 1 }
         ensures order { self.new ≡ order_in number self.old }
@@ -221,7 +221,7 @@ impl Order {
         self.saved -= 1;
     }
 
-    /// A session ends, which is loaded or saved.
+    /// Removes a session that ends, loaded or saved.
     pub fn end(&mut self, number: usize, is_loaded: bool)
         requires loaded { count_by (λ one. one == number) self.old.loaded ≡ flag is_loaded }
         requires saved { count_by (λ one. one == number) self.old.saved ≡ flag (not is_loaded) }

@@ -74,8 +74,8 @@ fn unneeded(records: &[Record], order: &Order, needed: &[u32]) -> Option<usize>
     None
 }
 
-// Loaded sessions that aren't needed are saved, the least recently used first, until no more than
-// so many are left.
+// Saves loaded sessions that aren't needed, the least recently used first, until no more than so
+// many are loaded.
 fn clear_places<D: Device>(
     records: &mut [Record],
     next: &mut u64,
@@ -108,7 +108,7 @@ fn clear_places<D: Device>(
     Ok(())
 }
 
-// A session that is needed is loaded, where it isn't yet. It is the one that was used last then.
+// Loads a session that is needed, unless it is loaded. It was used last then.
 fn make_loaded<D: Device>(
     records: &mut [Record],
     next: u64,
@@ -143,7 +143,7 @@ fn make_loaded<D: Device>(
     Ok(())
 }
 
-// Each session that is needed is loaded.
+// Loads each session that is needed.
 fn fill_places<D: Device>(
     records: &mut [Record],
     next: u64,
@@ -171,8 +171,8 @@ fn fill_places<D: Device>(
     Ok(())
 }
 
-/// Each session that is needed is loaded, and so many places are free. For room alone others are
-/// saved, the least recently used first.
+/// Loads each session that is needed, and frees so many places. It saves others only to make room,
+/// the least recently used first.
 pub fn swap_sessions<D: Device>(
     records: &mut [Record],
     next: &mut u64,

@@ -12,14 +12,14 @@ pub enum Place {
 /// What is kept of a session number.
 #[derive(Drop)]
 pub struct Record {
-    /// Whose it is; nobody's where its client is closed.
+    /// The client that owns it; `None` once that client is closed.
     pub client: Option<u32>,
     pub handle: u32,
     pub place: Place,
     /// Room for a context.
     pub context: Vec<u8>,
-    /// Whether its client uses it: it didn't save it. True of an orphan too.
+    /// Whether it is in use: its client didn't save it. True of an orphan too.
     pub in_use: bool,
-    /// Room for the context that was handed out where its client saved it.
+    /// Room for the context that was handed out, if its client saved it.
     pub handed: Vec<u8>,
 }

@@ -54,7 +54,7 @@ pub(crate) fn number_of(handle: u32) -> usize
     (handle % (1 << 24)) as usize
 }
 
-// One less, where one of them is gone.
+// The count, or one less if one of them is gone.
 fn less_one(count: u8, one: bool) -> u8
     requires { flag one ≤ count }
     ensures { result ≡ count - flag one }
@@ -64,11 +64,11 @@ fn less_one(count: u8, one: bool) -> u8
 
 /// The sessions of all clients, under at most 64 numbers: more of them than the device has places
 /// for loaded ones, and no more than may be active. Each is loaded, or saved in a context that the
-/// device made of it. It is a client's, or was left by one that had saved it and closed, or is an
-/// orphan, which is only still to be flushed. It is seen as how much the device has room for, its
-/// items, by number, the number that the next context gets, the numbers of the loaded sessions, the
-/// least recently used first, those of the saved ones, in the order in which they were saved, those
-/// of the left ones, in the order in which they were left, and what contexts there is room for.
+/// device made of it. Each is a client's, or was left by a client that had saved it and closed, or
+/// is an orphan, which still has to be flushed. Contracts see how much the device has room for; the
+/// items, by number; the number that the next context gets; the numbers of the loaded sessions, the
+/// least recently used first; those of the saved ones, in the order in which they were saved; those
+/// of the left ones, in the order in which they were left; and what contexts there is room for.
 #[derive(Drop)]
 pub struct Sessions {
     records: Vec<Record>,
@@ -96,8 +96,8 @@ impl Model for Sessions {
 }
 
 impl Sessions {
-    /// No sessions, over a device of these numbers, whose contexts may be these. It takes the
-    /// memory of all 64 session numbers.
+    /// The sessions of a device with these numbers and contexts: none yet. It takes memory for all
+    /// 64 session numbers.
     pub fn new(
         alloc: Global,
         numbers: Numbers,
@@ -135,15 +135,15 @@ impl Sessions {
         self.numbers.active
     }
 
-    /// The client that has the session of this handle, and whether it is in use, that is, not saved
-    /// by that client; nothing where no client has it. A left session has none.
+    /// The client that has the session of this handle, and whether the session is in use: not saved
+    /// by that client. `None` if no client has it. A left session has no client.
     pub fn owner_of(&self, handle: u32) -> Option<(u32, bool)>
         ensures { result ≡ owner_in self.now.items handle }
     {
         owner_of(&self.records, handle)
     }
 
-    /// Whether there is a session with the number of a handle, whosever it is.
+    /// Whether there is a session with the number of a handle, of any client or of none.
     pub fn has_number(&self, handle: u32) -> bool
         ensures { result ≡ is_some (item_at self.now.items (number_of_session handle)) }
     {
@@ -151,7 +151,7 @@ impl Sessions {
     }
 
     /// The handle of the session of this client that has the least number, in use or saved by it;
-    /// nothing where it has none.
+    /// `None` if it has none.
     pub fn of_client(&self, client: u32) -> Option<u32>
         ensures { MatchOption result (list_any (is_owned client) self.now.items ≡ false)
             (λ handle. Names self.now.items handle
@@ -162,7 +162,7 @@ impl Sessions {
         find_owned(&self.records, client)
     }
 
-    /// The handle of an orphan; nothing where there is none.
+    /// The handle of an orphan; `None` if there is none.
     pub fn orphan(&self) -> Option<u32>
         ensures { MatchOption result (list_any is_orphan self.now.items ≡ false)
             (λ handle. Names self.now.items handle
@@ -201,8 +201,8 @@ impl Sessions {
         self.order.saved()
     }
 
-    /// The session that was saved first; nothing where none is saved. Over a device that tells its
-    /// state its context has the least number.
+    /// The session that was saved first; `None` if none is saved. If the device shows its state,
+    /// the context of this session has the least number.
     pub fn oldest(&self) -> Option<u32>
         ensures oldest { MatchOption result
             (self.now.saved ≡ []) (λ handle. IsFirst self.now handle) }
@@ -212,7 +212,8 @@ impl Sessions {
         self.oldest_by(&mut Uncounted)
     }
 
-    /// `oldest`, which visits one record of the lists: none where no session is saved.
+    /// `oldest`, with a count of the records of the lists that it visits: one, or none if no
+    /// session is saved.
     pub fn oldest_counted<L: Ledger>(&self, steps: &mut Steps<L>) -> Option<u32>
         ensures oldest { MatchOption result
             (self.now.saved ≡ []) (λ handle. IsFirst self.now handle) }
@@ -239,7 +240,8 @@ impl Sessions {
     }
 
     /// How far the number of the next context is above that of the session that was saved first; 0
-    /// where none is saved. Where the numbers rise in this order, that is the oldest context.
+    /// if none is saved. If numbers rise in the order of saving, that session has the oldest
+    /// context.
     pub fn gap(&self) -> u64
         ensures first { result ≡ gap_first self.now }
         ensures most { result ≤ gap_kept self.now }
@@ -250,9 +252,10 @@ impl Sessions {
         gap_above(&self.records, self.next, first)
     }
 
-    /// Where the number of the next session context is as far as this above the oldest one, the
-    /// oldest contexts are renewed before the next command of a client (the project's own). It is
-    /// eight less than the gap at which the device refuses to save a session.
+    /// The gap at which renewal is due: once the number of the next session context is as far as
+    /// this above the oldest one, the oldest contexts are renewed before the next command of a
+    /// client (the project's own). It is eight less than the gap at which the device refuses to
+    /// save a session.
     pub fn renewal_gap(&self) -> u64
         ensures { result ≡ renewal_gap self.now.numbers }
     {
@@ -261,8 +264,7 @@ impl Sessions {
         u64::from(self.numbers.gap) - 8
     }
 
-    /// The session that was saved first, where it is to be renewed; nothing where the gap is small
-    /// enough.
+    /// The session that was saved first, if it is to be renewed; `None` if the gap is small enough.
     pub(crate) fn due<C: Visits>(&self, steps: &mut C) -> Option<u32>
         ensures due { MatchOption result (gap_first self.now < renewal_gap self.now.numbers)
             (λ handle. IsFirst self.now handle
@@ -282,10 +284,10 @@ impl Sessions {
         Some(handle)
     }
 
-    /// Sees to it that all of these sessions are loaded, and that so many places are free. Where
-    /// that is so already, nothing is sent. For room alone other loaded sessions are saved, the
-    /// least recently used first. Then what is needed is loaded (Part 3, "TPM2_ContextSave",
-    /// "TPM2_ContextLoad"), and counts as used. After an error the same sessions stand.
+    /// Loads all of these sessions, and frees so many places. If they are loaded and the places are
+    /// free already, it sends nothing. It saves other loaded sessions only to make room, the least
+    /// recently used first. Then it loads what is needed (Part 3, "TPM2_ContextSave",
+    /// "TPM2_ContextLoad"), which counts as used. After an error the same sessions stand.
     pub fn make_sessions<D: Device>(
         &mut self,
         device: &mut D,
@@ -324,7 +326,7 @@ impl Sessions {
         )
     }
 
-    /// Holds a session for a client, which was started under this handle. It takes no memory.
+    /// Holds a session for a client. It was started under this handle. It takes no memory.
     pub fn adopt_session(&mut self, client: u32, handle: u32)
         requires session { is_session_handle handle ≡ true }
         requires number { number_of_session handle < SESSION_NUMBERS }
@@ -346,10 +348,10 @@ impl Sessions {
         self.held += 1;
     }
 
-    /// A client that closes leaves a session that it saved: nobody has it then, and whoever gives
-    /// back the context that was handed out gets it. Where more are left than may be, the lesser of
-    /// 8 and a quarter of the sessions that may be active, the result is the handle of the one that
-    /// was left longest, which has to be dropped. It takes no memory.
+    /// Leaves a session that its client saved, when that client closes. Nobody has the session
+    /// then, and whoever gives back the context that was handed out gets it. If more are left than
+    /// may be, the lesser of 8 and a quarter of the sessions that may be active, the result is the
+    /// handle of the one that was left longest, which has to be dropped. It takes no memory.
     pub fn leave(&mut self, handle: u32) -> Option<u32>
         requires saved { is_saved_for_owner (item_of self.old.items handle) ≡ true }
         ensures left { self.new ≡ record self.old {
@@ -383,7 +385,7 @@ impl Sessions {
     }
 
     /// The handle of the session that was left at this place, from 0, in the order of leaving;
-    /// nothing where no more are left.
+    /// `None` if no more were left.
     pub fn left_at(&self, place: u8) -> Option<u32>
         ensures { MatchOption result (length self.now.left ≤ place)
             (λ handle. IsLeftAt self.now place handle) }
@@ -393,7 +395,7 @@ impl Sessions {
         Some(record.handle)
     }
 
-    /// Makes a session an orphan, a client's or a left one: it had to go, and its flush failed.
+    /// Makes a session an orphan, a client's or a left one, after its flush failed.
     pub fn orphan_session(&mut self, handle: u32)
         requires { Names self.old.items handle }
         ensures { self.new ≡ record self.old {
@@ -507,10 +509,10 @@ impl Sessions {
     }
 
     /// Takes back the context that was handed out for a session of this client, or for one that was
-    /// left: the session is in use again, and this client's, and its handle is told. Nothing is
-    /// sent, and no memory is taken. An error is the response code 0x1CB (HANDLE of parameter 1):
-    /// these bytes were handed out for no session that this client saved or that was left. It
-    /// changes nothing.
+    /// left. The session is this client's then, and in use again. It returns the session's handle.
+    /// It sends nothing, and takes no memory. An error is the response code 0x1CB (HANDLE of
+    /// parameter 1): these bytes were handed out for no session that this client saved or that was
+    /// left. It changes nothing.
     pub fn client_load(&mut self, client: u32, context: &[u8]) -> Result<u32, u32>
         // The handle stands in the context.
         ensures handle { IfOk result (λ handle. word_at 8 context.now ≡ Some handle) }

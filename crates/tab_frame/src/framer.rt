@@ -74,8 +74,8 @@ impl Framer {
         taken
     }
 
-    /// Gives out the next frame, whose bytes are then those of `out`. Where there is none, what
-    /// `out` holds is not told.
+    /// Gives out the next frame, whose bytes are then those of `out`. If there is none, nothing is
+    /// promised of what `out` holds.
     pub fn next(&mut self, out: &mut Buffer) -> Frame
         ensures { Gave result self.old self.new out.new }
     {

@@ -12,7 +12,7 @@ use Rattle.tab_server.specs.declared.status.TheConstants.{DONE, WRONG_ANSWER}
 use Rattle.tab_server.specs.declared.cause.Cause.{Cause}
 use Rattle.tab_server.specs.declared.cause.Cause.TheVariants as causes
 
--- whether no more was played since the input ended
+-- whether the script stopped because its input ended
 abbrev pub is_end : Stop → Bool
 is_end stops.End = true
 is_end (stops.BadLine number) = false

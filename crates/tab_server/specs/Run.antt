@@ -20,7 +20,7 @@ use Rattle.script_player.specs.Stops.{AreFirst, EndsInClose, Unanswered, WroteFr
 use Rattle.tab_server.specs.declared.status.TheConstants.{BAD_LINE, DONE, INPUT_FAILED, JOURNAL_FULL, NO_MEMORY, OUTPUT_FAILED, OUT_OF_RANGE, START_FAILED, WRONG_ANSWER}
 use Rattle.tab_server.specs.Status.{EndsAs, Faults, HasCause, IsPulled}
 
--- what a client may be told by a journal of so many bytes, over a device with these contexts
+-- what a client may be answered with a journal of so many bytes, over a device with these contexts
 abbrev pub limits : ContextLimits → ℕ → Limits
 limits contexts limit = record { bytes = limit; contexts = contexts }
 
@@ -33,14 +33,14 @@ pub record Before : Type 0 where
   pub written : Option (List ℕ)
   pub faults : Faults
 
--- what there is after it; of the device all that it tells
+-- what there is after it; of the device all that it shows
 pub record After : Type 0 where
   pub seen : Seen
   pub left : Option (List ℕ)
   pub written : Option (List ℕ)
   pub faults : Faults
 
--- the same, by what each of them tells
+-- the same, by what each of them shows
 abbrev pub before_of : (contexts : ContextLimits) → (base : Option Origin) → (began : ℕ) → (left : Option (List ℕ)) → (input : ℕ) → (written : Option (List ℕ)) → (output : ℕ) → Before
 before_of contexts base began left input written output = record {
   contexts = contexts;
@@ -58,7 +58,7 @@ after_of seen left input written output = record {
   faults = record { device = seen.faults; input = input; output = output };
 }
 
--- the same by a device, an input and an output, and what each of them tells
+-- the same by a device, an input and an output, and what each of them shows
 abbrev pub before : {D I O : Type 0} → (contexts : ContextLimits) → (seen : D → Seen) → (left : I → Option (List ℕ)) → (input_faults : I → ℕ)
     → (written : O → Option (List ℕ)) → (output_faults : O → ℕ) → D → I → O → Before
 before contexts seen left input_faults written output_faults device input output =
@@ -69,13 +69,14 @@ abbrev pub after : {D I O : Type 0} → (seen : D → Seen) → (left : I → Op
 after seen left input_faults written output_faults device input output =
     after_of (seen device) (left input) (input_faults input) (written output) (output_faults output)
 
--- a broker that has opened nobody, over the device that it was given, whose fault count didn't fall
+-- a broker that has opened no client yet, over the device that it was given, whose fault count
+-- didn't fall
 pub record Begins {D : Type 0} (seen : Seen) (limit : ℕ) (broker : BrokerView D) (seen_new : Seen) : Type 0 where
   pub empty : broker.journal ≡ []
   pub sound : broker.wrong_code ≡ None
   pub limit_is : broker.limit ≡ limit
   pub began_is : broker.began ≡ seen.faults
-  -- its history begins from what the device tells
+  -- its history begins from the state that the device shows
   pub base_is : origin_of seen_new.base broker.held.sessions.numbers ≡ told_origin seen.base seen.state
   pub counted : broker.began ≤ seen_new.faults
 
@@ -88,7 +89,7 @@ pub record IsHistory (origin : Origin) (slots : SlotState) (history : List Entry
   pub sound : IsSlots slots
   pub numbers : slots.numbers ≡ origin.numbers
 
--- the same, where the device tells what it is in
+-- the same, if the device shows its state
 abbrev pub IsHistoryOf : Option Origin → Option SlotState → List Entry → Type 0
 IsHistoryOf base state history = (o : Origin) (slots : SlotState) → base ≡ Some o → state ≡ Some slots → IsHistory o slots history
 
@@ -99,7 +100,7 @@ HoldsLeftOf base began seen history =
     (o : Origin) (slots : SlotState) → base ≡ Some o → seen.state ≡ Some slots
     → HoldsLeft began seen.faults history slots (world_of o.persist o.numbers.active history).left
 
--- what there is of a broker whose clients are all closed
+-- what a broker leaves once its clients are all closed
 pub record IsEnded (contexts : ContextLimits) (base : Option Origin) (began : ℕ) (seen : Seen) (wrong : Option ℕ) (history : List Entry) : Type 0 where
   pub legal : IsHistoryOf base seen.state history
   pub faulted : FaultsCounted began seen.faults history 0
@@ -149,7 +150,7 @@ pub record LeavesText (limit : Limits) (before : Before) (after : After) (histor
   pub ended : Ended limit before after lines history
   pub text : WroteFrontOf (audit_text history) lines after.written
 
--- what a run leaves of its journal, where the broker began, and of its device
+-- what a run leaves of its journal, if the broker began, and of its device
 pub record IsSound (before : Before) (after : After) (status : ℕ) (journal : Option (List Entry)) : Type 0 where
   -- The journal is one legal history of the plain machine, and the device keeps what its world keeps. It has no more failed
   -- commands than the device had failures, each reply in it is one whole frame, and no wrong answer was taken for an answer.
@@ -164,7 +165,7 @@ pub record IsSound (before : Before) (after : After) (status : ℕ) (journal : O
   -- failures: just those sessions, where it never failed.
   pub held : IfSome journal (λ history. HoldsLeftOf before.base before.faults.device after.seen history)
 
--- what a run of words that aren't refused leaves, with a journal where the broker began
+-- what a run of words that aren't refused leaves, with a journal if the broker began
 pub record Leaves (limit : ℕ) (audit : Bool) (before : Before) (after : After) (status detail : ℕ) (journal : Option (List Entry)) : Type 0 where
   pub sound : IsSound before after status journal
   -- The journal and the output are what the script's calls make, each once and in order, as far as each status says. Where it

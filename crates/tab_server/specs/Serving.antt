@@ -20,7 +20,7 @@ use Rattle.tab_server.specs.Run.{After, Before, IsSound}
 
 -- ---- the text at the end
 
--- the counts of the connections and the journal, or the audit text where it is asked for
+-- the line of counts of the connections and the journal, or the audit text if it is asked for
 abbrev pub end_text : Bool → ℕ → List Entry → List ℕ
 end_text audit links history = if audit then audit_text history else counts_line links history
 
@@ -30,7 +30,7 @@ WroteOr None text written written_new faults faults_new = (written_new ≡ with_
 WroteOr (Some count) text written written_new faults faults_new =
     WroteFrontOf text written written_new × Rose faults faults_new × (count ≡ faults_new)
 
--- memory lacked before the first connection: nobody was accepted, and nothing was run or written
+-- memory lacked before the first connection: none was accepted, and nothing was run or written
 pub record IsIdle {L M : Type 0} (before : Before) (after : After) (coming coming_new : Option (List L)) (history : List Entry) (links : List M) : Type 0 where
   pub nothing : history ≡ []
   pub nobody : links ≡ []
@@ -38,8 +38,8 @@ pub record IsIdle {L M : Type 0} (before : Before) (after : After) (coming comin
   pub unwritten : after.written ≡ before.written
   pub quiet : after.faults.output ≡ before.faults.output
 
--- How the text was written: whole, and then no write failed; or a front of it, up to a failed write; or not at all, where memory
--- lacked before the first connection.
+-- How the text was written: whole, and then no write failed; or a front of it, up to a failed
+-- write; or not at all, if memory lacked before the first connection.
 abbrev pub WroteEnd : List ℕ → Type 0 → Before → After → ℕ → Type 0
 WroteEnd text idle before after status =
     ((after.written ≡ with_more before.written text) × (after.faults.output ≡ before.faults.output))
@@ -49,8 +49,8 @@ WroteEnd text idle before after status =
 
 -- ---- statuses
 
--- the status by the code of a wrong answer, the fault counts of the acceptor and the output where they failed, and whether a
--- connection lacked memory: the first of these that there is
+-- the status, by the first of these that there is: the code of a wrong answer, the fault count of
+-- an acceptor that failed, that of an output that failed, a connection that lacked memory
 abbrev pub serve_status : (wrong accept output : Option ℕ) → (lacked : Bool) → ℕ
 serve_status (Some code) accept output lacked = WRONG_ANSWER
 serve_status None (Some count) output lacked = ACCEPTOR_FAILED
@@ -86,7 +86,8 @@ pub record TellsEnd (wrong accept : Option ℕ) (lacked : Bool) (text : List ℕ
 
 -- ---- all of it
 
--- What `serve` leaves where the broker began. `are_served` is what became of all connections by the journal at the end.
+-- What `serve` leaves if the broker began. `are_served` is what became of all connections by the
+-- journal at the end.
 pub record LeavesLinks {L M : Type 0} (are_served : List Entry → List M → Type 0) (ending_of : M → Ending) (audit : Bool) (most : ℕ)
     (before : Before) (after : After) (coming coming_new : Option (List L)) (status : ℕ) (history : List Entry) (links : List M) : Type 0 where
   pub served : are_served history links
@@ -100,7 +101,7 @@ pub record LeavesLinks {L M : Type 0} (are_served : List Entry → List M → Ty
   -- No wrong answer was taken for an answer.
   pub right : (status ≡ WRONG_ANSWER → ⊥) → IsRight before.contexts (asked_of after.seen) (last_of after.seen)
 
--- where it didn't begin: nobody was accepted, and nothing was written
+-- if the broker didn't begin: no connection was accepted, and nothing was written
 pub record IsUnserved {L M : Type 0} (before : Before) (after : After) (coming coming_new : Option (List L)) (accept accept_new status : ℕ) (links : List M) : Type 0 where
   pub nobody : links ≡ []
   pub same : coming_new ≡ coming
@@ -109,7 +110,7 @@ pub record IsUnserved {L M : Type 0} (before : Before) (after : After) (coming c
   pub quiet : after.faults.output ≡ before.faults.output
   pub starts : IsTrue (list_any (λ n. n == status) (NO_MEMORY ∷ START_FAILED ∷ WRONG_ANSWER ∷ OUT_OF_RANGE ∷ []))
 
--- What `serve` leaves: its connections and the journal, where the broker began.
+-- What `serve` leaves: its connections, and the journal if the broker began.
 pub record LeavesServed {L M : Type 0} (are_served : List Entry → List M → Type 0) (ending_of : M → Ending) (audit : Bool) (most : ℕ)
     (before : Before) (after : After) (coming coming_new : Option (List L)) (accept accept_new status detail : ℕ) (journal : Option (List Entry)) (links : List M) : Type 0 where
   pub sound : IsSound before after status journal
@@ -128,7 +129,8 @@ LeavesServe is_link client_of ending_of audit most before after coming coming_ne
     LeavesServed (λ history served. AreServed (is_link (status == WRONG_ANSWER) history) client_of history coming coming_new most served) ending_of audit most
     before after coming coming_new accept accept_new status detail journal links
 
--- The same where nothing is kept of a connection that is over: the connections are a list that contracts alone see, in no order.
+-- The same if nothing is kept of a connection that is over: the connections are a list that only
+-- contracts see, in no order.
 abbrev pub LeavesPool : {L M : Type 0} → (is_link : (wrong : Bool) → List Entry → M → Type 0) → (given_of : M → L) → (client_of : M → Option ℕ) → (ending_of : M → Ending) → (audit : Bool) → (most : ℕ)
     → (before : Before) → (after : After) → (coming coming_new : Option (List L)) → (accept accept_new status detail : ℕ) → (journal : Option (List Entry)) → (links : List M) → Type 0
 LeavesPool is_link given_of client_of ending_of audit most before after coming coming_new accept accept_new status detail journal links =

@@ -1,4 +1,4 @@
--- The status that a run ends with and its detail, and what each of them tells.
+-- The status that a run ends with and its detail, and what each status means.
 use Rattle.std.specs.Prelude.{◌≡◌, ◌⊎◌, ◌==◌, ◌+◌, ℕ, IsTrue, true, List, [], ◌∷◌, Option, None, Some, IfSome, IsSomeAnd, if◌then◌else◌}
 use Rattle.std.specs.List.{list_any}
 use Rattle.tab_spec.specs.Count.{Rose}
@@ -57,7 +57,7 @@ detail_of (causes.Answer code) = code
 abbrev pub IsOfStart : ℕ → Type 0
 IsOfStart status = IsTrue (list_any (λ n. n == status) (REFUSED ∷ NO_MEMORY ∷ START_FAILED ∷ WRONG_ANSWER ∷ OUT_OF_RANGE ∷ []))
 
--- ---- what a status tells
+-- ---- what a status means
 
 -- how many bytes are pulled of an input, at most: one more than a script may have, but not where a read failed
 abbrev pub pulled_at : ℕ → ℕ
@@ -66,7 +66,7 @@ pulled_at status = if status == INPUT_FAILED then SCRIPT_BYTES else SCRIPT_BYTES
 abbrev pub IsPulled : ℕ → Option (List ℕ) → Option (List ℕ) → Type 0
 IsPulled status given left = IsPulledUpTo (pulled_at status) given left
 
--- the ending that the status tells
+-- how the script ended, by the status
 pub record EndsAs (ending : Ending) (status detail : ℕ) : Type 0 where
   pub at_the_end : status ≡ DONE → ending ≡ end
   pub at_a_bad_line : status ≡ BAD_LINE → ending ≡ bad_line detail
@@ -77,13 +77,13 @@ pub record Faults : Type 0 where
   pub input : ℕ
   pub output : ℕ
 
--- the last command asked for this property, and the response tells a value of it that is out of range
+-- the last command asked for this property, and the response has a value of it that is out of range
 pub record IsNumberOut (property : ℕ) (asked : List ℕ) (last : Option (List ℕ)) (state : Option SlotState) : Type 0 where
   pub value : ℕ
   pub out : IsOutOfRange property value
   pub asked_is : asked ≡ number_command property
   pub told : IsSomeAnd last (λ response. (takes true true asked response ≡ true) × (value_told response ≡ value))
-  -- a device that tells its state has such numbers
+  -- a device that shows its state has a number that is out of range
   pub own : IfSome state (λ slots. AreInRange slots.numbers → ⊥)
 
 -- each status that comes of a fault, a wrong answer or a number comes only where there was one, and there is no other status than these.
@@ -100,8 +100,9 @@ pub record HasCause (contexts : ContextLimits) (status detail : ℕ) (before aft
   pub numbers : status ≡ OUT_OF_RANGE → IsNumberOut detail asked last state
   pub input : status ≡ INPUT_FAILED → Rose before.input after.input × (detail ≡ after.input)
 
--- How far a start came after which there is no broker, by the status. Each number that the device told before the last command is in
--- range. At 11 the one that it told then isn't, and nothing was sent after it.
+-- How far a start came that left no broker, by the status. Each number that the device reported
+-- before the last command is in range. At 11 the one that it reported last isn't, and nothing was
+-- sent after it.
 pub record EndsStart {D : Type 0} (contexts : ContextLimits) (seen : D → Seen) (status detail : ℕ) (old new : D) : Type 0 where
   pub of_start : IsOfStart status
   pub memory : status ≡ NO_MEMORY → (new ≡ old) ⊎ LackedMemory (seen old) (seen new)

@@ -7,16 +7,16 @@ use crate::status::{
 };
 use script_player::Stop;
 
-// Why a run ended whose broker began, with the detail of its status.
+// Why a run ended once its broker had begun. It has the detail of the status.
 #[derive(Clone, Copy)]
 pub(crate) enum Cause {
     // The script was played whole.
     End,
     // The number of a bad line, from 1.
     BadLine(u64),
-    // Memory lacked where a label was to be opened.
+    // There was no memory to open a label.
     Memory,
-    // The journal had no room for another client; the bytes that it keeps.
+    // The journal had no room for another client. The value is the number of bytes that it keeps.
     Full(u64),
     // The output failed; its fault count.
     Output(u64),
@@ -26,8 +26,8 @@ pub(crate) enum Cause {
     Answer(u64),
 }
 
-// Why a run ended, by why its script was played no further, and the code of a wrong answer, where
-// one came. After such a stop there is a code.
+// Returns why a run ended, from why its script stopped and from the code of a wrong answer, if one
+// came. A stop for a wrong answer always has a code.
 pub(crate) fn cause_of(stop: Stop, wrong_answer: Option<u64>) -> Cause
     ensures { result ≡ cause_of stop wrong_answer }
 {

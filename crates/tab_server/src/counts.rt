@@ -6,8 +6,8 @@ ghost use Rattle.tab_server.specs.Counts.{counts_line};
 use audit_journal::Journal;
 use tab_values::SmallBytes;
 
-// The line that tells how many connections there were, how many entries the journal has, how many
-// commands were answered, how many were canceled, and how many failed.
+// The line of counts: connections, entries of the journal, commands that were answered, commands
+// that were canceled, and commands that failed.
 pub(crate) fn counts_line(links: u64, journal: &Journal) -> SmallBytes<144>
     ensures { result ≡ counts_line links journal.now.entries }
 {

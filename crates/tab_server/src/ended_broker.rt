@@ -8,8 +8,8 @@ use audit_journal::Journal;
 use broker_core::Broker;
 use device_port::Device;
 
-// Ends a broker whose clients are all closed. The device, the journal, and the code of a wrong
-// answer, where one came.
+// Ends a broker whose clients are all closed. It returns the device, the journal, and the code of a
+// wrong answer, if one came.
 pub(crate) fn end_broker<D: Device>(broker: Broker<D>) -> (D, Journal, Option<u64>)
     requires closed { (clients_of broker.journal).present ≡ [] }
     ensures journal { result.1.entries ≡ broker.journal }

@@ -1,4 +1,4 @@
-//! A broker as a script is played over it.
+//! The broker that a script is played over.
 ghost use Rattle.std.specs.Prelude.{◌≤◌, is_some};
 ghost use Rattle.broker_lock.specs.Known.{origin_of};
 ghost use Rattle.broker_core.specs.Broker.{LegalOver};
@@ -9,7 +9,7 @@ use device_port::Device;
 use script_player::Runs;
 use tab_bytes::Buffer;
 
-/// A broker as a script is played over it: its device's fault count didn't fall since the start.
+/// The broker that a script is played over. Its device's fault count hasn't fallen since the start.
 pub struct PlayedBroker<D: Device> {
     /// The broker.
     pub broker: Broker<D>,

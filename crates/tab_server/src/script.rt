@@ -26,7 +26,7 @@ use script_player::{PlayedScript, Room, Stop, play_script};
 use std::alloc::Global;
 use workload::{Tally, Workload};
 
-/// What came of a script.
+/// The result of playing a script.
 pub struct Played<D: Device> {
     /// 0: the script was played whole. 4: the output failed. 5: memory lacked. 6: the device failed
     /// at its start. 7: the device gave a wrong answer. 8: a line was bad. 9: the input failed. 10:
@@ -36,11 +36,11 @@ pub struct Played<D: Device> {
     /// bytes that the journal keeps at 10, the property at 11, else 0.
     pub detail: u64,
     pub device: D,
-    /// The broker's journal, there where the broker began.
+    /// The broker's journal. `None` if the broker didn't begin.
     pub journal: Option<Journal>,
 }
 
-// How a script ended that was played.
+// How a script that was played ended.
 struct Ended<D: Device> {
     cause: Cause,
     // Whether all of its lines were played, and none was bad.
@@ -49,7 +49,7 @@ struct Ended<D: Device> {
     journal: Journal,
 }
 
-// Whether no more was played since the input ended.
+// Whether the script stopped because its input ended.
 fn is_end(stop: Stop) -> bool
     ensures { result ≡ is_end stop }
 {
@@ -59,7 +59,7 @@ fn is_end(stop: Stop) -> bool
     }
 }
 
-// Begins the broker over a device, or tells why there is none.
+// Begins the broker over a device, or returns why it didn't begin.
 pub(crate) fn begin_broker<D: Device>(
     alloc: Global,
     limit: u64,
@@ -94,7 +94,8 @@ pub(crate) fn begin_broker<D: Device>(
     }
 }
 
-// Makes the room and the broker of a run, or tells why there is none: then nothing was played.
+// Makes the room and the broker of a run. If that fails, it returns how the run ended: nothing was
+// played.
 fn begin<D: Device>(alloc: Global, limit: u64, device: D) -> Result<(Room, Broker<D>), Played<D>>
     requires at_base { IsAtBase (D.seen device).base (D.seen device).state }
     requires limit { IsLimit limit }
@@ -117,7 +118,7 @@ fn begin<D: Device>(alloc: Global, limit: u64, device: D) -> Result<(Room, Broke
     }
 }
 
-// Plays an input over a broker that has opened nobody, and closes all clients.
+// Plays an input over a broker that has opened no client yet, and then closes all clients.
 fn play_over<D: Device, I: Source, O: Sink>(
     alloc: Global,
     room: Room,
@@ -152,7 +153,7 @@ fn play_over<D: Device, I: Source, O: Sink>(
     }
 }
 
-// Writes the summary of a workload that was played whole. Why the run ended then.
+// Writes the summary of a workload, if it was played whole. It returns why the run ended.
 fn write_summary<O: Sink>(
     whole: bool,
     cause: Cause,
@@ -177,8 +178,8 @@ fn write_summary<O: Sink>(
     }
 }
 
-// Writes the audit text of a journal where it is asked for, but not after a failed write. Why the
-// run ended then.
+// Writes the audit text of a journal, if it is asked for and no write has failed. It returns why
+// the run ended.
 fn write_audit<O: Sink>(audit: bool, cause: Cause, journal: &Journal, output: &mut O) -> Cause
     requires { IsTrue audit → journal.now.limit ≤ JOURNAL_MOST }
     ensures unasked { IsFalse audit → (result ≡ cause) × (output.new ≡ output.old) }
@@ -274,13 +275,13 @@ fn play_workload<D: Device, O: Sink>(
     }
 }
 
-/// Does what the plan says, over a device, an input and an output: plays the input as a script, or
-/// the script of a workload. Each line is a label, a space, and hexadecimal digits, a piece of that
-/// label's stream of commands, or the word `close`. A label that isn't open opens a client, each
-/// reply of the input's script is written as a line, and at the end the clients are closed in the
-/// order of opening. The journal keeps within the plan's limit. The replies of a workload aren't
-/// written: where it was played whole, one line tells of them. The input isn't read then. Where the
-/// plan asks for it, the journal's audit text is written last, unless a write failed before; if one
+/// Does what the plan says, over a device, an input and an output: it plays the input as a script,
+/// or the script of a workload. Each line is a label, a space, and hexadecimal digits, a piece of
+/// that label's stream of commands, or the word `close`. A label that isn't open opens a client. At
+/// the end the clients are closed in the order of opening. The journal keeps within the plan's
+/// limit. Each reply to the input's script is written as a line. A workload doesn't read the input,
+/// and its replies aren't written: if it was played whole, one line sums them up. If the plan asks
+/// for it, the journal's audit text is written last, unless a write failed before. If a write
 /// fails, the status is 4.
 pub fn play<D: Device, I: Source, O: Sink>(
     alloc: Global,
@@ -291,21 +292,21 @@ pub fn play<D: Device, I: Source, O: Sink>(
 ) -> Played<D>
     // The device's history begins from what it keeps.
     requires at_base { IsAtBase (D.seen device).base (D.seen device).state }
-    // The plan is one that words may give.
+    // The plan is one that the program's words can give.
     requires limit { IsLimit plan.now.limit }
     requires audit { IsTrue plan.now.audit → plan.now.limit ≤ JOURNAL_MOST }
     requires lines { plan.now.lines ≤ LINES_MOST }
-    // The connections of a plan are served by another call.
+    // `serve` goes by another call.
     requires job { IsServe plan.now.job → ⊥ }
 
     ensures leaves { LeavesPlan plan.now
         (before D.CONTEXTS D.seen I.left I.faults O.written O.faults device input.old output.old)
         (after D.seen I.left I.faults O.written O.faults result.device input.new output.new)
         result.status result.detail (option_map (λ journal. journal.entries) result.journal) }
-    // Where the broker didn't begin there is no journal, the device holds no more than it did, and
-    // nothing was read or written. The status tells how far the start came: at 5 nothing was sent,
-    // or the device was started and flushed. Each number that it told before the last command is in
-    // range, and at 11 the one that it told then isn't.
+    // If the broker didn't begin, there is no journal, the device holds no more than it did, and
+    // nothing was read or written. The status shows how far the start came. At 5 nothing was sent,
+    // or the device was started and flushed. Each number that the device reported before the last
+    // command is in range. At 11 the number that it reported last isn't.
     ensures none { IfNone result.journal
         (EndsStart D.CONTEXTS D.seen result.status result.detail device result.device
         × (input.new ≡ input.old) × (output.new ≡ output.old)) }
@@ -317,7 +318,7 @@ pub fn play<D: Device, I: Source, O: Sink>(
     }
 }
 
-// A run that ended so.
+// The result of a run that ended for this cause.
 fn finished<D: Device>(cause: Cause, device: D, journal: Journal) -> Played<D>
     ensures { result ≡ record {
       status = status_of cause;
@@ -335,7 +336,7 @@ fn finished<D: Device>(cause: Cause, device: D, journal: Journal) -> Played<D>
     }
 }
 
-// A run that ended before the broker began.
+// The result of a run that ended before the broker began.
 fn unplayed<D: Device>(status: u8, detail: u64, device: D) -> Played<D>
     ensures { result
         ≡ record { status = status; detail = detail; device = device; journal = None } }

@@ -23,34 +23,34 @@ use std::snapshot::Snapshot;
 use std::sync::Wait;
 use std::thread::Threads;
 
-/// What came of the program's words.
+/// The result of the program's words.
 pub struct Ran<D: Device, A: Acceptor> {
-    /// 2: the words were refused. Those of `run` and `workload` are those of [`Played`]. Those of
-    /// `serve`, of which the first that applies is told: 7, the device gave a wrong answer; 3, the
-    /// acceptor failed; 4, the output failed; 5, memory lacked, before the first connection or for
-    /// one of them; 0, none of these; 6, the device failed at its start; and 11, one of its numbers
-    /// is out of range.
+    /// 2: the words were refused. `run` and `workload` end with the statuses of [`Played`]. `serve`
+    /// ends with 6 if the device failed at its start, with 11 if one of the device's numbers is out
+    /// of range, and else with the first of these that applies: 7, the device gave a wrong answer;
+    /// 3, the acceptor failed; 4, the output failed; 5, memory lacked, before the first connection
+    /// or for one of them; 0, none of these.
     pub status: u8,
     /// The code of the wrong answer at 7, the fault count of the acceptor, the output or the device
     /// at 3, 4 and 6, the property at 11, and 0 at 0, 2 and 5. For `run` and `workload` as in
     /// [`Played`].
     pub detail: u64,
     pub device: D,
-    /// The broker's journal, there where the broker began.
+    /// The broker's journal. `None` if the broker didn't begin.
     pub journal: Option<Journal>,
-    /// The connections of `serve`, in the order in which they were accepted. None where more than
-    /// 256 are asked for.
+    /// The connections of `serve`, in the order in which they were accepted. Empty if more than 256
+    /// are asked for.
     pub links: Vec<LinkDone<A::In, A::Out>>,
-    /// The connections of `serve` where more than 256 are asked for, for contracts alone.
+    /// The connections of `serve` if more than 256 are asked for. Only contracts see them.
     pub served: Snapshot<Services<A::In, A::Out>>,
 }
 
-/// All that the program does: it reads its words, and does what they say over this device, this
-/// acceptor, this gate, this input and this output. Words of `serve` use the acceptor and the gate,
-/// and those of `run` the input. For `serve` one broker with one journal stands behind all
-/// connections, of which at most 256 are served at once, each by a thread of its own where one can
-/// be made. In the end all clients are closed, and of what they had the device holds nothing but
-/// the sessions that they saved and left, at most eight, and what couldn't be flushed.
+/// All that the program does: it reads its words, and does what they say over this device,
+/// acceptor, gate, input and output. `serve` uses the acceptor and the gate, and `run` the input.
+/// `serve` has one broker with one journal for all connections. At most 256 connections are served
+/// at once, each by a thread of its own if one can be made. At the end all clients are closed. Of
+/// what they had, the device still holds only the sessions that they saved and left, at most eight,
+/// and what couldn't be flushed.
 pub fn tabrmd<
     D: Device + Send,
     A: Acceptor + Send,
@@ -78,8 +78,8 @@ pub fn tabrmd<
         × (result.links.items ≡ []) × (acceptor.new ≡ acceptor.old) × (input.new ≡ input.old)
         × (output.new ≡ output.old) }
 
-    // Words of `run` and `workload` are played: what the journal and the output are at each status.
-    // Nobody is accepted.
+    // `run` and `workload`: what the journal and the output are at each status. No connection is
+    // accepted.
     ensures leaves { IfSome (accepted (map string_bytes words.now))
         (λ plan. (IsServe plan.job → ⊥) → LeavesPlan plan (record {
           contexts = D.CONTEXTS;
@@ -102,8 +102,8 @@ pub fn tabrmd<
           };
         }) result.status result.detail (option_map (λ journal. journal.entries) result.journal)
         × (acceptor.new ≡ acceptor.old) × (result.links.items ≡ [])) }
-    // Words of `serve`: what the connections, the journal and the output are at each status. The
-    // input isn't read.
+    // `serve` of at most 256 connections: what the connections, the journal and the output are at
+    // each status. The input isn't read.
     ensures serves { IfSome (accepted (map string_bytes words.now))
         (λ plan. IsServe plan.job → plan.connections ≤ LINKS_MOST
         → LeavesServe (IsLinkDone A.In.left A.Out.written A.In.faults A.Out.faults (record {
@@ -119,7 +119,7 @@ pub fn tabrmd<
         (A.coming acceptor.old) (A.coming acceptor.new)
         (A.faults acceptor.old) (A.faults acceptor.new) result.status result.detail
         (option_map (λ journal. journal.entries) result.journal) result.links.items) }
-    // Where more connections are asked for nothing is kept of one that is over, and contracts see
+    // `serve` of more connections: nothing is kept of a connection that is over. Only contracts see
     // those that were served.
     ensures pool { IfSome (accepted (map string_bytes words.now))
         (λ plan. IsServe plan.job → LINKS_MOST < plan.connections → (result.links.items ≡ [])
@@ -138,10 +138,11 @@ pub fn tabrmd<
         (option_map (λ journal. journal.entries) result.journal) result.served.value) }
     ensures unread { IfSome (accepted (map string_bytes words.now))
         (λ plan. IsServe plan.job → input.new ≡ input.old) }
-    // Where the broker didn't begin there is no journal, the device holds no more than it did,
-    // nothing was read or written, and nobody was accepted. The status tells how far the start
-    // came: at 5 nothing was sent, or the device was started and flushed. Each number that it told
-    // before the last command is in range, and at 11 the one that it told then isn't.
+    // If the broker didn't begin, there is no journal, the device holds no more than it did,
+    // nothing was read or written, and no connection was accepted. The status shows how far the
+    // start came. At 5 nothing was sent, or the device was started and flushed. Each number that
+    // the device reported before the last command is in range. At 11 the number that it reported
+    // last isn't.
     ensures none { IfNone result.journal
         (EndsStart D.CONTEXTS D.seen result.status result.detail device result.device
         × (acceptor.new ≡ acceptor.old) × (input.new ≡ input.old) × (output.new ≡ output.old)

@@ -34,11 +34,11 @@ use std::snapshot::Snapshot;
 use std::sync::Wait;
 use std::thread::Threads;
 
-/// The most connections that `serve` serves at once. Where it accepts no more than these in all,
-/// what came of each is kept. This project's own.
+/// The most connections that `serve` serves at once. If it accepts no more than these in all, it
+/// keeps the result of each. This project's own.
 pub const LINKS_MOST: u32 = 256;
 
-// Writes the audit text of the journal where it is asked for, and else the line of its counts.
+// Writes the journal's audit text if it is asked for, and the line of counts if not.
 fn write_text<O: Sink>(
     audit: bool,
     links: u64,
@@ -59,7 +59,7 @@ fn write_text<O: Sink>(
     push_all(output, counts_line(links, journal).as_slice())
 }
 
-// Writes that text. The output's fault count where it failed.
+// Writes that text. It returns the output's fault count if the write failed.
 fn write_end<O: Sink>(audit: bool, links: u64, journal: &Journal, output: &mut O) -> Option<u64>
     requires { IsTrue audit → journal.now.limit ≤ JOURNAL_MOST }
     ensures { WroteOr result (end_text audit links journal.now.entries) (O.written output.old)
@@ -78,8 +78,8 @@ fn have_lacked<S, K>(links: &[LinkDone<S, K>]) -> bool
     links.iter().any(|link| lacks_memory(link.ending))
 }
 
-// The status and its detail: of the code of a wrong answer, the fault counts of the acceptor and of
-// the output that failed, and whether memory lacked, the first that there is.
+// The status and its detail, by the first of these that there is: the code of a wrong answer, the
+// fault count of an acceptor that failed, that of an output that failed, a lack of memory.
 fn status(wrong: Option<u64>, accept: Option<u64>, output: Option<u64>, lacked: bool) -> (u8, u64)
     ensures { (result.0 ≡ serve_status wrong accept output lacked)
         × (result.1 ≡ serve_detail wrong accept output) }
@@ -99,7 +99,7 @@ fn status(wrong: Option<u64>, accept: Option<u64>, output: Option<u64>, lacked: 
     (DONE, 0)
 }
 
-// Writes the text at the end, and tells what became of connections that were kept.
+// Writes the text at the end, and returns the result with the connections that were kept.
 fn finished<D: Device, A: Acceptor, O: Sink>(
     audit: bool,
     wrong: Option<u64>,
@@ -131,7 +131,7 @@ fn finished<D: Device, A: Acceptor, O: Sink>(
     }
 }
 
-// Writes the text at the end, and tells what became of connections that contracts alone see.
+// Writes the text at the end, and returns the result with connections that only contracts see.
 fn pool_finished<D: Device, A: Acceptor, O: Sink>(
     alloc: Global,
     audit: bool,
@@ -166,7 +166,7 @@ fn pool_finished<D: Device, A: Acceptor, O: Sink>(
 }
 
 // Serves the connections that the acceptor hands out, as many as the plan says, over a broker that
-// has opened nobody. What came of each is kept.
+// has opened no client yet. It keeps the result of each connection.
 fn serve_begun<D: Device + Send, A: Acceptor, G: Gate, O: Sink, R: Threads + Wait + Sync>(
     rt: &R,
     alloc: Global,
@@ -226,7 +226,8 @@ fn serve_begun<D: Device + Send, A: Acceptor, G: Gate, O: Sink, R: Threads + Wai
     }
 }
 
-// The same by servers that take connection after connection. Nothing is kept of one that is over.
+// The same, by servers that each take connection after connection. Nothing is kept of one that is
+// over.
 fn pool_begun<D: Device + Send, A: Acceptor + Send, G: Gate, O: Sink, R: Threads + Wait + Sync>(
     rt: &R,
     alloc: Global,
@@ -301,7 +302,7 @@ fn pool_begun<D: Device + Send, A: Acceptor + Send, G: Gate, O: Sink, R: Threads
     }
 }
 
-// Whether what came of so many connections is kept.
+// Whether the results of so many connections are kept.
 fn are_kept(connections: u32) -> bool
     ensures few { result ≡ true → connections ≤ LINKS_MOST }
     ensures many { result ≡ false → LINKS_MOST < connections }
@@ -309,9 +310,9 @@ fn are_kept(connections: u32) -> bool
     connections <= LINKS_MOST
 }
 
-// Serves the connections that the acceptor hands out, as many as the plan says, over one broker,
-// and then writes what there was of them: the audit text where the plan asks for it, and else the
-// line of the counts. Where memory lacked before the first connection nothing is written.
+// Serves the connections that the acceptor hands out, as many as the plan says, over one broker.
+// Then it writes the audit text if the plan asks for it, and the line of counts if not. If memory
+// lacked before the first connection, it writes nothing.
 pub(crate) fn serve_plan<
     D: Device + Send,
     A: Acceptor + Send,

@@ -114,7 +114,7 @@ impl Persist {
         self.owner_auth.as_slice()
     }
 
-    /// The NV index with this handle; nothing where it isn't defined.
+    /// The NV index with this handle; `None` if it isn't defined.
     pub fn index(&self, index: u32) -> Option<&NvIndex>
         ensures item { MatchOption result (index_in index self.now.nv ≡ None)
             (λ item. index_in index self.now.nv ≡ Some (nv_index_of item.now)) }

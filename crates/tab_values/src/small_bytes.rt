@@ -31,7 +31,7 @@ impl<const N: usize> SmallBytes<N> {
         }
     }
 
-    /// These bytes; nothing where they are more than N.
+    /// These bytes; `None` if they are more than N.
     pub fn of(bytes: &[u8]) -> Option<SmallBytes<N>>
         ensures { MatchOption result (N < length bytes.now)
             (λ o. (length bytes.now ≤ N) × (o ≡ bytes.now)) }
@@ -65,7 +65,7 @@ impl<const N: usize> SmallBytes<N> {
         &self.bytes[..self.len]
     }
 
-    /// So many zeros; nothing where they are more than N.
+    /// So many zeros; `None` if they are more than N.
     pub fn zeros(len: usize) -> Option<SmallBytes<N>>
         ensures { MatchOption result (N < len) (λ o. (len ≤ N) × (o ≡ replicate len 0)) }
     {

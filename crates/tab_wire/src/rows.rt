@@ -10,8 +10,8 @@ use tab_spec::{
     CC_SELF_TEST, CC_START_AUTH_SESSION, CC_STARTUP, CC_UNSEAL, CommandRow, Kind,
 };
 
-/// What is fixed for a command code (Part 3, the table of each command); nothing where the profile
-/// has no such command.
+/// What is fixed for a command code (Part 3, the table of each command); `None` if the profile has
+/// no such command.
 pub fn row_of(code: u32) -> Option<CommandRow>
     ensures value { result ≡ row_of code }
     ensures known { IfSome result (λ row. row_of row.code ≡ Some row) }

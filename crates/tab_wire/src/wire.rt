@@ -69,7 +69,7 @@ pub fn reported_code(response: &[u8]) -> u32
     code_of(response)
 }
 
-/// Writes the response of ten bytes that tells an error, over whatever the buffer holds.
+/// Overwrites the buffer with the response of ten bytes that reports an error.
 pub fn error_reply(code: u32, reply: &mut Buffer)
     ensures { reply.new ≡ error_reply code }
 {
@@ -102,8 +102,8 @@ pub fn end_response(reply: &mut Buffer)
     reply.set_u32(2, size);
 }
 
-/// The handle of a response that has one (Part 1, "Response Handle Area"): bytes 10 to 13; nothing
-/// where there are fewer than 14 bytes.
+/// The handle of a response that has one (Part 1, "Response Handle Area"): bytes 10 to 13; `None`
+/// if there are fewer than 14 bytes.
 pub fn response_handle(bytes: &[u8]) -> Option<u32>
     ensures { result ≡ response_handle_of bytes.now }
 {

@@ -11,9 +11,9 @@ pub(crate) enum Target<S: Source, K: Sink> {
     Memory([u8; 32]),
     // Behind these two ends of a connection.
     Link(S, K),
-    // The same, where it is a TPM that needn't be of this project's profile.
+    // The same, for a TPM that needn't be of this project's profile.
     Tpm(S, K),
-    // Nowhere: nobody takes a connection to it.
+    // There is none: no connection to it is taken.
     Unreachable,
 }
 
@@ -26,7 +26,7 @@ impl<S: Source + Drop, K: Sink + Drop> Target<S, K> {
         }
     }
 
-    // The device, if it is used. Else a TPM is let alone, and a device in memory stands for it.
+    // The device, if it is used. If not, a TPM is let alone, and a device in memory stands for it.
     pub(crate) fn used_where(self, is_used: bool) -> Target<S, K>
         ensures used { IsTrue is_used → result ≡ self }
         ensures memory { (seed : List ℕ) → self ≡ targets.Memory seed → result ≡ self }

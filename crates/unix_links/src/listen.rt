@@ -45,7 +45,7 @@ pub struct UnixAcceptor<'a, R: Files + Net> {
     rt: &'a R,
     bound: Option<Bound<'a, R>>,
     faults: u64,
-    // Whether it was told that a stop is asked.
+    // Whether standard error has said that a stop is asked.
     is_stop_told: bool,
 }
 
@@ -122,7 +122,7 @@ impl<'a, R: Files + Net> UnixAcceptor<'a, R> {
 }
 
 impl<'a, R: Files + Net + Eprint> UnixAcceptor<'a, R> {
-    /// Where a stop is asked, tells so on standard error, unless that was told before.
+    /// Says on standard error that a stop is asked, if one is and that wasn't said before.
     pub fn tell_stop(&mut self)
         ensures { self.new ≡ self.old }
     {

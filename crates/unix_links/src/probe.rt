@@ -14,10 +14,9 @@ const FAMILY_BYTES: usize = 2;
 const MOST_PATH_BYTES: usize = 107;
 
 /// Whether no socket of any kind is bound any more to the socket file at this path. It asks by a
-/// datagram socket: the system refuses to connect it where no socket is bound, and has another
-/// error where one of another kind is. So nobody sees a connection, and a full queue keeps nobody
-/// waiting. Where the system doesn't say, as where it lets nobody write to the file, the answer is
-/// no.
+/// datagram socket: the system refuses to connect it if no socket is bound, and has another error
+/// if one of another kind is. So no one sees a connection, and a full queue doesn't keep it
+/// waiting. If the system doesn't say, as when it lets no one write to the file, the answer is no.
 pub(crate) fn is_left_over<N: Net>(_net: &N, path: &str) -> bool {
     match probe(path.as_bytes()) {
         Err(e) => e.kind() == ErrorKind::ConnectionRefused,

@@ -43,8 +43,8 @@ impl Readies for UnixStream {
     }
 }
 
-/// A prompt source over a stream. As a source it tells none of its bytes; to contracts it is the
-/// stream and its fault count. This project's own.
+/// A prompt source over a stream. As a source it shows none of its bytes; contracts see the stream
+/// and its fault count. This project's own.
 #[derive(Drop)]
 pub struct ReadySource<R: Readies + Drop> {
     stream: R,

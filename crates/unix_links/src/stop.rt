@@ -37,8 +37,8 @@ impl Closer {
         Closer { end: None }
     }
 
-    /// The acceptor accepts nobody more, also where it waits. Clients are refused once its `next`
-    /// has seen that.
+    /// The acceptor accepts no more connections, even if it waits for one. Clients are refused once
+    /// its `next` has seen that.
     pub fn close(&self) {
         if let Some(end) = &self.end {
             shutdown(end.as_raw_fd(), SHUT_WR);

@@ -30,8 +30,8 @@ pub trait Shuts {
     fn shut(&self);
 }
 
-/// A sink over a stream that is shut at the end. As a sink it tells none of its bytes; to contracts
-/// it is the stream and its fault count. This project's own.
+/// A sink over a stream that is shut at the end. As a sink it shows none of its bytes; contracts
+/// see the stream and its fault count. This project's own.
 #[derive(Drop)]
 pub struct ShutSink<W: Write + Shuts + Drop> {
     stream: StdSink<W>,

@@ -10,7 +10,7 @@ const ENFILE: i32 = 23;
 
 const ENOBUFS: i32 = 105;
 
-/// What the system lacks for the next connection, and whether that was told.
+/// What the system lacks for the next connection, and whether standard error has said so.
 #[derive(Drop)]
 pub(crate) struct Want {
     is_told: bool,
@@ -22,8 +22,8 @@ impl Want {
         Want { is_told: false }
     }
 
-    /// Tells this error on standard error, where none was told, and waits for a quarter of a
-    /// second. Where the error is no want that passes, it is handed back at once.
+    /// Reports this error on standard error, if none was reported, and waits for a quarter of a
+    /// second. If the error is no want that passes, it is handed back at once.
     pub(crate) fn wait_out<R: Clock + Eprint>(
         &mut self,
         rt: &R,

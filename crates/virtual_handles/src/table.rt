@@ -62,8 +62,8 @@ impl ClientTable {
         self.held
     }
 
-    /// The handle that a new object gets, the least that the client doesn't hold; nothing where it
-    /// has as many objects as it may.
+    /// The handle that a new object gets, the least that the client doesn't hold; `None` if it has
+    /// as many objects as it may.
     pub fn least(&self) -> Option<u32>
         ensures { result
             ≡ (if is_full self.now.items then None else Some (next_handle self.now.items)) }
@@ -102,14 +102,14 @@ impl ClientTable {
         TRANSIENT_FIRST + number as u32
     }
 
-    /// The item that stands for a handle; nothing where the client doesn't hold it.
+    /// The item that stands for a handle; `None` if the client doesn't hold it.
     pub fn find(&self, handle: u32) -> Option<u32>
         ensures { result ≡ held_under self.now.items handle }
     {
         item_under(&self.places, handle)
     }
 
-    /// Takes an object out, and gives its item; nothing where the client doesn't hold this handle.
+    /// Takes an object out, and returns its item; `None` if the client doesn't hold this handle.
     pub fn remove(&mut self, handle: u32) -> Option<u32>
         ensures item { result ≡ held_under self.old.items handle }
         ensures items { self.new.items ≡ without_handle self.old.items handle }

@@ -1,4 +1,4 @@
-//! A workload: the script that a number stands for, and what is told of its replies.
+//! A workload: the script that a number stands for, and the summary of its replies.
 #![tactic(auto)]
 
 mod commands;

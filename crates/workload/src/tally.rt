@@ -1,4 +1,4 @@
-// What is told of the replies of a workload.
+// The summary of the replies of a workload.
 ghost use Rattle.std.specs.Prelude.{◌≡◌, ◌≤◌, ◌<◌, ◌+◌, ◌++◌, ◌^◌, ◌∷◌, [], List, ℕ, Some, length};
 ghost use Rattle.std.specs.Prelude.{take};
 ghost use Rattle.std.specs.Fmt.{decimal};
@@ -56,9 +56,9 @@ impl Tally {
         }
     }
 
-    /// The line that tells how many lines a script has, how many replies were written, how many of
-    /// them have the code 0, how many entries the journal has, and the SHA-256 of all replies. It
-    /// has at most 181 bytes, its newline included.
+    /// The summary: how many lines a script has, how many replies were written, how many of them
+    /// have the code 0, how many entries the journal has, and the SHA-256 of all replies. It has at
+    /// most 181 bytes, its newline included.
     pub fn summary(self, lines: u32, entries: u64) -> SmallBytes<181>
         ensures { (replies : List Reply) → self ≡ reply_lines replies → HaveBytes replies
             → length replies < 2 ^ 64 → result ≡ summary_line lines replies entries }

@@ -13,7 +13,7 @@ use Rattle.tab_spec.specs.Object.{Object}
 use Rattle.tab_spec.specs.Values.{public_bytes, sized_bytes}
 use Rattle.tab_spec.specs.Examples.{area, bytes_of, extended_persist, frame, hmac_key, key_with, no_pcrs, no_secret, plain_auth, sealed, template, u32}
 
--- a world of so many clients that were opened, of which these are open
+-- a world in which so many clients were opened, and these are still open
 abbrev pub world_with : Persist → ℕ → List Client → World
 world_with persist opened clients =
     record {
@@ -112,7 +112,7 @@ first_nonce =
     0x76 ∷ 0xb8 ∷ 0xe0 ∷ 0xad ∷ 0xa0 ∷ 0xf1 ∷ 0x3d ∷ 0x90 ∷ 0x40 ∷ 0x5d ∷ 0x6a ∷ 0xe5 ∷ 0x53 ∷ 0x86 ∷ 0xbd ∷ 0x28
     ∷ 0xbd ∷ 0xd2 ∷ 0x19 ∷ 0xb8 ∷ 0xa0 ∷ 0x8d ∷ 0xed ∷ 0x1a ∷ 0xa8 ∷ 0x36 ∷ 0xef ∷ 0xcc ∷ 0x8b ∷ 0x77 ∷ 0x0d ∷ 0xc7 ∷ []
 
--- the reply that tells this handle and that nonce
+-- the reply with this handle and this nonce
 abbrev pub started_reply : ℕ → List ℕ
 started_reply handle = frame 0x8001 0 (u32 handle ++ 0 ∷ 32 ∷ first_nonce)
 
@@ -232,7 +232,7 @@ abbrev pub reply_in : Option (World × List ℕ) → List ℕ
 reply_in None = []
 reply_in (Some step) = step.1
 
--- the reply that tells a handle
+-- the reply with a handle
 abbrev pub handle_reply : ℕ → List ℕ
 handle_reply handle = frame 0x8001 0 (u32 handle)
 

@@ -36,8 +36,9 @@ pub record Client : Type 0 where
   pub number : ℕ
   pub objects : List (Option Object)
 
--- a session: whose it is, nobody's where its client left it; the first octet of its handle; what a device has of it; and where a
--- client saved it the context that was handed out for it. A session without one is in use; a left one has one
+-- a session: its client, none once that client left it; the first octet of its handle; what a
+-- device has of it; and, if a client saved it, the context that was handed out for it. A session
+-- without such a context is in use; a left one has one
 pub record Owned : Type 0 where
   pub client : Option ℕ
   pub octet : ℕ
@@ -159,7 +160,8 @@ saved_numbers client number [] = []
 saved_numbers client number (place ∷ places) =
     (if is_saved_by client place then number ∷ [] else []) ++ saved_numbers client (number + 1) places
 
--- what this client's close leaves of a place: its session in use goes, and one that it saved is nobody's
+-- what this client's close leaves of a place: its session in use goes, and one that it saved has no
+-- client any more
 abbrev pub left_place : ℕ → Option Owned → Option Owned
 left_place client None = None
 left_place client (Some place) =
@@ -227,7 +229,7 @@ choosing_sequence step picks.Nothing = None
 choosing_sequence step (picks.Session number) = None
 choosing_sequence step (picks.Sequence sequence) = step sequence
 
--- a new session under this number, and the response tells its handle
+-- a new session under this number; the response has its handle
 abbrev pub numbered_step : ℕ → ClientState → Session → List ℕ → ℕ → Option ClientStep
 numbered_step client state s reply number =
     let handle = kind_octet s.kind * 2 ^ 24 + number in
@@ -244,7 +246,8 @@ choosing_number client state s reply picks.Nothing = None
 choosing_number client state s reply (picks.Session number) = numbered_step client state s reply number
 choosing_number client state s reply (picks.Sequence number) = None
 
--- a new object gets the least number that is free, a new session the one that is picked, and the response tells the handle
+-- a new object gets the least number that is free, a new session the one that is picked; the
+-- response has the handle
 abbrev pub made_step : ℕ → ClientState → Created → List ℕ → Pick → Option ClientStep
 made_step client state nothing reply pick = choosing_nothing (state, reply) pick
 made_step client state (new_object o) reply pick =
