@@ -8,13 +8,14 @@ use Rattle.tab_spec.specs.Count.{Rose}
 use Rattle.history_spec.specs.Entry.{Entry, clients_of, close_entry, own}
 use Rattle.broker_lock.specs.Known.{Fixed, IsLegalOver, Origin, knows}
 use Rattle.broker_lock.specs.Pass.{PassView}
-use Rattle.broker_lock.specs.Pass.{Ends as EndsLock}
+use Rattle.broker_lock.specs.Pass.{PassEnds as EndsLock}
 use Rattle.broker_lock.proofs.Knowing.{own_none}
 use Rattle.cancel_words.specs.View.{WordView}
 use Rattle.connection_core.specs.declared.ends.Ending.{Ending}
 use Rattle.broker_lock.specs.Serves.{IsAnswered, IsFailed}
-use Rattle.connection_core.specs.Links.{AreEntriesFrom, IsCanceledUpTo, IsEntryOf}
-use Rattle.accept_loop.specs.Connections.{AreEnough, AreServed, Ends, HasClient, HasPerhapsClient}
+use Rattle.connection_core.specs.Links.{AreEntriesFrom, IsCanceledUpTo, IsCommandEntry}
+use Rattle.accept_loop.specs.Connections.{AreEnough, AreServed, ConnectionEnds, HasClient}
+use Rattle.accept_loop.specs.Connections.{HasPerhapsClient}
 use Rattle.accept_loop.specs.Connections.{HasServed, IsLink, IsLinkDone, client_of, is_of, links_of}
 use Rattle.accept_loop.specs.declared.serving.AcceptError.{AcceptError}
 use Rattle.accept_loop.specs.declared.serving.LinkDone.{LinkDone}
@@ -24,7 +25,7 @@ use Rattle.accept_loop.proofs.Present.{nobody_left, times_after, times_by, times
 
 -- ---- a client that was served is closed
 
-entry_keeps : (fixed : Fixed) (history : List Entry) (client number : ℕ) (command : List ℕ) (e : Entry) → IsEntryOf fixed history client number command e
+entry_keeps : (fixed : Fixed) (history : List Entry) (client number : ℕ) (command : List ℕ) (e : Entry) → IsCommandEntry fixed history client number command e
     → (count : ℕ) → times_by e.kind count ≡ count
 entry_keeps fixed history client number command e is count = by_cause is.cause
   where
@@ -43,7 +44,7 @@ entries_keep fixed history client number (command ∷ commands) entries (inr are
     ∙ ap (λ (n : ℕ). times_after n (are.1 ++ more)) (entry_keeps fixed history client number command are.0 are.3 count)
     ∙ entries_keep fixed history client (number + 1) commands are.1 are.4 count more
 
-pub client_left : (fixed : Fixed) (wrong : Bool) (history : List Entry) (given left : Ends) (client done : ℕ) (ending : Ending) (word : Option WordView) → HasClient fixed wrong history given left client done ending word
+pub client_left : (fixed : Fixed) (wrong : Bool) (history : List Entry) (given left : ConnectionEnds) (client done : ℕ) (ending : Ending) (word : Option WordView) → HasClient fixed wrong history given left client done ending word
     → times_after 0 (own history client) ≡ 0
 client_left fixed wrong history given left client done ending word is =
     ap (λ (l : List Entry). times_after 0 l) is.own_is
@@ -53,7 +54,7 @@ pub is_this : (client : ℕ) (found : Option ℕ) → is_of client found ≡ tru
 is_this client None is = absurd (true≢false (sym is))
 is_this client (Some other) is = ap Some (eqb-true other client is)
 
-module _ {L M : Type 0} (g : L → Ends) (k : M → Ends) (client_of : M → Option ℕ) (done_of : M → ℕ) (ending_of : M → Ending) (word_of : M → Option WordView) where
+module _ {L M : Type 0} (g : L → ConnectionEnds) (k : M → ConnectionEnds) (client_of : M → Option ℕ) (done_of : M → ℕ) (ending_of : M → Ending) (word_of : M → Option WordView) where
   abbrev is_link_of : Fixed → (wrong : Bool) → List Entry → L → M → Type 0
   is_link_of fixed wrong history given link = IsLink fixed wrong history (g given) (k link) (client_of link) (done_of link) (ending_of link) (word_of link)
 

@@ -11,7 +11,7 @@ use Rattle.link_port.specs.Port.{Accepted}
 use Rattle.history_spec.specs.declared.EntryKind.{EntryKind}
 use Rattle.history_spec.specs.declared.EntryKind.TheVariants.{Open, Command, Canceled, Fault, Close}
 use Rattle.history_spec.specs.Entry.{Clients, Entry, HasRoomForClient, clients_by, clients_from, clients_of, close_entry, kept_by, open_entry, opened_by, own}
-use Rattle.broker_lock.specs.Known.{Fixed, IsLegalOver, IsOwn, Origin, knows}
+use Rattle.broker_lock.specs.Known.{Fixed, HasJustKnown, IsLegalOver, Origin, knows}
 use Rattle.broker_lock.specs.Pass.{IsLonger, Joins, PassView}
 use Rattle.broker_lock.proofs.Knowing.{filter-weaker, knows-append, knows_its_own, knows_none, knows_same, none_of_known, own-append, own_rest}
 use Rattle.cancel_words.specs.View.{WordView}
@@ -23,7 +23,7 @@ use Rattle.connection_core.proofs.Covering.{canceled_by}
 use Rattle.connection_core.proofs.Entering.{entries_on, goes_on_none, opened_on}
 use Rattle.connection_core.proofs.Serving.{ends_stay}
 use Rattle.connection_core.proofs.Telling.{decide_stay, reserved_grows}
-use Rattle.accept_loop.specs.Connections.{AreEnough, AreFirst, Ends, HasClient, HasPerhapsClient, IsLink, Lacks, is_of, links_of}
+use Rattle.accept_loop.specs.Connections.{AreEnough, AreFirst, ConnectionEnds, HasClient, HasPerhapsClient, IsLink, Lacks, is_of, links_of}
 use Rattle.accept_loop.specs.Passes.{Comes, EndsWith, ServesAll}
 
 -- ---- a front of the history
@@ -45,7 +45,7 @@ longer_legal legal base one other longer (inr is) first second = subst (IsLegalO
 
 -- ---- a connection by a front of the history is one by all of it
 
-client_stays : (fixed : Fixed) (wrong new_wrong : Bool) (front more : List Entry) (given left : Ends) (client done : ℕ) (ending : Ending) (word : Option WordView) → (wrong ≡ true → new_wrong ≡ true) → own more client ≡ []
+client_stays : (fixed : Fixed) (wrong new_wrong : Bool) (front more : List Entry) (given left : ConnectionEnds) (client done : ℕ) (ending : Ending) (word : Option WordView) → (wrong ≡ true → new_wrong ≡ true) → own more client ≡ []
     → HasClient fixed wrong front given left client done ending word → HasClient fixed new_wrong (front ++ more) given left client done ending word
 client_stays fixed wrong new_wrong front more given left client done ending word rises none is =
     let seat_stays : IsSeatOf (front ++ more) client done is.ran.taken is.seat = record {
@@ -107,7 +107,7 @@ lacks_stays (endings.JournalFull count limit) fixed wrong new_wrong front more r
     (λ room. is.0 (room_before fixed.limit front more room), omega (arith, is.1, sum_by-append kept_by front more), is.2)
 lacks_stays endings.Answer fixed wrong new_wrong front more rises is = (is.0, rises is.1)
 
-pub link_stays : (fixed : Fixed) (wrong new_wrong : Bool) (front more : List Entry) (given left : Ends) (client : Option ℕ) (done : ℕ) (ending : Ending) (word : Option WordView) → (wrong ≡ true → new_wrong ≡ true) → ((c : ℕ) → client ≡ Some c → own more c ≡ [])
+pub link_stays : (fixed : Fixed) (wrong new_wrong : Bool) (front more : List Entry) (given left : ConnectionEnds) (client : Option ℕ) (done : ℕ) (ending : Ending) (word : Option WordView) → (wrong ≡ true → new_wrong ≡ true) → ((c : ℕ) → client ≡ Some c → own more c ≡ [])
     → IsLink fixed wrong front given left client done ending word → IsLink fixed new_wrong (front ++ more) given left client done ending word
 link_stays fixed wrong new_wrong front more given left None done ending word rises none is = record {
   ended = record { done_is = is.ended.done_is; same = is.ended.same; no_word = is.ended.no_word; cause = lacks_stays ending fixed wrong new_wrong front more rises is.ended.cause };
@@ -130,7 +130,7 @@ links-cons client_of client link links = sum_by-cons (λ l. as_count (is_of clie
 pub of_itself : (client : ℕ) (found : Option ℕ) → found ≡ Some client → is_of client found ≡ true
 of_itself client found is = ap (is_of client) is ∙ eq-eqb client client refl
 
-module _ {L M : Type 0} (g : L → Ends) (k : M → Ends) (client_of : M → Option ℕ) (done_of : M → ℕ) (ending_of : M → Ending) (word_of : M → Option WordView) where
+module _ {L M : Type 0} (g : L → ConnectionEnds) (k : M → ConnectionEnds) (client_of : M → Option ℕ) (done_of : M → ℕ) (ending_of : M → Ending) (word_of : M → Option WordView) where
   abbrev pub is_linked : PassView → L → M → Type 0
   is_linked pass given link = IsLink pass.fixed pass.wrong pass.front (g given) (k link) (client_of link) (done_of link) (ending_of link) (word_of link)
 
@@ -171,7 +171,7 @@ knows_this client other pass entries known own_is false is =
     knows_none other pass.known (ap (λ (l : List Entry). own l other) (sym own_is)
     ∙ others_of client other pass.front (λ same. true≢false (sym (eq-eqb client other same) ∙ is)))
 
-pub knows_link : (legal : Origin → List Entry → Type 0) (other : ℕ) (client : Option ℕ) (pass : PassView) (given left : Ends) (done : ℕ) (ending : Ending) (word : Option WordView) → EndsWith legal client pass given left done ending word → knows pass.known other ≡ is_of other client
+pub knows_link : (legal : Origin → List Entry → Type 0) (other : ℕ) (client : Option ℕ) (pass : PassView) (given left : ConnectionEnds) (done : ℕ) (ending : Ending) (word : Option WordView) → EndsWith legal client pass given left done ending word → knows pass.known other ≡ is_of other client
 knows_link legal other None pass given left done ending word is = ap (λ (l : List Entry). knows l other) is.0.nobody
 knows_link legal other (Some client) pass given left done ending word is = knows_this client other pass is.entries is.known is.own_is (client == other) refl
 
@@ -206,12 +206,12 @@ lacks_by endings.Memory pass is = is
 lacks_by (endings.JournalFull count limit) pass is = (is.0, omega (arith, is.1), is.2)
 lacks_by endings.Answer pass is = is
 
-pub ended_by : (legal : Origin → List Entry → Type 0) (client : Option ℕ) (pass : PassView) (given left : Ends) (done : ℕ) (ending : Ending) (word : Option WordView) → EndsWith legal client pass given left done ending word
+pub ended_by : (legal : Origin → List Entry → Type 0) (client : Option ℕ) (pass : PassView) (given left : ConnectionEnds) (done : ℕ) (ending : Ending) (word : Option WordView) → EndsWith legal client pass given left done ending word
     → HasPerhapsClient client pass.fixed pass.wrong pass.front given left done ending word
 ended_by legal None pass given left done ending word is = record { done_is = is.0.done_is; same = is.1; no_word = is.2; cause = lacks_by ending pass is.0.refuses }
 ended_by legal (Some client) pass given left done ending word is = record { entries = is.entries; seat = is.seat; own_is = is.own_is ∙ is.known; opened = is.opened; word_is = is.word_is; ran = is.ran }
 
-pub own_link : (legal : Origin → List Entry → Type 0) (client : Option ℕ) (pass : PassView) (given left : Ends) (done : ℕ) (ending : Ending) (word : Option WordView) → EndsWith legal client pass given left done ending word → IsOwn pass.known pass.front
+pub own_link : (legal : Origin → List Entry → Type 0) (client : Option ℕ) (pass : PassView) (given left : ConnectionEnds) (done : ℕ) (ending : Ending) (word : Option WordView) → EndsWith legal client pass given left done ending word → HasJustKnown pass.known pass.front
 own_link legal None pass given left done ending word is = λ other known. absurd (true≢false (sym known ∙ knows_link legal other None pass given left done ending word is))
 own_link legal (Some client) pass given left done ending word is = λ other known.
     let same : client ≡ other = eqb-true client other (sym (knows_link legal other (Some client) pass given left done ending word is) ∙ known) in
@@ -265,7 +265,7 @@ joined_goes_on {legal = legal} old rest ended new some one other joins = record 
   stays_legal = λ was. longer_legal legal old.fixed.base rest.front ended.front new.front joins.front (one.stays_legal was) (other.stays_legal was);
 }
 
-module _ {L M : Type 0} (g : L → Ends) (k : M → Ends) (client_of : M → Option ℕ) (done_of : M → ℕ) (ending_of : M → Ending) (word_of : M → Option WordView) where
+module _ {L M : Type 0} (g : L → ConnectionEnds) (k : M → ConnectionEnds) (client_of : M → Option ℕ) (done_of : M → ℕ) (ending_of : M → Ending) (word_of : M → Option WordView) where
   -- connections by a pass that is joined with another
   moved : (old new : PassView) (accepted : List L) (links : List M) → IsPrefix old.front new.front → new.fixed ≡ old.fixed → (old.wrong ≡ true → new.wrong ≡ true) → ((c : ℕ) → 1 ≤ links_of client_of c links → own new.front c ≡ own old.front c)
       → AllZip (is_linked g k client_of done_of ending_of word_of old) accepted links → AllZip (is_linked g k client_of done_of ending_of word_of new) accepted links

@@ -9,7 +9,7 @@ use Rattle.broker_lock.specs.Known.{Fixed, IsLegalOver, IsUntold, Origin, knows}
 use Rattle.cancel_words.specs.View.{WordView}
 use Rattle.connection_core.specs.declared.ends.Ending.{Ending}
 use Rattle.connection_core.specs.declared.ends.Ending.TheVariants as endings
-use Rattle.connection_core.specs.Links.{HasCause, IsOpenedIn, Ran}
+use Rattle.connection_core.specs.Links.{HasEndingCause, IsOpenedIn, RanLink}
 use Rattle.accept_loop.specs.declared.serving.AcceptError.{AcceptError}
 use Rattle.accept_loop.specs.declared.serving.AcceptError.TheVariants as errors
 use Rattle.accept_loop.specs.declared.serving.LinkDone.{LinkDone}
@@ -17,26 +17,26 @@ use Rattle.accept_loop.specs.declared.serving.LinkDone.{LinkDone}
 -- ---- one connection
 
 -- what a connection's two ends tell
-pub record Ends : Type 0 where
+pub record ConnectionEnds : Type 0 where
   pub left : Option (List ℕ)
   pub written : Option (List ℕ)
   pub source_faults : ℕ
   pub sink_faults : ℕ
 
-abbrev pub ends_of : {S K : Type 0} → (S → Option (List ℕ)) → (K → Option (List ℕ)) → (S → ℕ) → (K → ℕ) → S → K → Ends
+abbrev pub ends_of : {S K : Type 0} → (S → Option (List ℕ)) → (K → Option (List ℕ)) → (S → ℕ) → (K → ℕ) → S → K → ConnectionEnds
 ends_of left written source_faults sink_faults source sink =
     record { left = left source; written = written sink; source_faults = source_faults source; sink_faults = sink_faults sink }
 
 -- a connection that has a client: the journal has the client's opening, the entries of its commands and its close, and no
 -- other entry of it
-pub record HasClient (fixed : Fixed) (wrong : Bool) (journal : List Entry) (given left : Ends) (client done : ℕ) (ending : Ending) (word : Option WordView) : Type 0 where
+pub record HasClient (fixed : Fixed) (wrong : Bool) (journal : List Entry) (given left : ConnectionEnds) (client done : ℕ) (ending : Ending) (word : Option WordView) : Type 0 where
   pub entries : List Entry
   -- what the seat of its cancel word holds
   pub seat : WordView
   pub own_is : own journal client ≡ (open_entry client ∷ entries) ++ close_entry client ∷ []
   pub opened : IsOpenedIn fixed.limit journal client
   pub word_is : word ≡ Some seat
-  pub ran : Ran ending fixed wrong journal client done entries given.left left.left given.written left.written seat
+  pub ran : RanLink ending fixed wrong journal client done entries given.left left.left given.written left.written seat
 
 -- why a connection has no client
 abbrev pub Lacks : Ending → Fixed → (wrong : Bool) → List Entry → Type 0
@@ -49,20 +49,20 @@ Lacks (endings.JournalFull count limit) fixed wrong journal = (HasRoomForClient 
 Lacks endings.Answer fixed wrong journal = IsUntold fixed × (wrong ≡ true)
 
 -- one that has none: nothing was taken, run or written
-pub record HasNoClient (fixed : Fixed) (wrong : Bool) (journal : List Entry) (given left : Ends) (done : ℕ) (ending : Ending) (word : Option WordView) : Type 0 where
+pub record HasNoClient (fixed : Fixed) (wrong : Bool) (journal : List Entry) (given left : ConnectionEnds) (done : ℕ) (ending : Ending) (word : Option WordView) : Type 0 where
   pub done_is : done ≡ 0
   pub same : left ≡ given
   pub no_word : word ≡ None
   pub cause : Lacks ending fixed wrong journal
 
-abbrev pub HasPerhapsClient : Option ℕ → Fixed → (wrong : Bool) → List Entry → (given left : Ends) (done : ℕ) → Ending → Option WordView → Type 0
+abbrev pub HasPerhapsClient : Option ℕ → Fixed → (wrong : Bool) → List Entry → (given left : ConnectionEnds) (done : ℕ) → Ending → Option WordView → Type 0
 HasPerhapsClient (Some client) fixed wrong journal given left done ending word = HasClient fixed wrong journal given left client done ending word
 HasPerhapsClient None fixed wrong journal given left done ending word = HasNoClient fixed wrong journal given left done ending word
 
 -- what became of a connection. `wrong` is whether the device gave a wrong answer
-pub record IsLink (fixed : Fixed) (wrong : Bool) (journal : List Entry) (given left : Ends) (client : Option ℕ) (done : ℕ) (ending : Ending) (word : Option WordView) : Type 0 where
+pub record IsLink (fixed : Fixed) (wrong : Bool) (journal : List Entry) (given left : ConnectionEnds) (client : Option ℕ) (done : ℕ) (ending : Ending) (word : Option WordView) : Type 0 where
   pub ended : HasPerhapsClient client fixed wrong journal given left done ending word
-  pub cause : HasCause ending given.source_faults left.source_faults given.sink_faults left.sink_faults
+  pub cause : HasEndingCause ending given.source_faults left.source_faults given.sink_faults left.sink_faults
 
 -- the same by what its two ends tell, as they were accepted and as they were left
 abbrev pub IsLinkDone : {S K : Type 0} → (left : S → Option (List ℕ))

@@ -3,26 +3,27 @@ use Rattle.std.specs.Prelude.{◌≡◌, ◌<◌, ◌≤◌, ℕ, List, [], Opti
 use Rattle.atomic_table.specs.Seated.{TableId}
 use Rattle.tab_spec.specs.Count.{Rose}
 use Rattle.history_spec.specs.Entry.{Entry}
-use Rattle.broker_lock.specs.Known.{IsOwn, Origin}
+use Rattle.broker_lock.specs.Known.{HasJustKnown, Origin}
 use Rattle.broker_lock.specs.Pass.{PassView}
 use Rattle.cancel_words.specs.View.{WordView}
 use Rattle.connection_core.specs.declared.ends.Ending.{Ending}
-use Rattle.connection_core.specs.Links.{HasCause, IsClosed, IsRefused}
+use Rattle.connection_core.specs.Links.{HasEndingCause, IsClosedLink, IsOpeningRefused}
 use Rattle.connection_core.specs.Turns.{GoesOn}
-use Rattle.accept_loop.specs.Connections.{AreEnough, AreServed, Ends, IsLinkDone, client_of}
+use Rattle.accept_loop.specs.Connections.{AreEnough, AreServed, ConnectionEnds, IsLinkDone}
+use Rattle.accept_loop.specs.Connections.{client_of}
 use Rattle.accept_loop.specs.Connections.{ends_of}
 use Rattle.accept_loop.specs.declared.serving.LinkDone.{LinkDone}
 
 -- with a client, or without one
-abbrev pub EndsWith : (legal : Origin → List Entry → Type 0) → Option ℕ → PassView → (given left : Ends) (done : ℕ) → Ending → Option WordView → Type 0
-EndsWith legal (Some client) pass given left done ending word = IsClosed legal ending pass client done given.left left.left given.written left.written word
-EndsWith legal None pass given left done ending word = IsRefused ending pass done × (left ≡ given) × (word ≡ None)
+abbrev pub EndsWith : (legal : Origin → List Entry → Type 0) → Option ℕ → PassView → (given left : ConnectionEnds) (done : ℕ) → Ending → Option WordView → Type 0
+EndsWith legal (Some client) pass given left done ending word = IsClosedLink legal ending pass client done given.left left.left given.written left.written word
+EndsWith legal None pass given left done ending word = IsOpeningRefused ending pass done × (left ≡ given) × (word ≡ None)
 
 -- a connection that was served with this pass
-pub record Comes (legal : Origin → List Entry → Type 0) (old new : PassView) (given left : Ends) (client : Option ℕ) (done : ℕ) (ending : Ending) (word : Option WordView) : Type 0 where
+pub record Comes (legal : Origin → List Entry → Type 0) (old new : PassView) (given left : ConnectionEnds) (client : Option ℕ) (done : ℕ) (ending : Ending) (word : Option WordView) : Type 0 where
   pub goes_on : GoesOn legal old new
   pub ended : EndsWith legal client new given left done ending word
-  pub cause : HasCause ending given.source_faults left.source_faults given.sink_faults left.sink_faults
+  pub cause : HasEndingCause ending given.source_faults left.source_faults given.sink_faults left.sink_faults
 
 -- the same by what its two ends tell
 abbrev pub ComesTo : {S K : Type 0} → (legal : Origin → List Entry → Type 0)
@@ -46,7 +47,7 @@ pub record HasRoomForLinks {M : Type 0} (lock : TableId) (most : ℕ) (pass : Pa
 pub record ServesAll {L M X E : Type 0} (legal : Origin → List Entry → Type 0) (is_link : PassView → L → M → Type 0) (client_of : M → Option ℕ) (old new : PassView) (coming coming_new : Option (List L)) (faults faults_new most : ℕ)
     (accepted : Result X E) (links : List M) : Type 0 where
   pub goes_on : GoesOn legal old new
-  pub own : IsOwn new.known new.front
+  pub own : HasJustKnown new.known new.front
   pub served : AreServed (is_link new) client_of new.known coming coming_new most links
   pub enough : OnOk accepted (AreEnough most coming_new links)
   pub quiet : OnOk accepted (faults_new ≡ faults)

@@ -18,7 +18,7 @@ use Rattle.session_swap.specs.Items.{no_items, place_at}
 use Rattle.client_machine.specs.declared.held.Held.{Held}
 use Rattle.device_port.specs.Device.{Seen, asked_of, last_of}
 use Rattle.device_start.specs.Start.{Attempts, ClearedIf, HoldsNoMoreIf, IsCleared}
-use Rattle.broker_core.specs.Broker.{Holds, IsAtBase, StandsFor}
+use Rattle.broker_core.specs.Broker.{Holds, IsAtBase, StandsAfterIf}
 use Rattle.client_machine.specs.Moves.{Keeps}
 use Rattle.client_machine.specs.Settled.{IsSettled, sessions_in}
 use Rattle.client_machine.specs.Tables.{AreOpenOwners}
@@ -113,7 +113,7 @@ settled_empty slots numbers next started sound are empty =
 -- ---- the start
 
 stands_begun : {contexts : ContextLimits} (base : Option Persist) (old new : Option SlotState) (numbers : Numbers) (next : ℕ) → is_some old ≡ is_some new → IsAtBase base old → ClearedIf old new
-    → IfSome old (λ slots. slots.numbers ≡ numbers) → StandsFor base new [] [] (held_nothing contexts numbers next)
+    → IfSome old (λ slots. slots.numbers ≡ numbers) → StandsAfterIf base new [] [] (held_nothing contexts numbers next)
 stands_begun base None new numbers next same at_base clears own b slots is_base is_state = absurd (let some : is_some new ≡ true = ap is_some is_state in cc)
 stands_begun base (Some s) new numbers next same at_base clears own b slots is_base is_state =
     let (after, after_is, begun) = clears s refl in
@@ -146,7 +146,7 @@ holds_nothing : {contexts : ContextLimits} (began : ℕ) (base : Option Persist)
     → is_some old ≡ is_some new.state → IsAtBase base old → ClearedIf old new.state → new.base ≡ base → began ≤ new.faults → IsRight contexts (asked_of new) (last_of new)
     → limit ≤ SILENT_LIMIT → AreInRange numbers → IfSome old (λ slots. slots.numbers ≡ numbers) → Holds contexts began new [] limit [] [] (held_nothing contexts numbers next) 0 None
 holds_nothing {contexts = contexts} began base old new limit numbers next same at_base clears base_same risen right most range own = record {
-  stands = subst (λ (b : Option Persist). StandsFor b new.state [] [] (held_nothing contexts numbers next)) (sym base_same) (stands_begun base old new.state numbers next same at_base clears own);
+  stands = subst (λ (b : Option Persist). StandsAfterIf b new.state [] [] (held_nothing contexts numbers next)) (sym base_same) (stands_begun base old new.state numbers next same at_base clears own);
   journal = record {
     counts = tt;
     whole = tt;

@@ -16,9 +16,9 @@ use Rattle.world_spec.specs.World.{closed_world, world_of}
 use Rattle.world_laws.proofs.Clients.{once}
 use Rattle.world_laws.proofs.Histories.{clients_of-push, world_of-push}
 use Rattle.client_machine.specs.declared.held.Held.{Held}
-use Rattle.broker_core.specs.Broker.{BrokerView, HeldHolds, Holds, JournalHolds, StandsFor, times_open}
+use Rattle.broker_core.specs.Broker.{BrokerView, HeldHolds, Holds, JournalHolds, StandsAfterIf, times_open}
 use Rattle.client_machine.specs.Dropping.{Drops, LeavesMore, LeavesThem, SendsFlushes}
-use Rattle.client_machine.specs.Moves.{CountsOn, CountsOnBy, MayMove, StaysFor}
+use Rattle.client_machine.specs.Moves.{CountsOn, CountsOnBy, MayBegin, StaysFor}
 use Rattle.client_machine.specs.Settled.{orphan_count}
 use Rattle.client_machine.specs.Tables.{AreOpenOwners}
 use Rattle.broker_core.specs.Tables.{TablesStand, list_of}
@@ -46,10 +46,10 @@ counts_on old new counts = record {
 }
 
 stands_closed : {contexts : ContextLimits} {D : Type 0} (seen : D → Seen) {device new : D} (history : Entries) (tables : List (List (Option ℕ))) {held new_held : Held}
-    {owners : List (Option ℕ)} (client failed : ℕ) → StandsFor (seen device).base (seen device).state history tables held → TablesStand (clients_of history).present tables held.objects.items
+    {owners : List (Option ℕ)} (client failed : ℕ) → StandsAfterIf (seen device).base (seen device).state history tables held → TablesStand (clients_of history).present tables held.objects.items
     → length held.sessions.left ≤ leave_limit held.sessions.numbers.active → IsOpen history client → client < length tables → times_open client (clients_of history).present ≤ 1
     → Drops contexts seen client device new held new_held owners failed → list_any (is_owned client) new_held.sessions.items ≡ false
-    → StandsFor (seen new).base (seen new).state (history ++ close_entry client ∷ []) (set tables client []) new_held
+    → StandsAfterIf (seen new).base (seen new).state (history ++ close_entry client ∷ []) (set tables client []) new_held
 stands_closed seen {device = device} {new = new} history tables {held} {new_held} {owners} client failed stands tables_stand few opened inside one drops none = λ b after is_base is_after.
     let before = told_before (seen device).state (seen new).state after drops.keeps.tells is_after in
     let slots = before.0 in
@@ -182,7 +182,7 @@ holds_closed_after {began = began} {seen = seen} {history = history} {wrong_code
 -- what a close may begin with
 pub moves_same : {contexts : ContextLimits} {D : Type 0} (seen : D → Seen) (device : D) {began : ℕ} {history : Entries} {limit : ℕ} {tables : List (List (Option ℕ))} {lists : List ℕ} {held : Held}
     {present : ℕ} {wrong_code : Option ℕ} → is_some (seen device).state ≡ is_some (seen device).base → Holds contexts began (seen device) history limit tables lists held present wrong_code
-    → MayMove 2000 contexts seen device held
+    → MayBegin 2000 contexts seen device held
 moves_same seen device {held = held} same h = moves_now seen device held.objects.items same h (inl refl) refl
 
 -- what is seen of a broker to which a wrong answer came, after a close
@@ -215,7 +215,7 @@ pub sent_from : {contexts : ContextLimits} {D : Type 0} {seen : D → Seen} {old
 sent_from {contexts = contexts} {D = D} {seen = seen} {device = device} {new_items = new_items}
     {wrong = wrong} is sent =
     subst (λ (v : BrokerView D). SendsFlushes contexts seen v.device device v.held.sessions.items
-        new_items wrong) is sent
+    new_items wrong) is sent
 
 -- nothing, after a wrong answer
 pub none_sent : {contexts : ContextLimits} {D : Type 0} (seen : D → Seen) (device : D)

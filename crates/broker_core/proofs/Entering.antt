@@ -28,7 +28,8 @@ use Rattle.history_spec.specs.Entry.{Entry, HasRoom, command_entry, fault_entry}
 use Rattle.broker_lock.specs.declared.calls.Told.{Told}
 use Rattle.broker_lock.specs.declared.calls.Told.TheVariants as tolds
 use Rattle.client_machine.specs.declared.held.Held.{Held}
-use Rattle.broker_core.specs.Broker.{BrokerView, IsEntered, Tells, TellsNoRoom, checked, Costs}
+use Rattle.broker_core.specs.Broker.{BrokerView, EntersCommand, BrokerTells, TellsNoRoom, checked}
+use Rattle.broker_core.specs.Broker.{Costs}
 use Rattle.client_machine.specs.Moves.{Executes, FailsAtLast, IsAtHand, IsCalm, IsFlushSent, KeepsOwners, UsedLast, moves_for, named_objects, places_needed, slots_of, any_client, client_reply, first_handle, flush_of, pick_of, tells_context, saved_number}
 use Rattle.client_machine.specs.Settled.{orphan_count}
 use Rattle.client_machine.specs.Tables.{device_handle, flush_fault_of, flush_sent, flush_sent_unless, flushed_handle, owned_handles, slot_handle, tables_had, tables_seen}
@@ -55,7 +56,7 @@ made_by contexts tables bytes a admitted makes = ap (λ (shape : Result Shape �
 
 -- a command that has no room for its entry changes nothing
 pub told_unentered : (contexts : ContextLimits) {D : Type 0} (seen : D → Seen) (told : Told) (old new : BrokerView D) (client number : ℕ) (bytes reply : List ℕ)
-    → TellsNoRoom told old.limit old.journal bytes reply → new ≡ old → Tells contexts seen told old new client number bytes reply
+    → TellsNoRoom told old.limit old.journal bytes reply → new ≡ old → BrokerTells contexts seen told old new client number bytes reply
 told_unentered contexts seen tolds.Entered old new client number bytes reply none same = absurd none
 told_unentered contexts seen tolds.Memory old new client number bytes reply none same = absurd none
 told_unentered contexts seen (tolds.JournalFull count most) old new client number bytes reply none same =
@@ -69,7 +70,7 @@ view_entered old journal limit e is_journal is_limit =
 
 pub entered_refused : {contexts : ContextLimits} {D : Type 0} (seen : D → Seen) (old new : BrokerView D) (client number : ℕ) (bytes reply : List ℕ) (code : ℕ)
     → checked contexts old client bytes ≡ Err code → reply ≡ error_reply code → HasRoom old.limit old.journal bytes
-    → new ≡ record old { journal = old.journal ++ command_entry client number Nothing bytes reply ∷ [] } → IsEntered contexts seen old new client number bytes reply
+    → new ≡ record old { journal = old.journal ++ command_entry client number Nothing bytes reply ∷ [] } → EntersCommand contexts seen old new client number bytes reply
 entered_refused seen old new client number bytes reply code refused is_reply room same = record {
   e = command_entry client number Nothing bytes reply;
   entered = ap (λ (v : _). v.journal) same;
@@ -84,7 +85,7 @@ pub entered_faulted : {contexts : ContextLimits} {D : Type 0} (seen : D → Seen
     → FailsAtLast contexts seen old.device new.device → new.tables ≡ old.tables
     → owned_handles new.held.sessions.items ≡ owned_handles old.held.sessions.items → new.held.sessions.left ≡ old.held.sessions.left
     → KeepsOwners any_client old.held.objects.items new.held.objects.items
-    → IsEntered contexts seen old new client number bytes reply
+    → EntersCommand contexts seen old new client number bytes reply
 entered_faulted seen old new client number count bytes reply a admitted is_reply is_count room entered failed sent tables sessions left objects = record {
   e = fault_entry client number count bytes reply;
   entered = entered;
@@ -105,9 +106,9 @@ entered_faulted seen old new client number count bytes reply a admitted is_reply
 }
 
 pub entered_seen : {contexts : ContextLimits} {D : Type 0} (seen : D → Seen) {old between new : BrokerView D} {client number : ℕ} {bytes reply : List ℕ} → old ≡ between
-    → IsEntered contexts seen old new client number bytes reply → IsEntered contexts seen between new client number bytes reply
+    → EntersCommand contexts seen old new client number bytes reply → EntersCommand contexts seen between new client number bytes reply
 entered_seen {contexts = contexts} seen {new = new} {client = client} {number = number} {bytes = bytes} {reply = reply} same entered =
-    subst (λ (v : _). IsEntered contexts seen v new client number bytes reply) same entered
+    subst (λ (v : _). EntersCommand contexts seen v new client number bytes reply) same entered
 
 -- ---- a vacant item more changes no handle
 
@@ -300,7 +301,7 @@ pub entered_carried : {contexts : ContextLimits} {D : Type 0} (seen : D → Seen
     → with_items old.held more ≡ roomier → table_of old.tables client ≡ table → new.tables ≡ set old.tables client new_table
     → Executes contexts seen client device new.device roomier new.held table new_table a bytes reply
     → (gap_kept roomier.sessions < renewal_gap roomier.sessions.numbers → StaysIn 1 1 (saved_number a) roomier new.held)
-    → IsEntered contexts seen old new client number bytes reply
+    → EntersCommand contexts seen old new client number bytes reply
 entered_carried {contexts = contexts} seen old new client number bytes reply a device more table new_table admitted room entered inside same are none is_held is tables carries stays =
     let own : table_of new.tables client ≡ new_table = ap (λ (t : List (List (Option ℕ))). table_of t client) tables ∙ table_own old.tables client new_table inside in
     record {

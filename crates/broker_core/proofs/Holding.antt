@@ -29,8 +29,8 @@ use Rattle.world_spec.specs.World.{World, after_step, client_step, opened_world,
 use Rattle.world_laws.proofs.Clients.{is_open}
 use Rattle.world_laws.proofs.Histories.{clients_of-push, legal-push, next_count, world_of-push}
 use Rattle.client_machine.specs.declared.held.Held.{Held}
-use Rattle.broker_core.specs.Broker.{FaultsCounted, HeldHolds, Holds, HoldsLeft, JournalHolds, StandsAfter, StandsFor}
-use Rattle.client_machine.specs.Moves.{CountsOn, KeepsObjectsOf, MayMove, Moves, Stays, StaysAs, StepsAs, client_state, other_than, IsFor, StaysFor}
+use Rattle.broker_core.specs.Broker.{FaultsCounted, HeldHolds, Holds, HoldsLeft, JournalHolds, StandsAfter, StandsAfterIf}
+use Rattle.client_machine.specs.Moves.{CountsOn, KeepsObjectsOf, MayBegin, Moves, Stays, StaysAs, StepsAs, client_state, other_than, IsFor, StaysFor}
 use Rattle.client_machine.specs.Settled.{IsSettled, Settled, orphan_count}
 use Rattle.broker_core.specs.Stands.{Stands, sequences_of}
 use Rattle.client_machine.specs.Tables.{AreOpenOwners, IsTable, tables_seen}
@@ -92,26 +92,26 @@ abbrev pub Entries : Type 0
 Entries = List Entry
 
 stands_with : (base : Option Persist) (state : Option SlotState) (history : Entries) (tables : List (List (Option ℕ))) (held : Held) (more : List Item) → AreMore held.objects.items more
-    → StandsFor base state history tables held → StandsFor base state history tables (with_items held more)
+    → StandsAfterIf base state history tables held → StandsAfterIf base state history tables (with_items held more)
 stands_with base state history tables held more are stands = λ b slots is_base is_state.
     let so_far = stands b slots is_base is_state in
     record { legal = so_far.legal; stands = more_stands (world_of b slots.numbers.active history) slots tables held more (length history) are so_far.stands }
 
 -- so a call may begin
 stands_settled : (base : Option Persist) (state : Option SlotState) (history : Entries) (tables : List (List (Option ℕ))) (held : Held) → is_some state ≡ is_some base
-    → StandsFor base state history tables held → Settled state held
+    → StandsAfterIf base state history tables held → Settled state held
 stands_settled base None history tables held same stands = tt
 stands_settled (Some b) (Some slots) history tables held same stands = (stands b slots refl refl).stands.settled
 stands_settled None (Some slots) history tables held same stands = absurd cc
 
 stands_objects : (base : Option Persist) (state : Option SlotState) (history : Entries) (tables : List (List (Option ℕ))) (held : Held) → is_some state ≡ is_some base
-    → StandsFor base state history tables held → length history ≤ 2 ^ 52 → objects.counter_of state + 2000 ≤ CONTEXT_LIMIT
+    → StandsAfterIf base state history tables held → length history ≤ 2 ^ 52 → objects.counter_of state + 2000 ≤ CONTEXT_LIMIT
 stands_objects base None history tables held same stands few = omega arith
 stands_objects (Some b) (Some slots) history tables held same stands few = omega (arith, (stands b slots refl refl).stands.object_counter, few)
 stands_objects None (Some slots) history tables held same stands few = absurd cc
 
 stands_sessions : (base : Option Persist) (state : Option SlotState) (history : Entries) (tables : List (List (Option ℕ))) (held : Held) → is_some state ≡ is_some base
-    → StandsFor base state history tables held → length history ≤ 2 ^ 52 → sessions.counter_of state + 2000 ≤ CONTEXT_LIMIT
+    → StandsAfterIf base state history tables held → length history ≤ 2 ^ 52 → sessions.counter_of state + 2000 ≤ CONTEXT_LIMIT
 stands_sessions base None history tables held same stands few = omega arith
 stands_sessions (Some b) (Some slots) history tables held same stands few = omega (arith, (stands b slots refl refl).stands.counter, few)
 stands_sessions None (Some slots) history tables held same stands few = absurd cc
@@ -125,9 +125,9 @@ pub slots_still : {slots new_slots : ℕ} {numbers new_numbers : Numbers} → ne
 slots_still same_slots same_numbers are = same_slots ∙ are ∙ ap (λ (n : Numbers). n.slots) (sym same_numbers)
 
 may_move : {contexts : ContextLimits} {D : Type 0} (seen : D → Seen) (device : D) (history : Entries) (tables : List (List (Option ℕ))) (held : Held) (more : List Item)
-    → is_some (seen device).state ≡ is_some (seen device).base → StandsFor (seen device).base (seen device).state history tables held → AreMore held.objects.items more
+    → is_some (seen device).state ≡ is_some (seen device).base → StandsAfterIf (seen device).base (seen device).state history tables held → AreMore held.objects.items more
     → length history ≤ 2 ^ 52 → held.objects.slots ≡ held.sessions.numbers.slots → AreInRange held.sessions.numbers → IsFor contexts held
-    → MayMove 2000 contexts seen device (with_items held more)
+    → MayBegin 2000 contexts seen device (with_items held more)
 may_move seen device history tables held more same stands are few slots_are range made_for = record {
   made_for = record { objects = made_for.objects; sessions = made_for.sessions };
   slots = slots_are;
@@ -159,10 +159,10 @@ stepped_by base history client number pick bytes reply world slots new tables ne
     new new_tables new_held (world_of-push base slots.numbers.active history e ∙ ap (after_step (world_of base slots.numbers.active history)) s.stepped) numbers s.stands
 
 stands_carried : {D : Type 0} {seen : D → Seen} {device new : D} (history : Entries) (tables : List (List (Option ℕ))) {held new_held : Held}
-    (client number : ℕ) (pick : Pick) {new_table : List (Option ℕ)} (bytes reply : List ℕ) → StandsFor (seen device).base (seen device).state history tables held → TablesStand (clients_of history).present tables held.objects.items
+    (client number : ℕ) (pick : Pick) {new_table : List (Option ℕ)} (bytes reply : List ℕ) → StandsAfterIf (seen device).base (seen device).state history tables held → TablesStand (clients_of history).present tables held.objects.items
     → IsOpen history client → client < length tables → IsNextNumber history client number → Moves seen client device new held new_held new_table
     → StepsAs (λ s. client_step client s bytes pick) (seen device).state (seen new).state held new_held (table_of tables client) new_table reply
-    → StandsFor (seen new).base (seen new).state (history ++ command_entry client number pick bytes reply ∷ []) (set tables client new_table) new_held
+    → StandsAfterIf (seen new).base (seen new).state (history ++ command_entry client number pick bytes reply ∷ []) (set tables client new_table) new_held
 stands_carried {seen = seen} {device = device} {new = new} history tables {held} {new_held} client number pick {new_table} bytes reply stands tables_stand opened inside next moves steps = λ b after is_base is_after.
     let before = told_before (seen device).state (seen new).state after moves.keeps.tells is_after in
     let slots = before.0 in
@@ -174,9 +174,9 @@ stands_carried {seen = seen} {device = device} {new = new} history tables {held}
     (others_in client (seen device).state (seen new).state slots after held.objects.items new_held.objects.items moves.other_objects before.1 is_after) ran.1 ran.2) moves.numbers
 
 stands_refused : (contexts : ContextLimits) (base : Option Persist) (state : Option SlotState) (history : Entries) (tables : List (List (Option ℕ))) (held : Held) (client number : ℕ) (bytes : List ℕ) (code : ℕ)
-    → StandsFor base state history tables held → TablesStand (clients_of history).present tables held.objects.items → IsOpen history client → IsNextNumber history client number
+    → StandsAfterIf base state history tables held → TablesStand (clients_of history).present tables held.objects.items → IsOpen history client → IsNextNumber history client number
     → client_admitted (tables_seen contexts client (table_of tables client) held.sessions.items) bytes ≡ Err code
-    → IsProfile contexts state → StandsFor base state (history ++ command_entry client number Nothing bytes (error_reply code) ∷ []) tables held
+    → IsProfile contexts state → StandsAfterIf base state (history ++ command_entry client number Nothing bytes (error_reply code) ∷ []) tables held
 stands_refused contexts base state history tables held client number bytes code stands tables_stand opened next refused profile = λ b slots is_base is_state.
     let here = profile_at contexts state slots profile is_state in
     let so_far = stands b slots is_base is_state in
@@ -185,8 +185,8 @@ stands_refused contexts base state history tables held client number bytes code 
     (subst (λ (c : ContextLimits). client_admitted (tables_seen c client (table_of tables client) held.sessions.items) bytes ≡ Err code) here refused)) refl
 
 stands_canceled : (base : Option Persist) (state : Option SlotState) (history : Entries) (tables : List (List (Option ℕ))) (held : Held) (client number upto : ℕ) (bytes : List ℕ)
-    → StandsFor base state history tables held → IsOpen history client → IsNextNumber history client number → number ≤ upto
-    → StandsFor base state (history ++ canceled_entry client number upto bytes (error_reply RC_CANCELED) ∷ []) tables held
+    → StandsAfterIf base state history tables held → IsOpen history client → IsNextNumber history client number → number ≤ upto
+    → StandsAfterIf base state (history ++ canceled_entry client number upto bytes (error_reply RC_CANCELED) ∷ []) tables held
 stands_canceled base state history tables held client number upto bytes stands opened next covers = λ b slots is_base is_state.
     let so_far = stands b slots is_base is_state in
     let e : Entry = canceled_entry client number upto bytes (error_reply RC_CANCELED) in
@@ -194,10 +194,10 @@ stands_canceled base state history tables held client number upto bytes stands o
     slots tables held (world_of-push b slots.numbers.active history e) refl (stands-longer (world_of b slots.numbers.active history) slots tables held (length history) so_far.stands)
 
 stands_faulted : {D : Type 0} {seen : D → Seen} {device new : D} (history : Entries) (tables : List (List (Option ℕ))) {held new_held : Held}
-    (client number : ℕ) {new_table : List (Option ℕ)} (bytes : List ℕ) → StandsFor (seen device).base (seen device).state history tables held → TablesStand (clients_of history).present tables held.objects.items
+    (client number : ℕ) {new_table : List (Option ℕ)} (bytes : List ℕ) → StandsAfterIf (seen device).base (seen device).state history tables held → TablesStand (clients_of history).present tables held.objects.items
     → IsOpen history client → IsNextNumber history client number → Moves seen client device new held new_held new_table
     → StaysAs (seen device).state (seen new).state held new_held (table_of tables client) → AllByRecursion (λ x. x.faults ≤ (seen device).faults) history → Rose (seen device).faults (seen new).faults
-    → StandsFor (seen new).base (seen new).state (history ++ fault_entry client number (seen new).faults bytes (error_reply RC_DEVICE_FAULT) ∷ []) tables new_held
+    → StandsAfterIf (seen new).base (seen new).state (history ++ fault_entry client number (seen new).faults bytes (error_reply RC_DEVICE_FAULT) ∷ []) tables new_held
 stands_faulted {seen = seen} {device = device} {new = new} history tables {held} {new_held} client number {new_table} bytes stands tables_stand opened next moves stays counts rose = λ b after is_base is_after.
     let before = told_before (seen device).state (seen new).state after moves.keeps.tells is_after in
     let slots = before.0 in
@@ -212,8 +212,8 @@ stands_faulted {seen = seen} {device = device} {new = new} history tables {held}
     (stays slots after (sequences_of (world_of b slots.numbers.active history)) before.1 is_after))
 
 stands_opened : (base : Option Persist) (state : Option SlotState) (history : Entries) (tables : List (List (Option ℕ))) (held : Held) (owners : List (Option ℕ)) (number : ℕ)
-    → number ≡ (clients_of history).opened → StandsFor base state history tables held
-    → StandsFor base state (history ++ open_entry number ∷ []) (tables ++ [] ∷ []) (with_owners held owners)
+    → number ≡ (clients_of history).opened → StandsAfterIf base state history tables held
+    → StandsAfterIf base state (history ++ open_entry number ∷ []) (tables ++ [] ∷ []) (with_owners held owners)
 stands_opened base state history tables held owners number is_next stands = λ b slots is_base is_state.
     let so_far = stands b slots is_base is_state in
     let e : Entry = open_entry number in
@@ -295,7 +295,7 @@ held_closed {began = began} {faults = faults} history tables held slots h none s
     }
 
 pub held_told : (began : ℕ) (base : Option Persist) (state : Option SlotState) (faults : ℕ) (history : Entries) (tables : List (List (Option ℕ))) {lists : List ℕ} (held : Held) (wrong_code : Option ℕ)
-    → is_some state ≡ is_some base → StandsFor base state history tables held → (wrong_code ≡ None → HeldHolds began faults history tables lists held) → (IsSome state → wrong_code ≡ None)
+    → is_some state ≡ is_some base → StandsAfterIf base state history tables held → (wrong_code ≡ None → HeldHolds began faults history tables lists held) → (IsSome state → wrong_code ≡ None)
     → AreNowhere held.objects.items → ListsThose is_left held.sessions.left held.sessions.items → (clients_of history).present ≡ []
     → IfSome state (λ slots. HoldsLeft began faults history slots held.sessions.left)
 held_told began base None faults history tables held wrong_code same stands holds taken nowhere listed none = tt
@@ -584,9 +584,9 @@ table_now {history = history} {tables = tables} {held = held} {wrong_code = wron
 
 pub moves_now : {contexts : ContextLimits} {D : Type 0} (seen : D → Seen) (device : D) {began : ℕ} {history : Entries} {limit : ℕ} {tables : List (List (Option ℕ))} {lists : List ℕ} {held roomier : Held}
     {present : ℕ} {wrong_code : Option ℕ} (more : List Item) → is_some (seen device).state ≡ is_some (seen device).base → Holds contexts began (seen device) history limit tables lists held present wrong_code
-    → AreMore held.objects.items more → with_items held more ≡ roomier → MayMove 2000 contexts seen device roomier
+    → AreMore held.objects.items more → with_items held more ≡ roomier → MayBegin 2000 contexts seen device roomier
 moves_now {contexts = contexts} seen device {history = history} {tables = tables} {held = held} more same h are is_held =
-    subst (λ (r : Held). MayMove 2000 contexts seen device r) is_held (may_move seen device history tables held more same h.stands are (few-entries h.journal) h.slots_are h.range h.made_for)
+    subst (λ (r : Held). MayBegin 2000 contexts seen device r) is_held (may_move seen device history tables held more same h.stands are (few-entries h.journal) h.slots_are h.range h.made_for)
 
 -- an item more, or none
 pub are_more : (items more : List Item) → (more ≡ items) ⊎ ((list_any is_vacant items ≡ false) × (more ≡ items ++ no_item ∷ [])) → AreMore items more

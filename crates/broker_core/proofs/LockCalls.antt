@@ -24,7 +24,7 @@ use Rattle.world_spec.specs.Legal.{Legal}
 use Rattle.client_machine.specs.declared.held.Held.{Held}
 use Rattle.client_machine.proofs.Settling.{some_same}
 use Rattle.broker_core.specs.Tables.{with_owners}
-use Rattle.broker_core.specs.Broker.{BrokerView, FaultsCounted, IsCarriedOut, IsFaulted, IsRefused, LegalOver, StandsFor, Tells, TellsLeft}
+use Rattle.broker_core.specs.Broker.{BrokerTells, BrokerView, FaultsCounted, IsCarriedOut, IsFaulted, IsRefused, LegalOver, StandsAfterIf, TellsLeft}
 
 -- ---- what a device tells
 
@@ -32,7 +32,7 @@ told_state : (state : Option SlotState) (base : Option Persist) (b : Persist) �
 told_state (Some slots) base b same is = (slots, refl)
 told_state None base b same is = absurd (let yes : is_some base ≡ true = ap is_some is in cc)
 
-pub legal_over : (base : Option Persist) (state : Option SlotState) (history : List Entry) (tables : List (List (Option ℕ))) (held : Held) → is_some state ≡ is_some base → StandsFor base state history tables held
+pub legal_over : (base : Option Persist) (state : Option SlotState) (history : List Entry) (tables : List (List (Option ℕ))) (held : Held) → is_some state ≡ is_some base → StandsAfterIf base state history tables held
     → IsLegalOver LegalOver (origin_of base held.sessions.numbers) history
 legal_over None state history tables held same stands = λ origin is. absurd cc
 legal_over (Some b) state history tables held same stands = λ origin is.
@@ -92,7 +92,7 @@ caused seen old new client number bytes e low counted (inr (inr carried)) = inl 
 
 pub tells : (contexts : ContextLimits) {D : Type 0} (seen : D → Seen) (base : Option Origin) (told : Told) (old new : BrokerView D) (client number : ℕ) (bytes reply : List ℕ)
     → old.began ≤ largest_count → FaultsCounted old.began (seen old.device).faults old.journal 0 → (told ≡ tolds.Answer → base ≡ None)
-    → Tells contexts seen told old new client number bytes reply → lock.Tells (fixed_of contexts base old) old.journal new.journal client number bytes reply told
+    → BrokerTells contexts seen told old new client number bytes reply → lock.Tells (fixed_of contexts base old) old.journal new.journal client number bytes reply told
 tells contexts {D = D} seen base tolds.Entered old new client number bytes reply low counted none is = record {
   e = is.e;
   entered = is.entered;

@@ -15,7 +15,7 @@ use Rattle.world_laws.proofs.Clients.{stay}
 use Rattle.world_laws.proofs.Histories.{each-weaker}
 use Rattle.client_machine.specs.Moves.{GainsNone, KeepsOwners, other_than}
 use Rattle.client_machine.proofs.Dropping.{no_table}
-use Rattle.client_machine.specs.Tables.{AreOpenOwners, IsOpenOwner, IsPlaceOf, IsTable, is_open, naming_in}
+use Rattle.client_machine.specs.Tables.{AreOpenOwners, IsOpenOwner, IsTable, IsTablePlace, is_open, naming_in}
 use Rattle.broker_core.specs.Tables.{TablesStand, table_of}
 
 -- ---- the table of a client
@@ -73,14 +73,14 @@ pub is_other : (client other : ℕ) → (client == other) ≡ false → other_th
 is_other client other apart = ap not (ne_eqb other client (λ same. eqb-false client other apart (sym same)))
 
 pub place_kept : (client other : ℕ) (items new_items : List Item) → KeepsOwners (other_than client) items new_items → (client == other) ≡ false → (place : Option ℕ)
-    → IsPlaceOf other items place → IsPlaceOf other new_items place
+    → IsTablePlace other items place → IsTablePlace other new_items place
 place_kept client other items new_items keeps apart None is = tt
 place_kept client other items new_items keeps apart (Some index) is = keeps index other is.0 is.1 (is_other client other apart)
 
 pub table_kept : (client other : ℕ) (items new_items : List Item) (table : List (Option ℕ)) → KeepsOwners (other_than client) items new_items
     → GainsNone (other_than client) items new_items → (client == other) ≡ false → IsTable items other table → IsTable new_items other table
 table_kept client other items new_items table keeps gained apart is = record {
-  named = each-weaker (λ place. IsPlaceOf other items place) (λ place. IsPlaceOf other new_items place) table
+  named = each-weaker (λ place. IsTablePlace other items place) (λ place. IsTablePlace other new_items place) table
       (place_kept client other items new_items keeps apart) is.named;
   apart = is.apart;
   all = λ index own. is.all index (gained index other own (is_other client other apart));
@@ -149,7 +149,7 @@ names_pushed items index names = record {
   there = ap is_vacant (item_pushed items index) ∙ names.there;
 }
 
-place_pushed : (items : List Item) (client : ℕ) (place : Option ℕ) → IsPlaceOf client items place → IsPlaceOf client (items ++ no_item ∷ []) place
+place_pushed : (items : List Item) (client : ℕ) (place : Option ℕ) → IsTablePlace client items place → IsTablePlace client (items ++ no_item ∷ []) place
 place_pushed items client None is = tt
 place_pushed items client (Some index) is =
     (names_pushed items index is.0, ap (λ (item : Item). item.client) (item_pushed items index) ∙ is.1)
@@ -159,7 +159,7 @@ pub tables-more : (present : List ℕ) (tables : List (List (Option ℕ))) (item
 tables-more present tables items stand = record {
   closed = stand.closed;
   each = λ client. record {
-    named = each-weaker (λ place. IsPlaceOf client items place) (λ place. IsPlaceOf client (items ++ no_item ∷ []) place) (table_of tables client)
+    named = each-weaker (λ place. IsTablePlace client items place) (λ place. IsTablePlace client (items ++ no_item ∷ []) place) (table_of tables client)
         (place_pushed items client) (stand.each client).named;
     apart = (stand.each client).apart;
     all = λ index own. (stand.each client).all index (sym (ap (λ (item : Item). item.client) (item_pushed items index)) ∙ own);

@@ -30,7 +30,7 @@ use Rattle.client_machine.specs.Moves.{KeepsObjectsOf, client_state, other_than}
 use Rattle.client_machine.specs.Settled.{AreBelow, IsSettled, Sequences, most_contexts, orphan_count, sessions_in}
 use Rattle.broker_core.specs.Broker.{HoldsOnly}
 use Rattle.broker_core.specs.Stands.{Stands, sequences_of}
-use Rattle.client_machine.specs.Tables.{AreOpenOwners, IsOpenOwner, IsPlaceOf, IsTable, objects_in, place_object, tables_seen}
+use Rattle.client_machine.specs.Tables.{AreOpenOwners, IsOpenOwner, IsTable, IsTablePlace, objects_in, place_object, tables_seen}
 use Rattle.broker_core.specs.Tables.{TablesStand, table_of, with_owners}
 use Rattle.client_machine.proofs.Leaving.{closed_already}
 use Rattle.client_machine.proofs.Ran.{each_at}
@@ -73,7 +73,7 @@ below_still least slots new below rose = record {
 -- ---- the objects of other clients
 
 place_stays : (slots new : SlotState) (items new_items : List Item) (client other : ℕ) → KeepsObjectsOf (other_than client) (Some slots) (Some new) items new_items
-    → (client == other) ≡ false → (place : Option ℕ) → IsPlaceOf other items place → place_object new new_items place ≡ place_object slots items place
+    → (client == other) ≡ false → (place : Option ℕ) → IsTablePlace other items place → place_object new new_items place ≡ place_object slots items place
 place_stays slots new items new_items client other keeps apart None is = refl
 place_stays slots new items new_items client other keeps apart (Some index) is =
     keeps slots new index other refl refl is.0 is.1 (is_other client other apart)
@@ -83,7 +83,7 @@ objects_stay : (slots new : SlotState) (items new_items : List Item) (client oth
     → objects_in new new_items table ≡ objects_in slots items table
 objects_stay slots new items new_items client other table keeps apart is =
     mapped (λ place. place_object slots items place) (λ place. place_object new new_items place) table
-    (each-weaker (λ place. IsPlaceOf other items place) (λ place. place_object new new_items place ≡ place_object slots items place) table
+    (each-weaker (λ place. IsTablePlace other items place) (λ place. place_object new new_items place ≡ place_object slots items place) table
     (place_stays slots new items new_items client other keeps apart) is.named)
 
 -- another client's table, whatever becomes of this one's

@@ -80,8 +80,8 @@ pub record StandsAfter (base : Persist) (slots : SlotState) (history : List Entr
   pub stands : Stands (world_of base slots.numbers.active history) slots tables held (length history)
 
 -- the same, if the device shows its state
-abbrev pub StandsFor : Option Persist → Option SlotState → List Entry → List (List (Option ℕ)) → Held → Type 0
-StandsFor base state history tables held =
+abbrev pub StandsAfterIf : Option Persist → Option SlotState → List Entry → List (List (Option ℕ)) → Held → Type 0
+StandsAfterIf base state history tables held =
     (b : Persist) (slots : SlotState) → base ≡ Some b → state ≡ Some slots → StandsAfter b slots history tables held
 
 -- these entries and these orphans are together not more than the count rose, unless it stands at its type's end
@@ -140,7 +140,7 @@ pub record AnswersHold (contexts : ContextLimits) (seen : Seen) (wrong_code : Op
 
 -- what holds of each broker over a device with these contexts, with what its device shows
 pub record Holds (contexts : ContextLimits) (began : ℕ) (seen : Seen) (history : List Entry) (limit : ℕ) (tables : List (List (Option ℕ))) (lists : List ℕ) (held : Held) (present : ℕ) (wrong_code : Option ℕ) : Type 0 where
-  pub stands : StandsFor seen.base seen.state history tables held
+  pub stands : StandsAfterIf seen.base seen.state history tables held
   pub journal : JournalHolds history limit seen.faults (length tables) present
   pub objects : wrong_code ≡ None → HeldHolds began seen.faults history tables lists held
   pub answers : AnswersHold contexts seen wrong_code
@@ -228,7 +228,7 @@ pub record IsCarriedOut {D : Type 0} (contexts : ContextLimits) (seen : D → Se
   pub tables : new.tables ≡ set old.tables client (table_of new.tables client)
 
 -- the entry of a command
-pub record IsEntered {D : Type 0} (contexts : ContextLimits) (seen : D → Seen) (old new : BrokerView D) (client number : ℕ) (bytes reply : List ℕ) : Type 0 where
+pub record EntersCommand {D : Type 0} (contexts : ContextLimits) (seen : D → Seen) (old new : BrokerView D) (client number : ℕ) (bytes reply : List ℕ) : Type 0 where
   pub e : Entry
   pub entered : new.journal ≡ old.journal ++ e ∷ []
   pub reply_is : reply ≡ e.reply
@@ -237,7 +237,7 @@ pub record IsEntered {D : Type 0} (contexts : ContextLimits) (seen : D → Seen)
       ⊎ IsCarriedOut contexts seen old new client number bytes e)
 
 -- the journal has no room for the command, which changes nothing
-pub record IsFull {D : Type 0} (old new : BrokerView D) (bytes reply : List ℕ) (count limit : ℕ) : Type 0 where
+pub record JournalIsFull {D : Type 0} (old new : BrokerView D) (bytes reply : List ℕ) (count limit : ℕ) : Type 0 where
   pub lacks : LacksRoom old.limit old.journal bytes
   pub same : new ≡ old
   pub reply_is : reply ≡ error_reply RC_JOURNAL_FULL
@@ -245,12 +245,12 @@ pub record IsFull {D : Type 0} (old new : BrokerView D) (bytes reply : List ℕ)
   pub limit_is : limit ≡ old.limit
 
 -- what a client gets, and what becomes of the broker
-abbrev pub Tells : {D : Type 0} (contexts : ContextLimits) (seen : D → Seen) → Told → (old new : BrokerView D) (client number : ℕ) (bytes reply : List ℕ) → Type 0
-Tells contexts seen tolds.Entered old new client number bytes reply = IsEntered contexts seen old new client number bytes reply
-Tells contexts seen tolds.Memory old new client number bytes reply =
+abbrev pub BrokerTells : {D : Type 0} (contexts : ContextLimits) (seen : D → Seen) → Told → (old new : BrokerView D) (client number : ℕ) (bytes reply : List ℕ) → Type 0
+BrokerTells contexts seen tolds.Entered old new client number bytes reply = EntersCommand contexts seen old new client number bytes reply
+BrokerTells contexts seen tolds.Memory old new client number bytes reply =
     (new ≡ old) × IsToldMemory contexts bytes reply × HasRoom old.limit old.journal bytes × IsAdmitted contexts old client bytes
-Tells contexts seen (tolds.JournalFull count limit) old new client number bytes reply = IsFull old new bytes reply count limit
-Tells contexts seen tolds.Answer old new client number bytes reply = (new.journal ≡ old.journal) × (reply ≡ error_reply RC_DEVICE_ANSWER) × (new.tables ≡ old.tables)
+BrokerTells contexts seen (tolds.JournalFull count limit) old new client number bytes reply = JournalIsFull old new bytes reply count limit
+BrokerTells contexts seen tolds.Answer old new client number bytes reply = (new.journal ≡ old.journal) × (reply ≡ error_reply RC_DEVICE_ANSWER) × (new.tables ≡ old.tables)
 
 -- what a command sends at the most, whatever its result is, also over a device that shows nothing
 pub record Costs {D : Type 0} (contexts : ContextLimits) (seen : D → Seen) (old new : BrokerView D) (client : ℕ) (bytes : List ℕ) : Type 0 where
@@ -265,7 +265,7 @@ pub record Commands {D : Type 0} (contexts : ContextLimits) (seen : D → Seen) 
     (bytes reply : List ℕ) : Type 0 where
   -- the entry is a refusal of the broker's own, a failed transmission, or what came back from the device, with the client's handle for a
   -- new object
-  pub told : Tells contexts seen told_is old new client number bytes reply
+  pub told : BrokerTells contexts seen told_is old new client number bytes reply
   -- `Answer` comes exactly after a wrong answer. A device that tells its state gives none.
   pub answer : (told_is ≡ tolds.Answer) ↔ IsSome new.wrong_code
   pub last_answer : AnswersHold contexts (seen new.device) new.wrong_code
@@ -277,17 +277,17 @@ pub record Commands {D : Type 0} (contexts : ContextLimits) (seen : D → Seen) 
   pub fixed : (new.began ≡ old.began) × (new.limit ≡ old.limit) × (new.held.sessions.numbers ≡ old.held.sessions.numbers)
 
 -- The command was canceled, and wasn't run: it has an entry, and nothing else changed.
-pub record IsCanceled {D : Type 0} (old new : BrokerView D) (client number upto : ℕ) (bytes reply : List ℕ) : Type 0 where
+pub record EntersCanceled {D : Type 0} (old new : BrokerView D) (client number upto : ℕ) (bytes reply : List ℕ) : Type 0 where
   pub reply_is : reply ≡ error_reply RC_CANCELED
   pub room : HasRoom old.limit old.journal bytes
   pub same : new ≡ record old { journal = old.journal ++ canceled_entry client number upto bytes reply ∷ [] }
 
 -- what a client gets for a command that it canceled, and what becomes of the broker
-abbrev pub TellsCanceled : {D : Type 0} → Told → (old new : BrokerView D) (client number upto : ℕ) (bytes reply : List ℕ) → Type 0
-TellsCanceled tolds.Entered old new client number upto bytes reply = IsCanceled old new client number upto bytes reply
-TellsCanceled tolds.Memory old new client number upto bytes reply = ⊥
-TellsCanceled (tolds.JournalFull count limit) old new client number upto bytes reply = IsFull old new bytes reply count limit
-TellsCanceled tolds.Answer old new client number upto bytes reply = (new ≡ old) × (reply ≡ error_reply RC_DEVICE_ANSWER)
+abbrev pub BrokerTellsCanceled : {D : Type 0} → Told → (old new : BrokerView D) (client number upto : ℕ) (bytes reply : List ℕ) → Type 0
+BrokerTellsCanceled tolds.Entered old new client number upto bytes reply = EntersCanceled old new client number upto bytes reply
+BrokerTellsCanceled tolds.Memory old new client number upto bytes reply = ⊥
+BrokerTellsCanceled (tolds.JournalFull count limit) old new client number upto bytes reply = JournalIsFull old new bytes reply count limit
+BrokerTellsCanceled tolds.Answer old new client number upto bytes reply = (new ≡ old) × (reply ≡ error_reply RC_DEVICE_ANSWER)
 
 -- orphans that were in slots before stay there, with at most so many more as there are orphans more
 abbrev pub HasLeft : (held new_held : Held) → Type 0
@@ -335,12 +335,12 @@ LackedMemory old new = (numbers : Numbers) × IsStarted old.trace new.trace numb
 -- that was the last one; or memory lacked; or a number of the device is out of range, and nothing
 -- was sent after the response that has it. In the other cases each number that the device reported
 -- is in range.
-abbrev pub HasCause : {D : Type 0} (contexts : ContextLimits) (seen : D → Seen) → BeginError → (old new : D) → Type 0
-HasCause contexts seen (begin_errors.Device count) old new =
+abbrev pub HasBeginCause : {D : Type 0} (contexts : ContextLimits) (seen : D → Seen) → BeginError → (old new : D) → Type 0
+HasBeginCause contexts seen (begin_errors.Device count) old new =
     StopsUnanswered contexts (seen old).trace (seen new).trace × (last_of (seen new) ≡ None) × Rose (seen old).faults (seen new).faults × (count ≡ (seen new).faults)
-HasCause contexts seen (begin_errors.Answer code) old new =
+HasBeginCause contexts seen (begin_errors.Answer code) old new =
     StopsUnanswered contexts (seen old).trace (seen new).trace × IsWrongAnswer contexts (asked_of (seen new)) (last_of (seen new)) code × ((seen new).state ≡ None)
-HasCause contexts seen begin_errors.Memory old new = (new ≡ old) ⊎ LackedMemory (seen old) (seen new)
-HasCause contexts seen (begin_errors.Numbers property value) old new =
+HasBeginCause contexts seen begin_errors.Memory old new = (new ≡ old) ⊎ LackedMemory (seen old) (seen new)
+HasBeginCause contexts seen (begin_errors.Numbers property value) old new =
     StopsAtNumber (seen old).trace (seen new).trace property value
     × IfSome (seen old).state (λ slots. AreInRange slots.numbers → ⊥)

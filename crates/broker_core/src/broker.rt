@@ -20,8 +20,9 @@ ghost use Rattle.broker_lock.specs.declared.calls.OpenClientError.TheVariants as
 ghost use Rattle.broker_lock.specs.declared.calls.Told.TheVariants as tolds;
 ghost use Rattle.broker_lock.specs.declared.calls.Closed.TheVariants as closes;
 ghost use Rattle.broker_core.specs.Broker.{AnswersHold, AreWhole, Closes, Commands, FaultsCounted};
-ghost use Rattle.broker_core.specs.Broker.{HasCause, HoldsLeft, IsAtBase, IsReadyFor, StandsFor};
-ghost use Rattle.broker_core.specs.Broker.{TellsCanceled, TellsNoRoom};
+ghost use Rattle.broker_core.specs.Broker.{HasBeginCause, HoldsLeft, IsAtBase, IsReadyFor};
+ghost use Rattle.broker_core.specs.Broker.{StandsAfterIf};
+ghost use Rattle.broker_core.specs.Broker.{BrokerTellsCanceled, TellsNoRoom};
 ghost use Rattle.broker_core.specs.Tables.{AddsList, with_owners};
 ghost use Rattle.client_machine.specs.Costs.{own_objects};
 ghost use Rattle.client_machine.specs.Moves as moves;
@@ -283,7 +284,7 @@ impl<D: Device> Broker<D> {
         ensures cleared { IfOk result
             (λ b. ClearedIf (D.seen device).state (D.seen b.device).state) }
         ensures keeps { IfOk result (λ b. Keeps D.seen device b.device) }
-        ensures cause { IfErr result (λ e. HasCause D.CONTEXTS D.seen e.0 device e.1) }
+        ensures cause { IfErr result (λ e. HasBeginCause D.CONTEXTS D.seen e.0 device e.1) }
         // It holds no more than it did, and keeps what it kept.
         ensures keeps_err { IfErr result (λ e. Keeps D.seen device e.1
             × HoldsNoMoreIf (D.seen device).state (D.seen e.1).state) }
@@ -459,7 +460,7 @@ impl<D: Device> Broker<D> {
         requires present { IsOpen self.old.journal client }
         requires number { IsNextNumber self.old.journal client number }
         requires covers { number ≤ upto }
-        ensures told { TellsCanceled result self.old self.new client number upto
+        ensures told { BrokerTellsCanceled result self.old self.new client number upto
             bytes.now reply.new }
         // `Answer` comes exactly after a wrong answer.
         ensures answer { (result ≡ tolds.Answer) ↔ IsSome self.old.wrong_code }
@@ -533,7 +534,8 @@ impl<D: Device> Broker<D> {
     pub fn finish(self) -> (D, Journal)
         ensures device { result.0 ≡ self.device }
         ensures journal { (result.1.entries ≡ self.journal) × (result.1.limit ≡ self.limit) }
-        ensures stands { StandsFor (D.seen self.device).base (D.seen self.device).state self.journal
+        ensures stands { StandsAfterIf (D.seen self.device).base (D.seen self.device).state
+            self.journal
             self.tables self.held }
         ensures faulted { FaultsCounted self.began (D.seen self.device).faults self.journal 0 }
         // If no client is open, the device holds only left sessions and orphans, and no more

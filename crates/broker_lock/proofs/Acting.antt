@@ -10,7 +10,7 @@ use Rattle.broker_lock.specs.declared.calls.Job.{Job}
 use Rattle.broker_lock.specs.declared.calls.Job.TheVariants as jobs
 use Rattle.broker_lock.specs.declared.calls.OpenClientError.TheVariants as open_errors
 use Rattle.broker_lock.specs.declared.calls.Told.TheVariants as tolds
-use Rattle.broker_lock.specs.Known.{Fixed, IsLegalOver, IsOwn, Origin, knows, of_known}
+use Rattle.broker_lock.specs.Known.{Fixed, HasJustKnown, IsLegalOver, Origin, knows, of_known}
 use Rattle.broker_lock.specs.Pass.{Acts, Does, MayAsk, MayCall, PassView, done_wrong, pass_view}
 use Rattle.broker_lock.specs.Serves.{IsAnswered, IsFailed, IsOpened, TellsWrong}
 use Rattle.broker_lock.specs.Turn.{HasTurn, IsIdle, IsOrderly, MayAdd, MayEnterAs, MayGiveBack, no_entry, one_entry, raised, rested}
@@ -128,7 +128,7 @@ module _ {B : Type 0} (history : B → List Entry) (fixed : B → Fixed) (wrong 
             (one.0, ap (λ (l : List Entry). knows l client) known ∙ one.1);
         order = known ∙ order_more v.known v.front (history value) a.added idle.order turn.seen turn.orderly turn.own a.may
             ∙ sym (ap (λ (t : List Entry × List Entry). of_known t.0 t.1) (both known (front ∙ a.entered)));
-        own = subst (λ (l : List Entry). IsOwn l me.0.front) (sym known) (subst (IsOwn (v.known ++ a.added)) (sym (front ∙ a.entered)) (own_more v.known (history value) a.added turn.orderly turn.own a.may));
+        own = subst (λ (l : List Entry). HasJustKnown l me.0.front) (sym known) (subst (HasJustKnown (v.known ++ a.added)) (sym (front ∙ a.entered)) (own_more v.known (history value) a.added turn.orderly turn.own a.may));
         is_legal = subst (λ (l : List Entry). IsLegalOver legal me.0.fixed.base l) (sym front) (subst (λ (f : Fixed). IsLegalOver legal f.base (history after)) (same ∙ turn.fixed_is ∙ sym fixed_now) shown);
         lock = same_lock;
         fixed = fixed_now;

@@ -5,7 +5,7 @@ use mathlib.Core.List.{IsPrefix}
 use Rattle.history_spec.specs.declared.EntryKind.{EntryKind}
 use Rattle.history_spec.specs.declared.EntryKind.TheVariants.{Open, Command, Canceled, Fault, Close}
 use Rattle.history_spec.specs.Entry.{Entry, own}
-use Rattle.broker_lock.specs.Known.{IsOwn, knows, of_known}
+use Rattle.broker_lock.specs.Known.{HasJustKnown, knows, of_known}
 use Rattle.broker_lock.specs.Turn.{IsOrderly, MayAdd, MayEnterAs, no_entry, one_entry}
 use Rattle.broker_lock.proofs.Knowing.{decided, knows_either, knows_its_own, knows_one, knows_right, of_known-append, of_known_more, of_known_stays, own-append, own_in_order, own_none}
 
@@ -44,7 +44,7 @@ others_stay known log added client orderly may unknown there =
         (decided (knows added client))
 
 -- of each client that is known afterwards, the history has the known entries
-pub own_more : (known log added : List Entry) → IsOrderly log → IsOwn known log → MayAdd known log added → IsOwn (known ++ added) (log ++ added)
+pub own_more : (known log added : List Entry) → IsOrderly log → HasJustKnown known log → MayAdd known log added → HasJustKnown (known ++ added) (log ++ added)
 own_more known log added orderly own_is may client k =
     own-append client log added ∙ ap (λ (l : List Entry). l ++ own added client) before ∙ sym (own-append client known added)
   where
@@ -63,7 +63,7 @@ of_added known log _ no_entry = refl
 of_added known log _ (one_entry e may) =
     ap (λ (b : Bool). cond b (e ∷ []) []) (knows_right e.client known (e ∷ []) (knows_its_own e []))
 
-pub order_more : (known front log added : List Entry) → known ≡ of_known known front → IsPrefix front log → IsOrderly log → IsOwn known log → MayAdd known log added
+pub order_more : (known front log added : List Entry) → known ≡ of_known known front → IsPrefix front log → IsOrderly log → HasJustKnown known log → MayAdd known log added
     → known ++ added ≡ of_known (known ++ added) (log ++ added)
 order_more known front log added order pre orderly own_is may =
     (ap (λ (l : List Entry). l ++ added) before ∙ ap (λ (l : List Entry). of_known (known ++ added) log ++ l) (sym (of_added known log added may))) ∙ sym (of_known-append (known ++ added) log added)

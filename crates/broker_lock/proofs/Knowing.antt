@@ -9,7 +9,7 @@ use Rattle.std.proofs.lemmas.List.Folds.{list_any-append}
 use mathlib.Core.Bool.{or-false}
 use mathlib.Core.List.{IsPrefix}
 use Rattle.history_spec.specs.Entry.{Entry, own}
-use Rattle.broker_lock.specs.Known.{IsOwn, knows, of_known}
+use Rattle.broker_lock.specs.Known.{HasJustKnown, knows, of_known}
 
 -- ---- filters
 
@@ -160,7 +160,7 @@ none_of_known known history client k =
     filter-apart (λ (x : Entry). x.client == client) (λ (x : Entry). knows known x.client) (λ x e. by_client known client x e ∙ k) history
 
 -- where a history has the known entries of each client, what it has of all of them tells the same clients
-pub knows_of_known : (known history : List Entry) → IsOwn known history → (client : ℕ) → knows (of_known known history) client ≡ knows known client
+pub knows_of_known : (known history : List Entry) → HasJustKnown known history → (client : ℕ) → knows (of_known known history) client ≡ knows known client
 knows_of_known known history own_is client =
     ⊎_elim
     (λ (k : knows known client ≡ true). knows_same client (of_known known history) known (own_of_known known history client k ∙ own_is client k))
@@ -188,7 +188,7 @@ of_known_none known (x ∷ xs) none =
     tail_none client e es n = tail_by (e.client == client) e (own es client) n
 
 -- a history that goes on without entries of known clients
-pub of_known_stays : (known xs ys : List Entry) → IsPrefix xs ys → IsOwn known xs → IsOwn known ys → of_known known ys ≡ of_known known xs
+pub of_known_stays : (known xs ys : List Entry) → IsPrefix xs ys → HasJustKnown known xs → HasJustKnown known ys → of_known known ys ≡ of_known known xs
 of_known_stays known xs ys pre before after =
     ap (of_known known) (sym pre.1) ∙ of_known-append known xs pre.0
     ∙ ap (λ (l : List Entry). of_known known xs ++ l) (of_known_none known pre.0 (λ client k. own_rest client xs pre.0 (ap (λ (l : List Entry). own l client) pre.1 ∙ after client k ∙ sym (before client k))))
@@ -210,7 +210,7 @@ of_known_more known added (x ∷ xs) same =
     λ i. cond (known_by known added x (same x.client (knows_its_own x xs)) i) (x ∷ rest i) (rest i)
 
 -- what is known in order is what the history has of each client
-pub own_in_order : (known history : List Entry) → known ≡ of_known known history → IsOwn known history
+pub own_in_order : (known history : List Entry) → known ≡ of_known known history → HasJustKnown known history
 own_in_order known history order client k = sym (ap (λ (l : List Entry). own l client) order ∙ own_of_known known history client k)
 
 -- a history all of whose clients are known

@@ -10,7 +10,7 @@ use Rattle.history_spec.specs.declared.EntryKind.TheVariants.{Open, Command, Can
 use Rattle.history_spec.specs.Entry.{Clients, Entry, clients_by, clients_from, clients_of, is_close_kind, opened_by, own, present_by, without, IsNextNumber, IsOpen}
 use Rattle.broker_lock.specs.declared.calls.Job.{Job}
 use Rattle.broker_lock.specs.declared.calls.Job.TheVariants as jobs
-use Rattle.broker_lock.specs.Known.{IsOwn, has_closed, knows}
+use Rattle.broker_lock.specs.Known.{HasJustKnown, has_closed, knows}
 use Rattle.broker_lock.specs.Pass.{IsKnownOpen, MayAsk, MayCall}
 use Rattle.broker_lock.specs.Turn.{IsOrderly, MayAdd, MayEnterAs, no_entry, one_entry}
 use Rattle.broker_lock.proofs.Knowing.{decided, knows_either, knows_one, knows_same, or_true, own-append, same_is}
@@ -32,10 +32,10 @@ opened_by-le Fault n = omega arith
 opened_by-le Close n = omega arith
 
 -- who is known has an entry in the history
-pub known_there : (known log : List Entry) (client : ℕ) → IsOwn known log → knows known client ≡ true → knows log client ≡ true
+pub known_there : (known log : List Entry) (client : ℕ) → HasJustKnown known log → knows known client ≡ true → knows log client ≡ true
 known_there known log client own_is k = knows_same client log known (own_is client k) ∙ k
 
-enters_below : (k : EntryKind) (known log : List Entry) (e : Entry) → IsOrderly log → IsOwn known log → MayEnterAs k known log e
+enters_below : (k : EntryKind) (known log : List Entry) (e : Entry) → IsOrderly log → HasJustKnown known log → MayEnterAs k known log e
     → e.client < opened_by k (clients_of log).opened
 enters_below Open known log e orderly own_is may = omega (arith, may)
 enters_below Command known log e orderly own_is may = orderly.below e.client (known_there known log e.client own_is may)
@@ -73,7 +73,7 @@ stays_open Fault x client present apart there = there
 stays_open Close x client present apart there = list_any-without x client present (apart refl) ∙ there
 
 -- who is new to the history was opened
-enters_open : (k : EntryKind) (known log : List Entry) (e : Entry) (present : List ℕ) → IsOwn known log → MayEnterAs k known log e → knows log e.client ≡ false
+enters_open : (k : EntryKind) (known log : List Entry) (e : Entry) (present : List ℕ) → HasJustKnown known log → MayEnterAs k known log e → knows log e.client ≡ false
     → list_any (λ (p : ℕ). p == e.client) (present_by k e.client present) ≡ true
 enters_open Open known log e present own_is may new =
     list_any-append (λ (p : ℕ). p == e.client) present (e.client ∷ [])
@@ -100,7 +100,7 @@ not_closed log e client none =
     by_client true is closes no_close = absurd (true≢false (sym (or_left (is_close_kind e.kind) false closes) ∙ no_close))
     by_client false is closes no_close = refl
 
-pub orderly_push : (known log : List Entry) (e : Entry) → IsOrderly log → IsOwn known log → MayEnterAs e.kind known log e → IsOrderly (log ++ e ∷ [])
+pub orderly_push : (known log : List Entry) (e : Entry) → IsOrderly log → HasJustKnown known log → MayEnterAs e.kind known log e → IsOrderly (log ++ e ∷ [])
 orderly_push known log e orderly own_is may =
     let after : Clients = clients_by (clients_of log) e in
     let is : after ≡ clients_of (log ++ e ∷ []) = sym (clients_of-push log e) in
@@ -127,7 +127,7 @@ orderly_push known log e orderly own_is may =
         (enters_open e.kind known log e (clients_of log).present own_is may (subst (λ (n : ℕ). knows log n ≡ false) (sym is) new)))
         either
 
-pub orderly_more : (known log added : List Entry) → IsOrderly log → IsOwn known log → MayAdd known log added → IsOrderly (log ++ added)
+pub orderly_more : (known log added : List Entry) → IsOrderly log → HasJustKnown known log → MayAdd known log added → IsOrderly (log ++ added)
 orderly_more known log _ orderly own_is no_entry = subst IsOrderly (sym (append-nil log)) orderly
 orderly_more known log _ orderly own_is (one_entry e may) = orderly_push known log e orderly own_is may
 
@@ -136,19 +136,19 @@ orderly_at_first = record { below = λ client there. absurd (true≢false (sym t
 
 -- ---- calls
 
-pub is_open : (known log : List Entry) (client : ℕ) → IsOrderly log → IsOwn known log → IsKnownOpen known client → IsOpen log client
+pub is_open : (known log : List Entry) (client : ℕ) → IsOrderly log → HasJustKnown known log → IsKnownOpen known client → IsOpen log client
 is_open known log client orderly own_is live =
     orderly.opens client (known_there known log client own_is live.client_known)
     (ap (list_any (λ (x : Entry). is_close_kind x.kind)) (own_is client live.client_known) ∙ live.not_closed)
 
-is_next : (known log : List Entry) (client number : ℕ) → IsOwn known log → knows known client ≡ true → IsNextNumber known client number → IsNextNumber log client number
+is_next : (known log : List Entry) (client number : ℕ) → HasJustKnown known log → knows known client ≡ true → IsNextNumber known client number → IsNextNumber log client number
 is_next known log client number own_is k next = record {
   positive = next.positive;
   above = subst (AllByRecursion (λ (x : Entry). x.number < number)) (sym (own_is client k)) next.above;
 }
 
 -- what a pass may ask may be called
-pub may_call : (known log : List Entry) (job : Job) → IsOrderly log → IsOwn known log → MayAsk known job → MayCall log job
+pub may_call : (known log : List Entry) (job : Job) → IsOrderly log → HasJustKnown known log → MayAsk known job → MayCall log job
 may_call known log jobs.Open orderly own_is may = tt
 may_call known log (jobs.Command client number) orderly own_is may =
     (is_open known log client orderly own_is may.0, is_next known log client number own_is may.0.client_known may.1)

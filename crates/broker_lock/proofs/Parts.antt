@@ -10,9 +10,9 @@ use lib.ListN.{get_elem?}
 use Rattle.atomic_table.specs.Table.{Final, Joins, Seen, Splits, State, opening}
 use Rattle.atomic_table.proofs.Lists.{at_longer, at_snoc, set_else}
 use Rattle.history_spec.specs.Entry.{Entry, own}
-use Rattle.broker_lock.specs.Known.{Fixed, IsOwn, knows}
+use Rattle.broker_lock.specs.Known.{Fixed, HasJustKnown, knows}
 use Rattle.broker_lock.specs.View.{SeatView, first_view, spent_view}
-use Rattle.broker_lock.specs.Turn.{IsFree, IsTaken, IsTrueOf, Stands, left_with, longer, shorter, split_off, together}
+use Rattle.broker_lock.specs.Turn.{HasOneHistory, IsTrueOf, IsTurnFree, IsTurnTaken, left_with, longer, shorter, split_off, together}
 use Rattle.broker_lock.proofs.Beginnings.{of_nil, prefix_length, prefix_nil, prefix_refl, same_length, shorter_begins, sum_at_set, sum_at_two}
 use Rattle.broker_lock.proofs.Knowing.{decided, knows_either, knows_left, knows_right, own_between, own_left, own_right}
 use Rattle.broker_lock.proofs.Orderly.{orderly_at_first}
@@ -36,7 +36,7 @@ each_both {X} K xs i k w spent mine theirs others =
 module _ {B : Type 0} (history : B → List Entry) (fixed : B → Fixed) (wrong : B → Bool) where
   -- ---- a pass is split
 
-  pub splits_it : (id : ℕ) (v : SeatView) → 2 ≤ v.parts → v.acting ≡ false → Splits (Stands history fixed wrong) id v (left_with v) (split_off v)
+  pub splits_it : (id : ℕ) (v : SeatView) → 2 ≤ v.parts → v.acting ≡ false → Splits (HasOneHistory history fixed wrong) id v (left_with v) (split_off v)
   splits_it id v two resting s r at = record {
     all = r.all;
     log = r.log;
@@ -87,7 +87,7 @@ module _ {B : Type 0} (history : B → List Entry) (fixed : B → Fixed) (wrong 
       there : (j : ℕ) (u : SeatView) → j ≢ id → get_elem? s.views j ≡ some u → get_elem? views j ≡ some u
       there j u apart is = at_longer (set s.views id (left_with v)) (split_off v ∷ []) j u (set_else s.views id j (left_with v) apart ∙ is)
 
-      free : IsFree history fixed wrong r.all r.log r.came s → IsFree history fixed wrong r.all r.log r.came (after history fixed wrong s.words s.homes views)
+      free : IsTurnFree history fixed wrong r.all r.log r.came s → IsTurnFree history fixed wrong r.all r.log r.came (after history fixed wrong s.words s.homes views)
       free f = record {
         value = f.value;
         words = f.words;
@@ -98,7 +98,7 @@ module _ {B : Type 0} (history : B → List Entry) (fixed : B → Fixed) (wrong 
         nobody = each_more (λ j u. u.acting ≡ false) s.views id (left_with v) (split_off v) resting (λ j. refl) (λ j u apart is. f.nobody j u is);
       }
 
-      taken : IsTaken r.log r.came s → IsTaken r.log r.came (after history fixed wrong s.words s.homes views)
+      taken : IsTurnTaken r.log r.came s → IsTurnTaken r.log r.came (after history fixed wrong s.words s.homes views)
       taken t = record {
         seat = t.seat;
         words = t.words;
@@ -153,7 +153,7 @@ shorter-le one other = by_test (nat_lt (length one) (length other)) refl
 module _ {B : Type 0} (history : B → List Entry) (fixed : B → Fixed) (wrong : B → Bool) where
   -- ---- two passes are made one
 
-  pub joins_it : (id other : ℕ) (v w : SeatView) → 0 < v.parts → 0 < w.parts → v.acting ≡ false → w.acting ≡ false → Joins (Stands history fixed wrong) id v other w (together v w) spent_view
+  pub joins_it : (id other : ℕ) (v w : SeatView) → 0 < v.parts → 0 < w.parts → v.acting ≡ false → w.acting ≡ false → Joins (HasOneHistory history fixed wrong) id v other w (together v w) spent_view
   joins_it id other v w some_part parts_left resting still s r at apart given = record {
     all = r.all;
     log = r.log;
@@ -203,7 +203,7 @@ module _ {B : Type 0} (history : B → List Entry) (fixed : B → Fixed) (wrong 
           (decided (knows v.known client))
 
       own_of : (history_of : List Entry) → ((client : ℕ) → knows v.known client ≡ true → own history_of client ≡ own v.known client)
-          → ((client : ℕ) → knows w.known client ≡ true → own history_of client ≡ own w.known client) → IsOwn (v.known ++ w.known) history_of
+          → ((client : ℕ) → knows w.known client ≡ true → own history_of client ≡ own w.known client) → HasJustKnown (v.known ++ w.known) history_of
       own_of history_of ours others client k = ⊎_elim
           (λ (left : knows v.known client ≡ true). ours client left ∙ sym (own_left client v.known w.known (not_theirs client left)))
           (λ (right : knows w.known client ≡ true). others client right ∙ sym (own_right client v.known w.known (not_ours client right)))
@@ -274,7 +274,7 @@ module _ {B : Type 0} (history : B → List Entry) (fixed : B → Fixed) (wrong 
           (id, together v w, here, whole w.front (longer v.front w.front) r.log begins.1 in_log all)
       longest_one (no off) (no away) = (r.longest.0, r.longest.1, there r.longest.0 r.longest.1 off away r.longest.2, r.longest.3)
 
-      free : IsFree history fixed wrong r.all r.log r.came s → IsFree history fixed wrong r.all r.log r.came (after history fixed wrong s.words s.homes views)
+      free : IsTurnFree history fixed wrong r.all r.log r.came s → IsTurnFree history fixed wrong r.all r.log r.came (after history fixed wrong s.words s.homes views)
       free f = record {
         value = f.value;
         words = f.words;
@@ -285,10 +285,10 @@ module _ {B : Type 0} (history : B → List Entry) (fixed : B → Fixed) (wrong 
         nobody = each_both (λ j u. u.acting ≡ false) s.views id other (together v w) spent_view resting refl (λ j u _ _ is. f.nobody j u is);
       }
 
-      quiet : (t : IsTaken r.log r.came s) (j : ℕ) (u : SeatView) → get_elem? s.views j ≡ some u → u.acting ≡ false → t.seat ≢ j
+      quiet : (t : IsTurnTaken r.log r.came s) (j : ℕ) (u : SeatView) → get_elem? s.views j ≡ some u → u.acting ≡ false → t.seat ≢ j
       quiet t j u is rests same = true≢false (sym t.actor.2 ∙ ap (λ (x : SeatView). x.acting) (same_at s.views j t.seat u t.actor.0 is t.actor.1 same) ∙ rests)
 
-      taken : IsTaken r.log r.came s → IsTaken r.log r.came (after history fixed wrong s.words s.homes views)
+      taken : IsTurnTaken r.log r.came s → IsTurnTaken r.log r.came (after history fixed wrong s.words s.homes views)
       taken t = record {
         seat = t.seat;
         words = t.words;
@@ -300,7 +300,7 @@ module _ {B : Type 0} (history : B → List Entry) (fixed : B → Fixed) (wrong 
 
   -- ---- the lock begins
 
-  pub begins_it : (value : B) → history value ≡ [] → Stands history fixed wrong (opening (0 ∷ 0 ∷ []) (Some value ∷ []) (first_view (fixed value)))
+  pub begins_it : (value : B) → history value ≡ [] → HasOneHistory history fixed wrong (opening (0 ∷ 0 ∷ []) (Some value ∷ []) (first_view (fixed value)))
   begins_it value empty = record {
     all = fixed value;
     log = [];
@@ -338,7 +338,7 @@ module _ {B : Type 0} (history : B → List Entry) (fixed : B → Fixed) (wrong 
   -- ---- the lock ends
 
   -- a seat with all parts is the only one that knows something
-  others_spent : (s : State (Option B) SeatView) (r : Stands history fixed wrong s) (id : ℕ) (v : SeatView) → v.parts ≡ 1024 → get_elem? s.views id ≡ some v
+  others_spent : (s : State (Option B) SeatView) (r : HasOneHistory history fixed wrong s) (id : ℕ) (v : SeatView) → v.parts ≡ 1024 → get_elem? s.views id ≡ some v
       → (j : ℕ) (u : SeatView) → j ≢ id → get_elem? s.views j ≡ some u → u.parts ≡ 0
   others_spent s r id v all at j u apart there =
       let both = sum_at_two (λ (x : SeatView). x.parts) s.views id j v u (λ is. apart (sym is)) at there in let whole = r.parts in omega arith
@@ -352,13 +352,13 @@ module _ {B : Type 0} (history : B → List Entry) (fixed : B → Fixed) (wrong 
     pub fixed_is : fixed value ≡ v.fixed
     pub told : v.wrong ≡ true → wrong value ≡ true
 
-  pub ends_it : (id : ℕ) (v : SeatView) (words : List ℕ) (xs : List (Option B)) → v.parts ≡ 1024 → v.acting ≡ false → Final (Seen (Stands history fixed wrong) id v) words xs → IsAtEnd v xs
+  pub ends_it : (id : ℕ) (v : SeatView) (words : List ℕ) (xs : List (Option B)) → v.parts ≡ 1024 → v.acting ≡ false → Final (Seen (HasOneHistory history fixed wrong) id v) words xs → IsAtEnd v xs
   ends_it id v words xs parts resting (s, (r, at), _, _, home) = ⊎_elim free (λ t. absurd (taken t (ℕ_discrete t.seat id))) r.turn
     where
       was : IsTrueOf r.all r.log r.came v
       was = r.each id v at
 
-      taken : (t : IsTaken r.log r.came s) → Dec (t.seat ≡ id) → ⊥
+      taken : (t : IsTurnTaken r.log r.came s) → Dec (t.seat ≡ id) → ⊥
       taken t (yes is) = true≢false (sym t.actor.2 ∙ ap (λ (u : SeatView). u.acting) (same_at s.views id t.seat v t.actor.0 at t.actor.1 is) ∙ resting)
       taken t (no apart) =
           true≢false (sym t.actor.2 ∙ ((r.each t.seat t.actor.0 t.actor.1).spent (others_spent s r id v parts at t.seat t.actor.0 apart t.actor.1)).2)
@@ -375,7 +375,7 @@ module _ {B : Type 0} (history : B → List Entry) (fixed : B → Fixed) (wrong 
       known_all client there (no apart) = let o = r.owns client there in
           absurd (true≢false (sym o.2 ∙ ap (λ (l : List Entry). knows l client) ((r.each (r.owner client) o.0 o.1).spent (others_spent s r id v parts at (r.owner client) o.0 apart o.1)).1))
 
-      free : IsFree history fixed wrong r.all r.log r.came s → IsAtEnd v xs
+      free : IsTurnFree history fixed wrong r.all r.log r.came s → IsAtEnd v xs
       free f = record {
         value = f.value;
         home = home 0 (Some f.value) (ap (λ hs. get_elem? hs 0) f.home);
@@ -386,7 +386,7 @@ module _ {B : Type 0} (history : B → List Entry) (fixed : B → Fixed) (wrong 
       }
 
   pub begins_at : (value about : B) (before slots : List (Option B)) → history value ≡ [] → about ≡ value → before ≡ [] → slots ≡ before ++ Some value ∷ []
-      → Stands history fixed wrong (opening (0 ∷ 0 ∷ []) slots (first_view (fixed about)))
+      → HasOneHistory history fixed wrong (opening (0 ∷ 0 ∷ []) slots (first_view (fixed about)))
   begins_at value about before slots empty same nothing pushed =
       let first : slots ≡ Some value ∷ [] = pushed ∙ ap (λ (l : List (Option B)). l ++ Some value ∷ []) nothing in
-      subst (λ (t : List (Option B) × B). Stands history fixed wrong (opening (0 ∷ 0 ∷ []) t.0 (first_view (fixed t.1)))) (λ i. (sym first i, sym same i)) (begins_it value empty)
+      subst (λ (t : List (Option B) × B). HasOneHistory history fixed wrong (opening (0 ∷ 0 ∷ []) t.0 (first_view (fixed t.1)))) (λ i. (sym first i, sym same i)) (begins_it value empty)

@@ -7,10 +7,10 @@ use lib.ListN.{get_elem?}
 use Rattle.atomic_table.specs.Seated.{TableId}
 use Rattle.atomic_table.specs.Table.{Allows, Me}
 use Rattle.history_spec.specs.Entry.{Entry, own}
-use Rattle.broker_lock.specs.Known.{Fixed, IsOwn, knows, of_known}
-use Rattle.broker_lock.specs.Pass.{Ends, IsLonger, Joins, PassView, pass_view}
+use Rattle.broker_lock.specs.Known.{Fixed, HasJustKnown, knows, of_known}
+use Rattle.broker_lock.specs.Pass.{IsLonger, Joins, PassEnds, PassView, pass_view}
 use Rattle.broker_lock.specs.View.{SeatView}
-use Rattle.broker_lock.specs.Turn.{IsIdle, Settles, Stands, longer, settled, settles, split_off, together}
+use Rattle.broker_lock.specs.Turn.{HasOneHistory, IsIdle, Settles, longer, settled, settles, split_off, together}
 use Rattle.broker_lock.proofs.Knowing.{decided, knows_left, knows_none, knows_of_known, knows_right, nothing_more, of_known_all, of_known_none, own-append, own_in_order, own_left, own_of_known, own_right}
 use Rattle.broker_lock.proofs.Parts.{IsAtEnd, shorter-le}
 use Rattle.broker_lock.proofs.Steps.{any_step, settles_it}
@@ -28,7 +28,7 @@ of_known_same known other [] same = refl
 of_known_same known other (x ∷ history) same =
     let rest = of_known_same known other history same in λ i. cond (same x.client i) (x ∷ rest i) (rest i)
 
-pub settled_is_idle : (v : SeatView) → 0 < v.parts → v.acting ≡ false → IsOwn v.known v.front → IsIdle (settled v)
+pub settled_is_idle : (v : SeatView) → 0 < v.parts → v.acting ≡ false → HasJustKnown v.known v.front → IsIdle (settled v)
 settled_is_idle v some_part resting own_is = record {
   some_part = some_part;
   resting = resting;
@@ -40,7 +40,7 @@ longer_is true one other pre = inr (refl, pre)
 longer_is false one other pre = inl (refl, pre)
 
 -- who is known to one isn't known to the other
-known_apart : (one other front : List Entry) (first second : List Entry) (client : ℕ) → IsOwn one first → IsOwn other second → IsOwn (one ++ other) front
+known_apart : (one other front : List Entry) (first second : List Entry) (client : ℕ) → HasJustKnown one first → HasJustKnown other second → HasJustKnown (one ++ other) front
     → (front ≡ first) ⊎ (front ≡ second) → knows one client ≡ true → knows other client ≡ false
 known_apart one other front first second client own_one own_other own_both (inl is) k =
     knows_none client other (nothing_more (own one client) (own other client) (sym (own-append client one other) ∙ sym (own_both client (knows_left client one other k)) ∙ ap (λ (l : List Entry). own l client) is ∙ own_one client k))
@@ -107,7 +107,7 @@ joined_is_idle v w new ours theirs told =
 
 module _ {B : Type 0} (history : B → List Entry) (fixed : B → Fixed) (wrong : B → Bool) where
   pub settles_at : (slots id : ℕ) (v w : SeatView) (me : Me (Option B) SeatView) → me.0 ≡ together v w → IsIdle v
-      → Allows (Stands history fixed wrong) slots id me 1 (λ n. n) (settles (any_step history fixed wrong) me)
+      → Allows (HasOneHistory history fixed wrong) slots id me 1 (λ n. n) (settles (any_step history fixed wrong) me)
   settles_at slots id v w me is ours =
       let some_part = ours.some_part in
       let parts : me.0.parts ≡ v.parts + w.parts = ap (λ (u : SeatView). u.parts) is in
@@ -121,11 +121,11 @@ module _ {B : Type 0} (history : B → List Entry) (fixed : B → Fixed) (wrong 
   value_is v xs found e there = some-injective found (Some e.value) (sym there ∙ e.home)
 
   pub ends_at : (lock : TableId) (v : SeatView) (xs : List (Option B)) (value : B) (pass : PassView) → IsIdle v → IsAtEnd history fixed wrong v xs → get_elem? xs 0 ≡ some (Some value)
-      → pass_view lock v ≡ pass → Ends pass (history value) (fixed value) (wrong value)
+      → pass_view lock v ≡ pass → PassEnds pass (history value) (fixed value) (wrong value)
   ends_at lock v xs value pass idle e there is =
       let same : value ≡ e.value = cc (value_is v xs (Some value) e there) in
-      subst (λ (p : PassView). Ends p (history value) (fixed value) (wrong value)) is
-      (subst (λ (x : B). Ends (pass_view lock v) (history x) (fixed x) (wrong x)) (sym same) record {
+      subst (λ (p : PassView). PassEnds p (history value) (fixed value) (wrong value)) is
+      (subst (λ (x : B). PassEnds (pass_view lock v) (history x) (fixed x) (wrong x)) (sym same) record {
         front = e.front;
         all = e.all;
         known = e.front ∙ sym (of_known_all v.known v.front (λ client k. e.all client (ap (λ (l : List Entry). knows l client) e.front ∙ k))) ∙ sym idle.order;

@@ -9,7 +9,7 @@ use Rattle.atomic_table.proofs.Lists.{at_set, set_else}
 use Rattle.history_spec.specs.Entry.{Entry}
 use Rattle.broker_lock.specs.Known.{Fixed, knows}
 use Rattle.broker_lock.specs.View.{SeatView}
-use Rattle.broker_lock.specs.Turn.{IsFree, IsOrderly, IsTaken, IsTrueOf, Stands}
+use Rattle.broker_lock.specs.Turn.{HasOneHistory, IsOrderly, IsTrueOf, IsTurnFree, IsTurnTaken}
 use Rattle.broker_lock.proofs.Beginnings.{sum_at_set}
 use Rattle.broker_lock.proofs.Knowing.{decided}
 use Rattle.broker_lock.proofs.Orderly.{known_there}
@@ -44,15 +44,15 @@ module _ {B : Type 0} (history : B → List Entry) (fixed : B → Fixed) (wrong 
   after words homes views = record { words = words; homes = homes; views = views }
 
   -- who knew a client keeps it, or knows a new one
-  pub moved : (s : St) (r : Stands history fixed wrong s) (id : ℕ) (v w : SeatView) (words : List ℕ) (homes : Homes) (log : List Entry) (came : Bool)
+  pub moved : (s : St) (r : HasOneHistory history fixed wrong s) (id : ℕ) (v w : SeatView) (words : List ℕ) (homes : Homes) (log : List Entry) (came : Bool)
       → get_elem? s.views id ≡ some v → w.parts ≡ v.parts → IsOrderly log
-      → IsFree history fixed wrong r.all log came (after words homes (set s.views id w)) ⊎ IsTaken log came (after words homes (set s.views id w))
+      → IsTurnFree history fixed wrong r.all log came (after words homes (set s.views id w)) ⊎ IsTurnTaken log came (after words homes (set s.views id w))
       → ((j : ℕ) (u : SeatView) → j ≢ id → get_elem? s.views j ≡ some u → IsTrueOf r.all log came u) → IsTrueOf r.all log came w
       → ((client : ℕ) → knows v.known client ≡ true → knows w.known client ≡ true)
       → ((client : ℕ) → knows w.known client ≡ true → knows v.known client ≡ false → knows r.log client ≡ false)
       → ((client : ℕ) → knows log client ≡ true → knows w.known client ≡ false → knows r.log client ≡ true)
       → (w.front ≡ log) ⊎ ((log ≡ r.log) × (w.front ≡ v.front))
-      → Stands history fixed wrong (after words homes (set s.views id w))
+      → HasOneHistory history fixed wrong (after words homes (set s.views id w))
   moved s r id v w words homes log came at parts orderly turn others mine kept new all longest = record {
     all = r.all;
     log = log;
@@ -94,11 +94,11 @@ module _ {B : Type 0} (history : B → List Entry) (fixed : B → Fixed) (wrong 
           (r.longest.0, r.longest.1, set_else s.views id r.longest.0 w apart ∙ r.longest.2, r.longest.3 ∙ sym same)
 
   -- the turn, where the history and the words stay, and the seat sees as much and acts as before
-  pub turn_stays : (s : St) (r : Stands history fixed wrong s) (id : ℕ) (v w : SeatView) → get_elem? s.views id ≡ some v → w.acting ≡ v.acting → w.front ≡ v.front → w.wrong ≡ v.wrong
-      → IsFree history fixed wrong r.all r.log r.came (after s.words s.homes (set s.views id w)) ⊎ IsTaken r.log r.came (after s.words s.homes (set s.views id w))
+  pub turn_stays : (s : St) (r : HasOneHistory history fixed wrong s) (id : ℕ) (v w : SeatView) → get_elem? s.views id ≡ some v → w.acting ≡ v.acting → w.front ≡ v.front → w.wrong ≡ v.wrong
+      → IsTurnFree history fixed wrong r.all r.log r.came (after s.words s.homes (set s.views id w)) ⊎ IsTurnTaken r.log r.came (after s.words s.homes (set s.views id w))
   turn_stays s r id v w at acts front came = ⊎_elim (λ f. inl (free f)) (λ t. inr (taken t)) r.turn
     where
-      free : IsFree history fixed wrong r.all r.log r.came s → IsFree history fixed wrong r.all r.log r.came (after s.words s.homes (set s.views id w))
+      free : IsTurnFree history fixed wrong r.all r.log r.came s → IsTurnFree history fixed wrong r.all r.log r.came (after s.words s.homes (set s.views id w))
       free f = record {
         value = f.value;
         words = f.words;
@@ -109,12 +109,12 @@ module _ {B : Type 0} (history : B → List Entry) (fixed : B → Fixed) (wrong 
         nobody = each_set (λ j u. u.acting ≡ false) s.views id w (acts ∙ f.nobody id v at) (λ j u apart there. f.nobody j u there);
       }
 
-      actor : (t : IsTaken r.log r.came s) → Dec (t.seat ≡ id) → (u : SeatView) × (get_elem? (set s.views id w) t.seat ≡ some u) × (u.acting ≡ true)
+      actor : (t : IsTurnTaken r.log r.came s) → Dec (t.seat ≡ id) → (u : SeatView) × (get_elem? (set s.views id w) t.seat ≡ some u) × (u.acting ≡ true)
       actor t (yes is) =
           (w, ap (get_elem? (set s.views id w)) is ∙ at_once s.views id v w at, acts ∙ ap (λ (u : SeatView). u.acting) (sym (same_at s.views id t.seat v t.actor.0 at t.actor.1 is)) ∙ t.actor.2)
       actor t (no apart) = (t.actor.0, set_else s.views id t.seat w apart ∙ t.actor.1, t.actor.2)
 
-      taken : IsTaken r.log r.came s → IsTaken r.log r.came (after s.words s.homes (set s.views id w))
+      taken : IsTurnTaken r.log r.came s → IsTurnTaken r.log r.came (after s.words s.homes (set s.views id w))
       taken t = record {
         seat = t.seat;
         words = t.words;

@@ -12,7 +12,7 @@ use Rattle.broker_lock.specs.declared.calls.Done.TheVariants as dones
 use Rattle.broker_lock.specs.declared.calls.Job.TheVariants as jobs
 use Rattle.broker_lock.specs.declared.calls.Told.{Told}
 use Rattle.broker_lock.specs.declared.calls.Told.TheVariants as tolds
-use Rattle.broker_lock.specs.Examples.{IsServed}
+use Rattle.broker_lock.specs.Examples.{HasCommandsUpTo}
 use Rattle.broker_lock.specs.Known.{Fixed, Origin}
 use Rattle.broker_lock.specs.Pass.{Acts, MayAsk, PassView}
 use Rattle.broker_lock.specs.Serves.{IsAnswered, IsFailed, Tells}
@@ -24,18 +24,18 @@ below_next : (done : ℕ) (es : List Entry) → AllByRecursion (λ (e : Entry). 
 below_next done [] all = tt
 below_next done (e ∷ es) all = (omega (arith, all.0), below_next done es all.1)
 
-pub may_command : (known : List Entry) (client done : ℕ) → IsServed known client done → MayAsk known (jobs.Command client (done + 1))
+pub may_command : (known : List Entry) (client done : ℕ) → HasCommandsUpTo known client done → MayAsk known (jobs.Command client (done + 1))
 may_command known client done served = (
   record { client_known = served.client_known; not_closed = served.not_closed },
   record { positive = omega arith; above = below_next done (own known client) served.numbers },
 )
 
-pub may_close : (known : List Entry) (client done : ℕ) → IsServed known client done → MayAsk known (jobs.Close client)
+pub may_close : (known : List Entry) (client done : ℕ) → HasCommandsUpTo known client done → MayAsk known (jobs.Close client)
 may_close known client done served = record { client_known = served.client_known; not_closed = served.not_closed }
 
 -- ---- what it knows afterwards
 
-at_first : (client : ℕ) → IsServed (open_entry client ∷ []) client 0
+at_first : (client : ℕ) → HasCommandsUpTo (open_entry client ∷ []) client 0
 at_first client = let here = own_here client (open_entry client) [] refl in record {
   client_known = knows_its_own (open_entry client) [];
   not_closed = ap (list_any (λ (e : Entry). is_close_kind e.kind)) here;
@@ -43,10 +43,10 @@ at_first client = let here = own_here client (open_entry client) [] refl in reco
 }
 
 -- a client was opened by a pass that knew nobody
-pub served_at_first : {legal : Origin → List Entry → Type 0} (old new : PassView) (bytes reply : List ℕ) (client : ℕ) → old.known ≡ [] → Acts legal old jobs.Open bytes (dones.Opened (Ok client)) reply new → IsServed new.known client 0
+pub served_at_first : {legal : Origin → List Entry → Type 0} (old new : PassView) (bytes reply : List ℕ) (client : ℕ) → old.known ≡ [] → Acts legal old jobs.Open bytes (dones.Opened (Ok client)) reply new → HasCommandsUpTo new.known client 0
 served_at_first old new bytes reply client nobody acts =
     let one : acts.added ≡ open_entry client ∷ [] = append_cancel_left acts.before acts.added (open_entry client ∷ []) (sym acts.front ∙ acts.does.entered) in
-    subst (λ (l : List Entry). IsServed l client 0) (sym (acts.known ∙ ap (λ (l : List Entry). l ++ acts.added) nobody ∙ one)) (at_first client)
+    subst (λ (l : List Entry). HasCommandsUpTo l client 0) (sym (acts.known ∙ ap (λ (l : List Entry). l ++ acts.added) nobody ∙ one)) (at_first client)
 
 up_to_more : (done : ℕ) (es : List Entry) → AllByRecursion (λ (e : Entry). e.number ≤ done) es → AllByRecursion (λ (e : Entry). e.number ≤ done + 1) es
 up_to_more done [] all = tt
@@ -72,7 +72,7 @@ of_command began client number bytes e cause =
     of_form : (form : Entry) → IsOfCommand client number form → e ≡ form → IsOfCommand client number e
     of_form form is same = subst (IsOfCommand client number) (sym same) is
 
-served_by : (known : List Entry) (client done : ℕ) (e : Entry) → IsServed known client done → IsOfCommand client (done + 1) e → IsServed (known ++ e ∷ []) client (done + 1)
+served_by : (known : List Entry) (client done : ℕ) (e : Entry) → HasCommandsUpTo known client done → IsOfCommand client (done + 1) e → HasCommandsUpTo (known ++ e ∷ []) client (done + 1)
 served_by known client done e served is =
     let all : own (known ++ e ∷ []) client ≡ own known client ++ e ∷ [] = own-append client known (e ∷ []) ∙ ap (λ (l : List Entry). own known client ++ l) (own_here client e [] is.client_is) in record {
       client_known = knows_left client known (e ∷ []) served.client_known;
@@ -81,26 +81,26 @@ served_by known client done e served is =
       numbers = subst (AllByRecursion (λ (x : Entry). x.number ≤ done + 1)) (sym all) (each_push done (own known client) e served.numbers is.number_is);
     }
 
-still_served : (known added before : List Entry) (client done : ℕ) → IsServed known client done → before ++ added ≡ before → IsServed (known ++ added) client (done + 1)
+still_served : (known added before : List Entry) (client done : ℕ) → HasCommandsUpTo known client done → before ++ added ≡ before → HasCommandsUpTo (known ++ added) client (done + 1)
 still_served known added before client done served same =
-    subst (λ (l : List Entry). IsServed l client (done + 1)) (sym (ap (λ (l : List Entry). known ++ l) (nothing_more before added same) ∙ append-nil known)) record {
+    subst (λ (l : List Entry). HasCommandsUpTo l client (done + 1)) (sym (ap (λ (l : List Entry). known ++ l) (nothing_more before added same) ∙ append-nil known)) record {
       client_known = served.client_known;
       not_closed = served.not_closed;
       numbers = up_to_more done (own known client) served.numbers;
     }
 
-served_as : (known added before after : List Entry) (fixed : Fixed) (client done : ℕ) (bytes reply : List ℕ) (told : Told) → IsServed known client done → after ≡ before ++ added
-    → Tells fixed before after client (done + 1) bytes reply told → IsServed (known ++ added) client (done + 1)
+served_as : (known added before after : List Entry) (fixed : Fixed) (client done : ℕ) (bytes reply : List ℕ) (told : Told) → HasCommandsUpTo known client done → after ≡ before ++ added
+    → Tells fixed before after client (done + 1) bytes reply told → HasCommandsUpTo (known ++ added) client (done + 1)
 served_as known added before after fixed client done bytes reply tolds.Entered served front tells =
-    subst (λ (l : List Entry). IsServed (known ++ l) client (done + 1)) (append_cancel_left before (tells.e ∷ []) added (sym tells.entered ∙ front)) (served_by known client done tells.e served (of_command fixed.began client (done + 1) bytes tells.e tells.cause))
+    subst (λ (l : List Entry). HasCommandsUpTo (known ++ l) client (done + 1)) (append_cancel_left before (tells.e ∷ []) added (sym tells.entered ∙ front)) (served_by known client done tells.e served (of_command fixed.began client (done + 1) bytes tells.e tells.cause))
 served_as known added before after fixed client done bytes reply tolds.Memory served front tells = still_served known added before client done served (sym front ∙ tells.0)
 served_as known added before after fixed client done bytes reply (tolds.JournalFull count most) served front tells = still_served known added before client done served (sym front ∙ tells.same)
 served_as known added before after fixed client done bytes reply tolds.Answer served front tells = still_served known added before client done served (sym front ∙ tells.0)
 
 -- its next command was told, whatever it was told
-pub served_next : {legal : Origin → List Entry → Type 0} (old new : PassView) (bytes reply : List ℕ) (client done : ℕ) (d : Done) → IsServed old.known client done → Acts legal old (jobs.Command client (done + 1)) bytes d reply new
-    → IsServed new.known client (done + 1)
+pub served_next : {legal : Origin → List Entry → Type 0} (old new : PassView) (bytes reply : List ℕ) (client done : ℕ) (d : Done) → HasCommandsUpTo old.known client done → Acts legal old (jobs.Command client (done + 1)) bytes d reply new
+    → HasCommandsUpTo new.known client (done + 1)
 served_next old new bytes reply client done (dones.Told told) served acts =
-    subst (λ (l : List Entry). IsServed l client (done + 1)) (sym acts.known) (served_as old.known acts.added acts.before new.front old.fixed client done bytes reply told served acts.front acts.does)
+    subst (λ (l : List Entry). HasCommandsUpTo l client (done + 1)) (sym acts.known) (served_as old.known acts.added acts.before new.front old.fixed client done bytes reply told served acts.front acts.does)
 served_next old new bytes reply client done (dones.Opened opened) served acts = absurd acts.does
 served_next old new bytes reply client done (dones.Closed closed) served acts = absurd acts.does

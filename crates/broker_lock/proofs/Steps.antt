@@ -10,9 +10,9 @@ use prog.Atomic.{either}
 use Rattle.atomic_table.specs.Table.{Act, Allows, Me, State, Valid, carried_after, gives, keeps, Step, put_back, rest, step, stepped, takes}
 use Rattle.atomic_table.proofs.Lists.{set_again}
 use Rattle.history_spec.specs.Entry.{Entry, own}
-use Rattle.broker_lock.specs.Known.{Fixed, IsOwn, knows}
+use Rattle.broker_lock.specs.Known.{Fixed, HasJustKnown, knows}
 use Rattle.broker_lock.specs.View.{SeatView}
-use Rattle.broker_lock.specs.Turn.{IsFree, IsIdle, IsOrderly, IsTaken, IsTrueOf, MayAdd, MayGiveBack, Stands, gives_back, raised, raises_count, rested, settled, settles, takes_turn}
+use Rattle.broker_lock.specs.Turn.{HasOneHistory, IsIdle, IsOrderly, IsTrueOf, IsTurnFree, IsTurnTaken, MayAdd, MayGiveBack, gives_back, raised, raises_count, rested, settled, settles, takes_turn}
 use Rattle.broker_lock.proofs.Beginnings.{drop_front, prefix_nil, prefix_push, prefix_refl, prefix_trans, shorter_begins}
 use Rattle.broker_lock.proofs.Knowing.{decided, knows_either, knows_left, knows_of_known, knows_right, own_of_known}
 use Rattle.broker_lock.proofs.Adding.{new_to_log, others_stay, own_more}
@@ -46,13 +46,14 @@ module _ {B : Type 0} (history : B → List Entry) (fixed : B → Fixed) (wrong 
   -- what the table may become when the word i was n, and is m
   abbrev Goes : State (Option B) SeatView → ℕ → At → ℕ → ℕ → (At → Type 0) → Type 0
   Goes s id me i m then = (w : SeatView) × (a : Act (Option B)) × Valid s.homes me.1 a
-      × Stands history fixed wrong (stepped s i m id me.1 w a) × then (w, carried_after me.1 a)
+      × HasOneHistory history fixed wrong (stepped s i m id me.1 w a)
+      × then (w, carried_after me.1 a)
 
   -- ---- the turn is taken
 
   -- the turn was free
-  taken_now : (s : State (Option B) SeatView) (r : Stands history fixed wrong s) (id : ℕ) (me : At) → IsIdle me.0 → me.1 ≡ [] → get_elem? s.views id ≡ some me.0
-      → IsFree history fixed wrong r.all r.log r.came s → Goes s id me 0 1 (takes_turn history fixed wrong any_step me 0)
+  taken_now : (s : State (Option B) SeatView) (r : HasOneHistory history fixed wrong s) (id : ℕ) (me : At) → IsIdle me.0 → me.1 ≡ [] → get_elem? s.views id ≡ some me.0
+      → IsTurnFree history fixed wrong r.all r.log r.came s → Goes s id me 0 1 (takes_turn history fixed wrong any_step me 0)
   taken_now s r id me idle empty at free = (
     w,
     takes 0 (Some free.value),
@@ -67,7 +68,7 @@ module _ {B : Type 0} (history : B → List Entry) (fixed : B → Fixed) (wrong 
           now = refl;
           fixed_is = free.fixed_is ∙ sym (before.fixed_is idle.some_part);
           seen = subst (λ (l : List Entry). IsPrefix me.0.front l) (sym free.history_is) before.front;
-          own = subst (IsOwn me.0.known) (sym free.history_is) before.own_log;
+          own = subst (HasJustKnown me.0.known) (sym free.history_is) before.own_log;
           orderly = subst IsOrderly (sym free.history_is) r.orderly;
           told = λ knew. free.wrong_is ∙ before.told knew;
         },
@@ -88,12 +89,12 @@ module _ {B : Type 0} (history : B → List Entry) (fixed : B → Fixed) (wrong 
         front = subst (λ (l : List Entry). IsPrefix (history free.value) l) free.history_is (prefix_refl (history free.value));
         met = before.met;
         own_log = before.own_log;
-        own_front = subst (IsOwn me.0.known) (sym free.history_is) before.own_log;
+        own_front = subst (HasJustKnown me.0.known) (sym free.history_is) before.own_log;
         spent = λ none_left. absurd (omega (arith, idle.some_part));
         told = λ knew. sym free.wrong_is ∙ knew;
       }
 
-      taken : IsTaken r.log r.came (after history fixed wrong (set s.words 0 1) (set s.homes 0 none) (set s.views id w))
+      taken : IsTurnTaken r.log r.came (after history fixed wrong (set s.words 0 1) (set s.homes 0 none) (set s.views id w))
       taken = record {
         seat = id;
         words = ap (λ (ws : List ℕ). set ws 0 1) free.words;
@@ -104,34 +105,34 @@ module _ {B : Type 0} (history : B → List Entry) (fixed : B → Fixed) (wrong 
       }
 
   -- it wasn't
-  not_taken : (s : State (Option B) SeatView) (r : Stands history fixed wrong s) (id : ℕ) (me : At) → get_elem? s.views id ≡ some me.0
-      → IsTaken r.log r.came s → Goes s id me 0 1 (takes_turn history fixed wrong any_step me 1)
+  not_taken : (s : State (Option B) SeatView) (r : HasOneHistory history fixed wrong s) (id : ℕ) (me : At) → get_elem? s.views id ≡ some me.0
+      → IsTurnTaken r.log r.came s → Goes s id me 0 1 (takes_turn history fixed wrong any_step me 1)
   not_taken s r id me at taken = (
     me.0,
     keeps,
     tt,
-    subst (λ (ws : List ℕ). Stands history fixed wrong (after history fixed wrong ws s.homes (set s.views id me.0))) (taken.words ∙ sym (ap (λ (ws : List ℕ). set ws 0 1) taken.words))
-        (subst (λ (vs : List SeatView). Stands history fixed wrong (after history fixed wrong s.words s.homes vs)) (sym (set_again s.views id me.0 at)) r),
+    subst (λ (ws : List ℕ). HasOneHistory history fixed wrong (after history fixed wrong ws s.homes (set s.views id me.0))) (taken.words ∙ sym (ap (λ (ws : List ℕ). set ws 0 1) taken.words))
+        (subst (λ (vs : List SeatView). HasOneHistory history fixed wrong (after history fixed wrong s.words s.homes vs)) (sym (set_again s.views id me.0 at)) r),
     ((λ is. absurd (omega (arith, is))), (λ _. refl)),
   )
 
   pub takes_it : (slots : ℕ) (id : ℕ) (me : At) → IsIdle me.0 → me.1 ≡ []
-      → Allows (Stands history fixed wrong) slots id me 0 (λ n. either (eqb n 0) 1 n) (takes_turn history fixed wrong any_step me)
+      → Allows (HasOneHistory history fixed wrong) slots id me 0 (λ n. either (eqb n 0) 1 n) (takes_turn history fixed wrong any_step me)
   takes_it slots id me idle empty s r long at fits =
       let Found : ℕ → Type 0 = λ n. Goes s id me 0 (either (eqb n 0) 1 n) (takes_turn history fixed wrong any_step me n) in
       ⊎_elim
-      (λ (free : IsFree history fixed wrong r.all r.log r.came s). subst Found (sym (ap (λ (ws : List ℕ). slice_index ws 0) free.words)) (taken_now s r id me idle empty at free))
-      (λ (taken : IsTaken r.log r.came s). subst Found (sym (ap (λ (ws : List ℕ). slice_index ws 0) taken.words)) (not_taken s r id me at taken))
+      (λ (free : IsTurnFree history fixed wrong r.all r.log r.came s). subst Found (sym (ap (λ (ws : List ℕ). slice_index ws 0) free.words)) (taken_now s r id me idle empty at free))
+      (λ (taken : IsTurnTaken r.log r.came s). subst Found (sym (ap (λ (ws : List ℕ). slice_index ws 0) taken.words)) (not_taken s r id me at taken))
       r.turn
 
   -- ---- the count is raised
 
   -- the value is out with the seat that has the turn
-  seat_acts : (s : State (Option B) SeatView) (r : Stands history fixed wrong s) (id : ℕ) (v : SeatView) → get_elem? s.views id ≡ some v → v.acting ≡ true → IsTaken r.log r.came s
-  seat_acts s r id v at acts = ⊎_elim (λ (free : IsFree history fixed wrong r.all r.log r.came s). absurd (true≢false (sym acts ∙ free.nobody id v at))) (λ taken. taken) r.turn
+  seat_acts : (s : State (Option B) SeatView) (r : HasOneHistory history fixed wrong s) (id : ℕ) (v : SeatView) → get_elem? s.views id ≡ some v → v.acting ≡ true → IsTurnTaken r.log r.came s
+  seat_acts s r id v at acts = ⊎_elim (λ (free : IsTurnFree history fixed wrong r.all r.log r.came s). absurd (true≢false (sym acts ∙ free.nobody id v at))) (λ taken. taken) r.turn
 
   -- what another seat knows stays true
-  others_true : (s : State (Option B) SeatView) (r : Stands history fixed wrong s) (id : ℕ) (v : SeatView) (added : List Entry) (came : Bool) → get_elem? s.views id ≡ some v → MayAdd v.known r.log added → (r.came ≡ true → came ≡ true)
+  others_true : (s : State (Option B) SeatView) (r : HasOneHistory history fixed wrong s) (id : ℕ) (v : SeatView) (added : List Entry) (came : Bool) → get_elem? s.views id ≡ some v → MayAdd v.known r.log added → (r.came ≡ true → came ≡ true)
       → (j : ℕ) (u : SeatView) → j ≢ id → get_elem? s.views j ≡ some u → IsTrueOf r.all (r.log ++ added) came u
   others_true s r id v added came at may rises j u apart there = let was = r.each j u there in record {
     fixed_is = was.fixed_is;
@@ -149,9 +150,9 @@ module _ {B : Type 0} (history : B → List Entry) (fixed : B → Fixed) (wrong 
           (λ (no_one : knows v.known client ≡ false). no_one)
           (decided (knows v.known client))
 
-  raised_from : (s : State (Option B) SeatView) (r : Stands history fixed wrong s) (id : ℕ) (v : SeatView) (added : List Entry) (count : ℕ) (came : Bool) → get_elem? s.views id ≡ some v → v.acting ≡ true → (v.wrong ≡ true → came ≡ true)
+  raised_from : (s : State (Option B) SeatView) (r : HasOneHistory history fixed wrong s) (id : ℕ) (v : SeatView) (added : List Entry) (count : ℕ) (came : Bool) → get_elem? s.views id ≡ some v → v.acting ≡ true → (v.wrong ≡ true → came ≡ true)
       → 0 < v.parts → MayAdd v.known r.log added → count ≡ length (r.log ++ added)
-      → Stands history fixed wrong (after history fixed wrong (set s.words 1 count) s.homes (set s.views id (record v { front = r.log ++ added; known = v.known ++ added; wrong = came })))
+      → HasOneHistory history fixed wrong (after history fixed wrong (set s.words 1 count) s.homes (set s.views id (record v { front = r.log ++ added; known = v.known ++ added; wrong = came })))
   raised_from s r id v added count came at acts rises some_part may counted =
       moved history fixed wrong s r id v w (set s.words 1 count) s.homes (r.log ++ added) came at refl (orderly_more v.known r.log added r.orderly was.own_log may) (inr now)
       (others_true s r id v added came at may rises_all) mine (λ client k. knows_left client v.known added k)
@@ -175,13 +176,13 @@ module _ {B : Type 0} (history : B → List Entry) (fixed : B → Fixed) (wrong 
         told = λ knew. knew;
       }
 
-      taken : IsTaken r.log r.came s
+      taken : IsTurnTaken r.log r.came s
       taken = seat_acts s r id v at acts
 
       rises_all : r.came ≡ true → came ≡ true
       rises_all rose = rises ((taken.alone id v at acts).2 ∙ rose)
 
-      now : IsTaken (r.log ++ added) came (after history fixed wrong (set s.words 1 count) s.homes (set s.views id w))
+      now : IsTurnTaken (r.log ++ added) came (after history fixed wrong (set s.words 1 count) s.homes (set s.views id w))
       now = record {
         seat = id;
         words = ap (λ (ws : List ℕ). set ws 1 count) taken.words ∙ ap (λ (n : ℕ). 1 ∷ n ∷ []) counted;
@@ -199,7 +200,7 @@ module _ {B : Type 0} (history : B → List Entry) (fixed : B → Fixed) (wrong 
       old_one client unknown (inr new) = absurd (true≢false (sym (knows_right client v.known added new) ∙ unknown))
 
   pub raises_it : (slots : ℕ) (id : ℕ) (me : At) (value : B) (count : ℕ) → me.1 ≡ (0, Some value) ∷ [] → MayGiveBack history fixed wrong me.0 value → count ≡ length (history value)
-      → Allows (Stands history fixed wrong) slots id me 1 (λ _. count) (λ _. raises_count history wrong any_step me count)
+      → Allows (HasOneHistory history fixed wrong) slots id me 1 (λ _. count) (λ _. raises_count history wrong any_step me count)
   raises_it slots id me value count out may counted s r long at fits =
       let taken = seat_acts s r id me.0 at may.acting in
       let front : me.0.front ≡ r.log = (taken.alone id me.0 at may.acting).1 in
@@ -208,7 +209,7 @@ module _ {B : Type 0} (history : B → List Entry) (fixed : B → Fixed) (wrong 
         raised me.0 (history value) (wrong value),
         keeps,
         tt,
-        subst (λ (w : SeatView). Stands history fixed wrong (after history fixed wrong (set s.words 1 count) s.homes (set s.views id w)))
+        subst (λ (w : SeatView). HasOneHistory history fixed wrong (after history fixed wrong (set s.words 1 count) s.homes (set s.views id w)))
             (λ i. record me.0 { front = sym entered i; known = me.0.known ++ sym more i; wrong = wrong value })
             (raised_from s r id me.0 may.added count (wrong value) at may.acting may.told may.some_part (subst (λ (l : List Entry). MayAdd me.0.known l may.added) front may.may) (counted ∙ ap length entered)),
         λ other is. (λ i. let at = same_value value other (sym out ∙ is) i in (raised me.0 (history at) (wrong at), me.1)),
@@ -217,12 +218,13 @@ module _ {B : Type 0} (history : B → List Entry) (fixed : B → Fixed) (wrong 
   -- ---- the turn is given back
 
   pub gives_it : (slots : ℕ) (id : ℕ) (me : At) (value : B) → me.1 ≡ (0, Some value) ∷ [] → history value ≡ me.0.front → fixed value ≡ me.0.fixed → wrong value ≡ me.0.wrong → me.0.acting ≡ true → 0 < me.0.parts
-      → Allows (Stands history fixed wrong) slots id me 0 (λ _. 0) (λ _. gives_back any_step me 0)
+      → Allows (HasOneHistory history fixed wrong) slots id me 0 (λ _. 0)
+      (λ _. gives_back any_step me 0)
   gives_it slots id me value out same same_fixed same_wrong acts some_part s r long at fits = (
     rested me.0,
     gives,
     tt,
-    subst (λ (hs : List (maybe.Option (Option B))). Stands history fixed wrong (after history fixed wrong (set s.words 0 0) hs (set s.views id (rested me.0)))) (sym (ap (put_back s.homes) out))
+    subst (λ (hs : List (maybe.Option (Option B))). HasOneHistory history fixed wrong (after history fixed wrong (set s.words 0 0) hs (set s.views id (rested me.0)))) (sym (ap (put_back s.homes) out))
         (moved history fixed wrong s r id me.0 (rested me.0) (set s.words 0 0) (set s.homes 0 (some (Some value))) r.log r.came at refl r.orderly (inl free) (λ j u apart there. r.each j u there) mine
         (λ client k. k) (λ client k unknown. absurd (true≢false (sym k ∙ unknown))) (λ client there unknown. there) (inr (refl, refl))),
     λ i. (rested me.0, rest (out i)),
@@ -231,7 +233,7 @@ module _ {B : Type 0} (history : B → List Entry) (fixed : B → Fixed) (wrong 
       was : IsTrueOf r.all r.log r.came me.0
       was = r.each id me.0 at
 
-      taken : IsTaken r.log r.came s
+      taken : IsTurnTaken r.log r.came s
       taken = seat_acts s r id me.0 at acts
 
       mine : IsTrueOf r.all r.log r.came (rested me.0)
@@ -251,7 +253,7 @@ module _ {B : Type 0} (history : B → List Entry) (fixed : B → Fixed) (wrong 
           (λ (resting : u.acting ≡ false). resting)
           (decided u.acting)
 
-      free : IsFree history fixed wrong r.all r.log r.came (after history fixed wrong (set s.words 0 0) (set s.homes 0 (some (Some value))) (set s.views id (rested me.0)))
+      free : IsTurnFree history fixed wrong r.all r.log r.came (after history fixed wrong (set s.words 0 0) (set s.homes 0 (some (Some value))) (set s.views id (rested me.0)))
       free = record {
         value = value;
         words = ap (λ (ws : List ℕ). set ws 0 0) taken.words;
@@ -265,12 +267,12 @@ module _ {B : Type 0} (history : B → List Entry) (fixed : B → Fixed) (wrong 
   -- ---- a seat looks at the history
 
   pub settles_it : (slots : ℕ) (id : ℕ) (me : At) → 0 < me.0.parts → length me.0.met ≤ length me.0.front
-      → Allows (Stands history fixed wrong) slots id me 1 (λ n. n) (settles any_step me)
+      → Allows (HasOneHistory history fixed wrong) slots id me 1 (λ n. n) (settles any_step me)
   settles_it slots id me some_part short s r long at fits = (
     w,
     keeps,
     tt,
-    subst (λ (ws : List ℕ). Stands history fixed wrong (after history fixed wrong ws s.homes (set s.views id w))) (sym (set-get_or s.words 1 0))
+    subst (λ (ws : List ℕ). HasOneHistory history fixed wrong (after history fixed wrong ws s.homes (set s.views id w))) (sym (set-get_or s.words 1 0))
         (moved history fixed wrong s r id me.0 w s.words s.homes r.log r.came at refl r.orderly (turn_stays history fixed wrong s r id me.0 w at refl refl refl) (λ j u apart there. r.each j u there) mine
         (λ client k. same client ∙ k) (λ client k unknown. absurd (true≢false (sym k ∙ (same client ∙ unknown)))) (λ client there unknown. there) (inr (refl, refl))),
     (refl, record { now = refl; met = shorter_begins me.0.met me.0.front r.log was.met was.front short; own = was.own_front }),
@@ -306,18 +308,19 @@ module _ {B : Type 0} (history : B → List Entry) (fixed : B → Fixed) (wrong 
   put_in old new value out is = is ∙ ap (λ (l : List (ℕ × Option B)). (old.0, (0, Some value) ∷ rest l)) out
 
   pub raises_at : (slots id : ℕ) (v : SeatView) (me : At) (value : B) (count : ℕ) → me ≡ (v, (0, Some value) ∷ []) → MayGiveBack history fixed wrong v value → count ≡ length (history value)
-      → Allows (Stands history fixed wrong) slots id me 1 (λ _. count) (λ _. raises_count history wrong any_step me count)
+      → Allows (HasOneHistory history fixed wrong) slots id me 1 (λ _. count) (λ _. raises_count history wrong any_step me count)
   raises_at slots id v me value count is may counted =
-      subst (λ (m : At). Allows (Stands history fixed wrong) slots id m 1 (λ _. count) (λ _. raises_count history wrong any_step m count)) (sym is) (raises_it slots id (v, (0, Some value) ∷ []) value count refl may counted)
+      subst (λ (m : At). Allows (HasOneHistory history fixed wrong) slots id m 1 (λ _. count) (λ _. raises_count history wrong any_step m count)) (sym is) (raises_it slots id (v, (0, Some value) ∷ []) value count refl may counted)
 
   pub raised_at : (v : SeatView) (me new : At) (value : B) (count : ℕ) → me ≡ (v, (0, Some value) ∷ []) → raises_count history wrong any_step me count new
       → new ≡ (raised v (history value) (wrong value), (0, Some value) ∷ [])
   raised_at v me new value count is told = told value (ap (λ (m : At). m.1) is) ∙ ap (λ (m : At). (raised m.0 (history value) (wrong value), m.1)) is
 
   pub gives_at : (slots id : ℕ) (v : SeatView) (me : At) (value : B) → me ≡ (raised v (history value) (wrong value), (0, Some value) ∷ []) → MayGiveBack history fixed wrong v value
-      → Allows (Stands history fixed wrong) slots id me 0 (λ _. 0) (λ _. gives_back any_step me 0)
+      → Allows (HasOneHistory history fixed wrong) slots id me 0 (λ _. 0)
+      (λ _. gives_back any_step me 0)
   gives_at slots id v me value is may =
-      subst (λ (m : At). Allows (Stands history fixed wrong) slots id m 0 (λ _. 0) (λ _. gives_back any_step m 0)) (sym is)
+      subst (λ (m : At). Allows (HasOneHistory history fixed wrong) slots id m 0 (λ _. 0) (λ _. gives_back any_step m 0)) (sym is)
       (gives_it slots id (raised v (history value) (wrong value), (0, Some value) ∷ []) value refl refl may.fixed_is refl may.acting may.some_part)
 
   pub given_at : (v : SeatView) (me new : At) (value : B) → me ≡ (raised v (history value) (wrong value), (0, Some value) ∷ []) → gives_back any_step me 0 new

@@ -53,5 +53,5 @@ abbrev pub of_known : List Entry → List Entry → List Entry
 of_known known history = filter (λ e. knows known e.client) history
 
 -- of each client that is known, the history has just the known entries, in their order
-abbrev pub IsOwn : List Entry → List Entry → Type 0
-IsOwn known history = (client : ℕ) → knows known client ≡ true → own history client ≡ own known client
+abbrev pub HasJustKnown : List Entry → List Entry → Type 0
+HasJustKnown known history = (client : ℕ) → knows known client ≡ true → own history client ≡ own known client

@@ -7,7 +7,8 @@ use Rattle.broker_lock.specs.declared.calls.Done.{Done}
 use Rattle.broker_lock.specs.declared.calls.Done.TheVariants as dones
 use Rattle.broker_lock.specs.declared.calls.Job.{Job}
 use Rattle.broker_lock.specs.declared.calls.Job.TheVariants as jobs
-use Rattle.broker_lock.specs.Known.{Fixed, IsLegalOver, IsOwn, Origin, has_closed, knows, of_known}
+use Rattle.broker_lock.specs.Known.{Fixed, HasJustKnown, IsLegalOver, Origin, has_closed, knows}
+use Rattle.broker_lock.specs.Known.{of_known}
 use Rattle.broker_lock.specs.Serves.{IsClosed, Opens, Tells, TellsCanceled, closes_wrong, opens_wrong, tells_wrong}
 use Rattle.broker_lock.specs.View.{SeatView}
 
@@ -82,7 +83,7 @@ pub record Acts (legal : Origin → List Entry → Type 0) (old : PassView) (job
   pub opened : (client : ℕ) → done ≡ dones.Opened (Ok client) → (knows before client ≡ false) × (knows new.known client ≡ true)
   -- in the order of the history
   pub order : new.known ≡ of_known new.known new.front
-  pub own : IsOwn new.known new.front
+  pub own : HasJustKnown new.known new.front
   pub is_legal : IsLegalOver legal new.fixed.base new.front
   pub lock : new.lock ≡ old.lock
   pub fixed : new.fixed ≡ old.fixed
@@ -107,14 +108,14 @@ pub record Joins (old ended new : PassView) : Type 0 where
   -- with the entries that were known of each
   pub of_old : (client : ℕ) → knows old.known client ≡ true → own new.known client ≡ own old.known client
   pub of_ended : (client : ℕ) → knows ended.known client ≡ true → own new.known client ≡ own ended.known client
-  pub own : IsOwn new.known new.front
+  pub own : HasJustKnown new.known new.front
   pub lock : new.lock ≡ old.lock
   pub fixed : new.fixed ≡ old.fixed
   pub parts : new.parts ≡ old.parts + ended.parts
   pub wrong : new.wrong ≡ (old.wrong || ended.wrong)
 
 -- the history at the end: the front, each client of which is known, and so each entry; and whether a wrong answer came
-pub record Ends (pass : PassView) (history : List Entry) (fixed : Fixed) (wrong : Bool) : Type 0 where
+pub record PassEnds (pass : PassView) (history : List Entry) (fixed : Fixed) (wrong : Bool) : Type 0 where
   pub front : history ≡ pass.front
   pub all : (client : ℕ) → knows history client ≡ true → knows pass.known client ≡ true
   pub known : history ≡ pass.known

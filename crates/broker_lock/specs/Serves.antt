@@ -93,14 +93,14 @@ Tells fixed before after client number bytes reply (tolds.JournalFull count most
 Tells fixed before after client number bytes reply tolds.Answer = (after ≡ before) × (reply ≡ error_reply RC_DEVICE_ANSWER) × IsUntold fixed
 
 -- the command was canceled before it ran: its entry says so, for which a journal of this limit has room
-pub record IsCanceled (limit : ℕ) (before after : List Entry) (client number upto : ℕ) (bytes reply : List ℕ) : Type 0 where
+pub record IsEnteredCanceled (limit : ℕ) (before after : List Entry) (client number upto : ℕ) (bytes reply : List ℕ) : Type 0 where
   pub entered : after ≡ before ++ canceled_entry client number upto bytes reply ∷ []
   pub reply_is : reply ≡ error_reply RC_CANCELED
   pub room : HasRoom limit before bytes
 
 -- it takes no memory
 abbrev pub TellsCanceled : Fixed → List Entry → List Entry → (client number upto : ℕ) (bytes reply : List ℕ) → Told → Type 0
-TellsCanceled fixed before after client number upto bytes reply tolds.Entered = IsCanceled fixed.limit before after client number upto bytes reply
+TellsCanceled fixed before after client number upto bytes reply tolds.Entered = IsEnteredCanceled fixed.limit before after client number upto bytes reply
 TellsCanceled fixed before after client number upto bytes reply tolds.Memory = ⊥
 TellsCanceled fixed before after client number upto bytes reply (tolds.JournalFull count most) = IsFull fixed.limit before after bytes reply count most
 TellsCanceled fixed before after client number upto bytes reply tolds.Answer = (after ≡ before) × (reply ≡ error_reply RC_DEVICE_ANSWER) × IsUntold fixed

@@ -9,7 +9,7 @@ use Rattle.atomic_table.specs.Table.{Me, State, Step}
 use Rattle.history_spec.specs.declared.EntryKind.{EntryKind}
 use Rattle.history_spec.specs.declared.EntryKind.TheVariants.{Open, Command, Canceled, Fault, Close}
 use Rattle.history_spec.specs.Entry.{Entry, clients_of, IsOpen}
-use Rattle.broker_lock.specs.Known.{Fixed, IsOwn, has_closed, knows, of_known}
+use Rattle.broker_lock.specs.Known.{Fixed, HasJustKnown, has_closed, knows, of_known}
 use Rattle.broker_lock.specs.View.{SeatView}
 
 -- ---- the history
@@ -39,8 +39,8 @@ pub record IsTrueOf (fixed : Fixed) (log : List Entry) (came : Bool) (v : SeatVi
   pub fixed_is : 0 < v.parts → v.fixed ≡ fixed
   pub front : IsPrefix v.front log
   pub met : IsPrefix v.met log
-  pub own_log : IsOwn v.known log
-  pub own_front : IsOwn v.known v.front
+  pub own_log : HasJustKnown v.known log
+  pub own_front : HasJustKnown v.known v.front
   pub spent : v.parts ≡ 0 → (v.front ≡ []) × (v.known ≡ []) × (v.acting ≡ false)
   pub told : v.wrong ≡ true → came ≡ true
 
@@ -49,7 +49,7 @@ abbrev pub parts_of : List SeatView → ℕ
 parts_of views = sum_by (λ v. v.parts) views
 
 -- one seat has the turn and the value, and has seen the whole history and whether a wrong answer came
-pub record IsTaken {B : Type 0} (log : List Entry) (came : Bool) (s : State (Option B) SeatView) : Type 0 where
+pub record IsTurnTaken {B : Type 0} (log : List Entry) (came : Bool) (s : State (Option B) SeatView) : Type 0 where
   pub seat : ℕ
   pub words : s.words ≡ 1 ∷ length log ∷ []
   pub out : s.homes ≡ none ∷ []
@@ -57,7 +57,7 @@ pub record IsTaken {B : Type 0} (log : List Entry) (came : Bool) (s : State (Opt
   pub alone : (j : ℕ) (v : SeatView) → get_elem? s.views j ≡ some v → v.acting ≡ true → (j ≡ seat) × (v.front ≡ log) × (v.wrong ≡ came)
 
 -- nobody has the turn, and the value has this history
-pub record IsFree {B : Type 0} (history : B → List Entry) (fixed : B → Fixed) (wrong : B → Bool) (all : Fixed) (log : List Entry) (came : Bool) (s : State (Option B) SeatView) : Type 0 where
+pub record IsTurnFree {B : Type 0} (history : B → List Entry) (fixed : B → Fixed) (wrong : B → Bool) (all : Fixed) (log : List Entry) (came : Bool) (s : State (Option B) SeatView) : Type 0 where
   pub value : B
   pub words : s.words ≡ 0 ∷ length log ∷ []
   pub home : s.homes ≡ some (Some value) ∷ []
@@ -67,13 +67,13 @@ pub record IsFree {B : Type 0} (history : B → List Entry) (fixed : B → Fixed
   pub nobody : (j : ℕ) (v : SeatView) → get_elem? s.views j ≡ some v → v.acting ≡ false
 
 -- there is one history. Each client of it is known to one seat, and some seat has seen all of it
-pub record Stands {B : Type 0} (history : B → List Entry) (fixed : B → Fixed) (wrong : B → Bool) (s : State (Option B) SeatView) : Type 0 where
+pub record HasOneHistory {B : Type 0} (history : B → List Entry) (fixed : B → Fixed) (wrong : B → Bool) (s : State (Option B) SeatView) : Type 0 where
   pub all : Fixed
   pub log : List Entry
   -- whether a wrong answer came
   pub came : Bool
   pub orderly : IsOrderly log
-  pub turn : IsFree history fixed wrong all log came s ⊎ IsTaken log came s
+  pub turn : IsTurnFree history fixed wrong all log came s ⊎ IsTurnTaken log came s
   pub parts : parts_of s.views ≡ 1024
   pub each : (j : ℕ) (v : SeatView) → get_elem? s.views j ≡ some v → IsTrueOf all log came v
   -- which seat knows a client
@@ -89,7 +89,7 @@ pub record HasTurn {B : Type 0} (history : B → List Entry) (fixed : B → Fixe
   pub now : new ≡ record old { front = history value; acting = true; wrong = wrong value }
   pub fixed_is : fixed value ≡ old.fixed
   pub seen : IsPrefix old.front (history value)
-  pub own : IsOwn old.known (history value)
+  pub own : HasJustKnown old.known (history value)
   pub orderly : IsOrderly (history value)
   pub told : old.wrong ≡ true → wrong value ≡ true
 
@@ -160,7 +160,7 @@ settled v = record v { met = []; known = of_known v.known v.front }
 pub record Settles (old new : SeatView) : Type 0 where
   pub now : new ≡ settled old
   pub met : IsPrefix old.met old.front
-  pub own : IsOwn old.known old.front
+  pub own : HasJustKnown old.known old.front
 
 abbrev pub settles : {B : Type 0} → Step (Option B) → Me (Option B) SeatView → ℕ → Me (Option B) SeatView → Type 0
 settles st old found new = (new.1 ≡ old.1) × Settles old.0 new.0

@@ -1,6 +1,6 @@
 ghost use Rattle.std.specs.Prelude.{◌≡◌, ◌≤◌, ◌-◌, false, [], IfOk, IfErr};
 ghost use Rattle.broker_lock.specs.Turn.{IsIdle};
-ghost use Rattle.broker_lock.specs.Pass.{Acts, Ends, IsCommandJob, Joins, MayAsk, pass_view};
+ghost use Rattle.broker_lock.specs.Pass.{Acts, IsCommandJob, Joins, MayAsk, PassEnds, pass_view};
 
 use crate::calls::{Done, Job};
 use crate::seat::{AllParts, OneHistory, OnePart, Settle, Standing};
@@ -130,7 +130,7 @@ impl<B: Recorded> Shared<B> {
     pub fn close(self, pass: Pass<B>) -> B
         requires lock { pass.lock ≡ self }
         requires parts { pass.parts ≡ 1024 }
-        ensures { Ends pass (B.history result) (B.fixed result) (B.wrong result) }
+        ensures { PassEnds pass (B.history result) (B.fixed result) (B.wrong result) }
     {
         let Shared { table, sleepers: _ } = self;
         let seat = pass.into_seat();

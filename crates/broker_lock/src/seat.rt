@@ -22,9 +22,9 @@ pub struct OneHistory;
 
 impl<B: Recorded> TableRule<Option<B>, Standing, Snapshot<B>> for OneHistory {
     ghost use Rattle.broker_lock.specs.View.{first_view};
-    ghost use Rattle.broker_lock.specs.Turn.{Stands};
+    ghost use Rattle.broker_lock.specs.Turn.{HasOneHistory};
 
-    ghost holds = { λ key. Stands B.history B.fixed B.wrong };
+    ghost holds = { λ key. HasOneHistory B.history B.fixed B.wrong };
 
     ghost first = { λ key. first_view (B.fixed key.value) };
 }

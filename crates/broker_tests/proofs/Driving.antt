@@ -13,7 +13,7 @@ use Rattle.world_laws.proofs.Clients.{stay}
 use Rattle.world_laws.proofs.Histories.{clients_of-push, each-filter, each-push, each-weaker}
 use Rattle.broker_lock.specs.declared.calls.Told.{Told}
 use Rattle.broker_lock.specs.declared.calls.Told.TheVariants as tolds
-use Rattle.broker_core.specs.Broker.{BrokerView, IsCarriedOut, IsFaulted, IsRefused, Tells, TellsCanceled}
+use Rattle.broker_core.specs.Broker.{BrokerTells, BrokerTellsCanceled, BrokerView, IsCarriedOut, IsFaulted, IsRefused}
 use Rattle.broker_tests.specs.Driven.{IsDriven}
 
 -- a broker that has opened nobody
@@ -72,7 +72,7 @@ is_plain seen old new client number bytes e (inr (inr carried)) =
     subst (IsPlain old.journal number) (sym carried.entry) (record { same = refl; number_is = refl })
 
 pub told : (contexts : ContextLimits) {D : Type 0} (seen : D → Seen) (result : Told) (old new : BrokerView D) (client number : ℕ) (bytes reply : List ℕ) {closed opened : ℕ}
-    → Tells contexts seen result old new client number bytes reply → IsDriven old.journal closed opened number
+    → BrokerTells contexts seen result old new client number bytes reply → IsDriven old.journal closed opened number
     → IsDriven new.journal closed opened (number + 1)
 told contexts seen tolds.Entered old new client number bytes reply {closed} {opened} t d =
     let p = is_plain seen old new client number bytes t.e t.cause in
@@ -85,7 +85,7 @@ told contexts seen tolds.Answer old new client number bytes reply {closed} {open
     subst (λ (h : List Entry). IsDriven h closed opened (number + 1)) (sym t.0) (more old.journal d)
 
 pub canceled : {D : Type 0} (result : Told) (old new : BrokerView D) (client number upto : ℕ) (bytes reply : List ℕ) {closed opened : ℕ}
-    → TellsCanceled result old new client number upto bytes reply → IsDriven old.journal closed opened number → IsDriven new.journal closed opened (number + 1)
+    → BrokerTellsCanceled result old new client number upto bytes reply → IsDriven old.journal closed opened number → IsDriven new.journal closed opened (number + 1)
 canceled tolds.Entered old new client number upto bytes reply {closed} {opened} t d =
     subst (λ (v : BrokerView _). IsDriven v.journal closed opened (number + 1)) (sym t.same) (plain old.journal (canceled_entry client number upto bytes reply) refl refl d)
 canceled tolds.Memory old new client number upto bytes reply {closed} {opened} t d = absurd t

@@ -8,9 +8,9 @@ pub struct SeatHistory {
 }
 
 impl Model for SeatHistory {
-    ghost use Rattle.cancel_words.specs.Rule.{SeatView, blank_seat};
+    ghost use Rattle.cancel_words.specs.Rule.{WordSeatView, blank_seat};
 
-    ghost Value = { SeatView };
+    ghost Value = { WordSeatView };
 
     ghost view = { λ _. blank_seat };
 }
@@ -19,9 +19,9 @@ impl Model for SeatHistory {
 pub struct OneRaiser;
 
 impl TableRule<(), SeatHistory, ()> for OneRaiser {
-    ghost use Rattle.cancel_words.specs.Rule.{Stands, first_seat};
+    ghost use Rattle.cancel_words.specs.Rule.{HasOneRaiser, first_seat};
 
-    ghost holds = { λ key. Stands };
+    ghost holds = { λ key. HasOneRaiser };
 
     ghost first = { λ key. first_seat };
 }

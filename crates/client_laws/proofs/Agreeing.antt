@@ -21,7 +21,7 @@ use Rattle.effect_spec.specs.Operands.{Operand, absent, plain, command_auth, obj
 use Rattle.history_spec.specs.Table.{held_under}
 use Rattle.world_spec.specs.World.{ClientState, client_operands, session_of, tables_of}
 use Rattle.device_spec.specs.Slots.{SlotState, in_slot, is_free, loaded_session, slot_operands, slot_tables}
-use Rattle.tab_laws.specs.OtherHandles.{AreHandlesOf, AreThere, absent_are_zero, handled}
+use Rattle.tab_laws.specs.OtherHandles.{AreHandlesOf, HandlesAreThere, absent_are_zero, handled}
 use Rattle.tab_laws.proofs.Handled.{client_is, passed}
 use Rattle.tab_laws.proofs.OwnHandles.{other_first, own_handles}
 use Rattle.client_laws.specs.Ready.{IsReady, StandsBy, named_sessions}
@@ -190,7 +190,7 @@ once_one slots client state handle first second auth agree (inr session) e =
 pub record Runs (slots : SlotState) (client : ℕ) (state : ClientState) (bytes : List ℕ) (a : Admitted) (first : ℕ) : Type 0 where
   pub whole : admitted row_of (tables_of client state) bytes ≡ Ok a
   pub are : AreHandlesOf a.shape first (get_or a.shape.handles 1 0)
-  pub there : AreThere (slot_tables slots) bytes a first (get_or a.shape.handles 1 0)
+  pub there : HandlesAreThere (slot_tables slots) bytes a first (get_or a.shape.handles 1 0)
   pub operands : slot_operands slots (handled a.shape first (get_or a.shape.handles 1 0)) a.auths ≡ client_operands client state a.shape a.auths
 
 -- the first kind, and another handle of an object there

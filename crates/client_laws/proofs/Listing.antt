@@ -16,13 +16,13 @@ use Rattle.tab_spec.specs.Reply.{error_reply, response}
 use Rattle.tab_spec.specs.Shape.{are_of_kinds, handle_bytes, is_session_octet, loads_object, octet_of, with_handles}
 use Rattle.tab_spec.specs.Values.{Reading, number32, then_read}
 use Rattle.tab_spec.specs.declared.contexts.TheConstants.{PROFILE_CONTEXTS}
-use Rattle.effect_spec.specs.Capabilities.{Asked, Limits, Listed, asked_of, capability_of, client_limits, device_limits, handle_items, handles_listed, is_own_list, is_of_device, asks_another, list_of, listed, property_items, property_pairs, transient_from}
+use Rattle.effect_spec.specs.Capabilities.{Asked, CapabilityLimits, Listed, asked_of, capability_of, client_limits, device_limits, handle_items, handles_listed, is_own_list, is_of_device, asks_another, list_of, listed, property_items, property_pairs, transient_from}
 use Rattle.history_spec.specs.declared.Pick.TheVariants.{Nothing}
 use Rattle.world_spec.specs.World as world
 use Rattle.world_spec.specs.World.{ClientState, ClientStep, active, capability_step, choosing_nothing, client_capability, client_step, tables_of}
 use Rattle.device_spec.specs.Answers.{asks_of_tables, has_response_handle, is_of_tables, is_word, takes, word_at}
 use Rattle.device_spec.specs.Slots.{SlotState, Step, active_count, capability_row, capability_told, get_capability, listed_from, slot_step, slot_tables, step_by}
-use Rattle.tab_laws.specs.OtherHandles.{AreHandlesOf, AreThere, absent_are_zero}
+use Rattle.tab_laws.specs.OtherHandles.{AreHandlesOf, HandlesAreThere, absent_are_zero}
 use Rattle.tab_laws.proofs.Handled.{client_is, handled_is}
 use Rattle.tab_laws.proofs.ReadBack.{Gives, gives_next}
 use Rattle.device_laws.proofs.AnswerForms.{no_tables_asked, refusal_taken, success_taken, takes_same}
@@ -62,7 +62,7 @@ list_by : {X : Type 0} (one two five six asks : Bool) (a other b c d another e :
 list_by true two five six asks a other b c d another e none same = same none
 list_by false two five six asks a other b c d another e none same = rw none refl
 
-list_same : (limits other : Limits) (rows : List CommandRow) (persist : Persist) (objects others : List ℕ) (sessions held : List Listed) (active now : ℕ)
+list_same : (limits other : CapabilityLimits) (rows : List CommandRow) (persist : Persist) (objects others : List ℕ) (sessions held : List Listed) (active now : ℕ)
     (asked : Asked) → is_own_list asked ≡ false
     → list_of limits rows persist objects sessions active asked ≡ list_of other rows persist others held now asked
 list_same limits other rows persist objects others sessions held active now asked none =
@@ -80,7 +80,7 @@ read_same : (read : Reading Asked) (first second : Asked → Result (List ℕ) �
 read_same (Err code) first second of same = absurd cc
 read_same (Ok read) first second of same = whole_same (length read.1 == 0) read.0 first second of (same read.0)
 
-pub capability_same : (limits other : Limits) (rows : List CommandRow) (persist : Persist) (objects others : List ℕ) (sessions held : List Listed)
+pub capability_same : (limits other : CapabilityLimits) (rows : List CommandRow) (persist : Persist) (objects others : List ℕ) (sessions held : List Listed)
     (active now : ℕ) (params : List ℕ) → is_of_device params ≡ true
     → capability_of limits rows persist objects sessions active params ≡ capability_of other rows persist others held now params
 capability_same limits other rows persist objects others sessions held active now params of =
@@ -107,7 +107,7 @@ plain_told state (Ok params) = refl
 
 -- it names nothing, so it may be run over any tables
 list_there : (tables : Tables) (bytes : List ℕ) (a : Admitted) → Bare bytes a list_row → (a.shape.row.code == CC_GET_CAPABILITY) ≡ true
-    → AreThere tables bytes a 0 0
+    → HandlesAreThere tables bytes a 0 0
 list_there tables bytes a b is = record {
   handles = refl;
   sessions = ap (λ (n : ℕ). missing_session tables 0 (take n a.auths.auths)) b.none;
@@ -209,7 +209,7 @@ fails_listed : (asked : Asked) (items : Result (List (List ℕ)) ℕ) → Fails 
 fails_listed asked (Err code) fails = fails
 fails_listed asked (Ok items) fails = tt
 
-fails_list : (limits : Limits) (rows : List CommandRow) (persist : Persist) (objects : List ℕ) (sessions : List Listed) (active : ℕ) (asked : Asked)
+fails_list : (limits : CapabilityLimits) (rows : List CommandRow) (persist : Persist) (objects : List ℕ) (sessions : List Listed) (active : ℕ) (asked : Asked)
     → Fails IsPlain (list_of limits rows persist objects sessions active asked)
 fails_list limits rows persist objects sessions active asked =
     let P : Result (List ℕ) ℕ → Type 0 = λ row. Fails IsPlain row in

@@ -34,7 +34,7 @@ use Rattle.device_laws.proofs.Answering.{found_has}
 use Rattle.device_laws.proofs.FaultRows.{outcome_plain}
 use Rattle.device_laws.proofs.Faults.{Fails, IsPlain}
 use Rattle.device_laws.proofs.Frames.{code_of_response}
-use Rattle.client_laws.specs.Ready.{AreAmong, IsAmong, client_effect, ends_session, named_sessions, starts_session}
+use Rattle.client_laws.specs.Ready.{IsAmong, SessionsAreAmong, client_effect, ends_session, named_sessions, starts_session}
 use Rattle.client_laws.proofs.Commands.{clients_command}
 use Rattle.client_laws.proofs.Made.{closes_plain, error_fails}
 
@@ -260,7 +260,7 @@ auth_among named true handle None is = tt
 auth_among named true handle (Some s) is = is refl
 auth_among named false handle found is = tt
 
-given_among : (client : ℕ) (state : ClientState) (a : Admitted) → AreAmong (named_sessions a) (client_operands client state a.shape a.auths)
+given_among : (client : ℕ) (state : ClientState) (a : Admitted) → SessionsAreAmong (named_sessions a) (client_operands client state a.shape a.auths)
 given_among client state a =
     let first = get_or a.shape.handles 0 0 in
     let second = get_or a.shape.handles 1 0 in
@@ -295,26 +295,26 @@ auth_left named (Some held) None is = is
 auth_left named (Some held) (Some s) is = is
 
 among_closed : (named : List ℕ) (persist : Persist) (operands : Operands) (shape : Shape) (auths : Auths) (done : RowOutcome) (closed : Result ResponseAuth ℕ)
-    → AreAmong named operands → AreAmong named (effect_authorized persist operands shape auths done closed).operands
+    → SessionsAreAmong named operands → SessionsAreAmong named (effect_authorized persist operands shape auths done closed).operands
 among_closed named persist operands shape auths done (Err code) are = are
 among_closed named persist operands shape auths done (Ok closed) are =
     let left = among_left named operands.handles done.policy (are.first, are.second) in
     record { first = left.0; second = left.1; authorization = auth_left named operands.session closed.session are.authorization }
 
 among_in : (named : List ℕ) (persist : Persist) (operands : Operands) (shape : Shape) (auths : Auths) (bytes : List ℕ) (row : Result RowOutcome ℕ)
-    → AreAmong named operands → AreAmong named (effect_in persist operands shape auths bytes row).operands
+    → SessionsAreAmong named operands → SessionsAreAmong named (effect_in persist operands shape auths bytes row).operands
 among_in named persist operands shape auths bytes (Err code) are = are
 among_in named persist operands shape auths bytes (Ok done) are =
     among_closed named persist operands shape auths done (response_auth_of persist operands shape auths bytes done) are
 
 among_of : (named : List ℕ) (persist : Persist) (operands : Operands) (shape : Shape) (auths : Auths) (bytes : List ℕ)
-    → AreAmong named operands → AreAmong named (effect_of persist operands shape auths bytes).operands
+    → SessionsAreAmong named operands → SessionsAreAmong named (effect_of persist operands shape auths bytes).operands
 unfolding effect_of
 among_of named persist operands shape auths bytes are =
     among_in named persist operands shape auths bytes (outcome_of persist operands shape auths bytes) are
 
 pub left_among : (client : ℕ) (state : ClientState) (bytes : List ℕ) (a : Admitted)
-    → AreAmong (named_sessions a) (client_effect client state a bytes).operands
+    → SessionsAreAmong (named_sessions a) (client_effect client state a bytes).operands
 left_among client state bytes a =
     among_of (named_sessions a) state.persist (client_operands client state a.shape a.auths) a.shape a.auths bytes (given_among client state a)
 

@@ -11,7 +11,7 @@ use Rattle.tab_spec.specs.Frame.{code_of, is_frame, tag_of}
 use Rattle.tab_spec.specs.Shape.{is_command_tag, known_row, row_in, with_handles}
 use Rattle.effect_spec.specs.Effect.{Effect, effect_of}
 use Rattle.device_spec.specs.Slots.{SlotState, Step, effect_by, room_for, slot_admitted, slot_effect, slot_operands, slot_step, slot_tables, unless_full}
-use Rattle.tab_laws.specs.OtherHandles.{AreHandlesOf, AreThere, admitted_handled, handled}
+use Rattle.tab_laws.specs.OtherHandles.{AreHandlesOf, HandlesAreThere, admitted_handled, handled}
 use Rattle.tab_laws.proofs.Behind.{AuthsBehind, auths_of_behind, drop_behind}
 use Rattle.tab_laws.proofs.Handled.{handled_admitted, handled_is, passed}
 use Rattle.device_laws.specs.OtherHandles.{effect_over}
@@ -52,7 +52,7 @@ device_does slots bytes a started e =
 
 -- the same over other handles
 pub over_does : (slots : SlotState) (tables : Tables) (bytes : List ℕ) (a : Admitted) (first second : ℕ) → slots.started ≡ true
-    → admitted row_of tables bytes ≡ Ok a → AreHandlesOf a.shape first second → AreThere (slot_tables slots) bytes a first second
+    → admitted row_of tables bytes ≡ Ok a → AreHandlesOf a.shape first second → HandlesAreThere (slot_tables slots) bytes a first second
     → slot_step slots (with_handles bytes a.shape (first ∷ second ∷ []))
     ≡ slot_effect slots (handled a.shape first second) a.auths (with_handles bytes a.shape (first ∷ second ∷ []))
 over_does slots tables bytes a first second started e are there =
@@ -86,7 +86,7 @@ device_run slots bytes a started e is =
 
 -- and over other handles
 pub over_run : (slots : SlotState) (tables : Tables) (bytes : List ℕ) (a : Admitted) (first second : ℕ) → slots.started ≡ true
-    → admitted row_of tables bytes ≡ Ok a → AreHandlesOf a.shape first second → AreThere (slot_tables slots) bytes a first second → IsRun a.shape.row.code
+    → admitted row_of tables bytes ≡ Ok a → AreHandlesOf a.shape first second → HandlesAreThere (slot_tables slots) bytes a first second → IsRun a.shape.row.code
     → slot_step slots (with_handles bytes a.shape (first ∷ second ∷ []))
     ≡ run_with slots (effect_over slots bytes a first second) (room_for slots a.shape.row.code (drop a.auths.params bytes))
 over_run slots tables bytes a first second started e are there is =

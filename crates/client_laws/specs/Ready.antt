@@ -104,7 +104,7 @@ IsAmong named (an_object o) = Unit {0}
 IsAmong named (a_session handle s) = list_any (λ other. other == handle) named ≡ true
 
 -- the sessions of an effect are among these
-pub record AreAmong (named : List ℕ) (operands : Operands) : Type 0 where
+pub record SessionsAreAmong (named : List ℕ) (operands : Operands) : Type 0 where
   pub first : IsAmong named (operand_at operands.handles 0)
   pub second : IsAmong named (operand_at operands.handles 1)
   pub authorization : IfSome operands.session (λ held. list_any (λ other. other == held.0) named ≡ true)

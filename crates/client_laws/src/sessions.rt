@@ -3,7 +3,8 @@ ghost use Rattle.std.specs.List.{AllByRecursion};
 ghost use Rattle.tab_spec.specs.declared.Admitted.{Admitted};
 ghost use Rattle.tab_spec.specs.Admission.{Tables, client_admitted};
 ghost use Rattle.world_spec.specs.World.{ClientState, tables_of};
-ghost use Rattle.client_laws.specs.Ready.{AreAmong, client_effect, ends_session, named_sessions};
+ghost use Rattle.client_laws.specs.Ready.{SessionsAreAmong, client_effect, ends_session};
+ghost use Rattle.client_laws.specs.Ready.{named_sessions};
 ghost use Rattle.client_laws.specs.Ready.{starts_session};
 
 /// A client's command that is admitted names sessions of the client alone, and where it starts one,
@@ -17,7 +18,7 @@ pub fn clients_commands_name_their_sessions()
         → client_admitted tables bytes ≡ Ok a → starts_session a ≡ true → named_sessions a ≡ [] }
     ensures few { (a : Admitted) → length (named_sessions a) ≤ 3 }
     ensures among { (client : ℕ) (state : ClientState) (bytes : List ℕ) (a : Admitted)
-        → AreAmong (named_sessions a) (client_effect client state a bytes).operands }
+        → SessionsAreAmong (named_sessions a) (client_effect client state a bytes).operands }
     ensures ended { (client : ℕ) (state : ClientState) (bytes : List ℕ) (a : Admitted)
         → client_admitted (tables_of client state) bytes ≡ Ok a
         → (client_effect client state a bytes).outcome.auth_ended

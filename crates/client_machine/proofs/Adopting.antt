@@ -20,7 +20,7 @@ use Rattle.history_laws.proofs.Counts.{count_cons, one_false, one_if, one_true}
 use Rattle.world_laws.proofs.Histories.{each-weaker}
 use Rattle.history_laws.proofs.Tables.{put, put_all, put_by, put_count}
 use Rattle.client_machine.specs.Moves.{Adopts, GainsNone, KeepsOwners, loads_kept, other_than}
-use Rattle.client_machine.specs.Tables.{IsPlaceOf, IsTable, is_item, naming_in, objects_in, place_object}
+use Rattle.client_machine.specs.Tables.{IsTable, IsTablePlace, is_item, naming_in, objects_in, place_object}
 use Rattle.client_machine.proofs.Seeing.{seen_places}
 use Rattle.client_machine.proofs.Settling.{some_same}
 
@@ -218,7 +218,7 @@ adopted_count {table = table} adopts = ap (λ (places : List (Option ℕ)). coun
 
 -- an item that is nowhere is in no table
 not_named : (items : List Item) (client item : ℕ) (table : List (Option ℕ)) → is_vacant (item_at items item) ≡ true
-    → AllByRecursion (λ place. IsPlaceOf client items place) table → naming_in item table ≡ 0
+    → AllByRecursion (λ place. IsTablePlace client items place) table → naming_in item table ≡ 0
 not_named items client item [] vacant all = refl
 not_named items client item (None ∷ table) vacant all = omega (
   arith,
@@ -233,7 +233,7 @@ not_named items client item (Some index ∷ table) vacant all = omega (
 )
 
 adopted_place : {client handle : ℕ} {items new_items : List Item} {table new_table : List (Option ℕ)}
-    → Adopts client handle items new_items table new_table → (place : Option ℕ) → IsPlaceOf client items place → IsPlaceOf client new_items place
+    → Adopts client handle items new_items table new_table → (place : Option ℕ) → IsTablePlace client items place → IsTablePlace client new_items place
 adopted_place adopts None is = tt
 adopted_place adopts (Some index) is =
     (adopted_names index adopts is.0, ap (λ (item : Item). item.client) (adopted_item index adopts is.0) ∙ is.1)
@@ -284,15 +284,15 @@ pub adopted_table : {client handle : ℕ} {items new_items : List Item} {table n
     → Adopts client handle items new_items table new_table → IsTable items client table → is_full table ≡ false → IsTable new_items client new_table
 adopted_table {client = client} {items = items} {new_items = new_items} {table = table} adopts is few =
     let new = adopted_new adopts in
-    let here : IsPlaceOf client new_items (Some adopts.item) = (
+    let here : IsTablePlace client new_items (Some adopts.item) = (
       record { inside = omega (arith, adopts.inside, adopted_length adopts); there = ap is_vacant new },
       ap (λ (item : Item). item.client) new,
     ) in
-    let named : AllByRecursion (λ place. IsPlaceOf client new_items place) (put_least adopts.item table) =
-    put_all (λ place. IsPlaceOf client new_items place) adopts.item table
-    (each-weaker (λ place. IsPlaceOf client items place) (λ place. IsPlaceOf client new_items place) table (adopted_place adopts) is.named) here in
+    let named : AllByRecursion (λ place. IsTablePlace client new_items place) (put_least adopts.item table) =
+    put_all (λ place. IsTablePlace client new_items place) adopts.item table
+    (each-weaker (λ place. IsTablePlace client items place) (λ place. IsTablePlace client new_items place) table (adopted_place adopts) is.named) here in
     record {
-      named = subst (λ (table : List (Option ℕ)). AllByRecursion (λ place. IsPlaceOf client new_items place) table) (sym adopts.table_is) named;
+      named = subst (λ (table : List (Option ℕ)). AllByRecursion (λ place. IsTablePlace client new_items place) table) (sym adopts.table_is) named;
       apart = λ index. adopted_once index adopts is;
       all = λ index own. adopted_all index adopts is own;
       few = omega (arith, leb-false CLIENT_OBJECTS (count_held table) few, adopted_count adopts);
@@ -311,7 +311,7 @@ adopts_stand {others = others} after items index client slot stand inside vacant
 
 place_kept : (slots after : SlotState) (items new_items : List Item) (client : ℕ)
     → ((index : ℕ) → Names items index → item_object after (item_at new_items index) ≡ item_object slots (item_at items index))
-    → (place : Option ℕ) → IsPlaceOf client items place → place_object after new_items place ≡ place_object slots items place
+    → (place : Option ℕ) → IsTablePlace client items place → place_object after new_items place ≡ place_object slots items place
 place_kept slots after items new_items client others None is = refl
 place_kept slots after items new_items client others (Some index) is = others index is.0
 
@@ -353,7 +353,7 @@ adopted {client = client} {handle = handle} {items = items} {new_items = new_ite
       others = others;
       objects = ap (λ (table : List (Option ℕ)). objects_in after new_items table) adopts.table_is
           ∙ put f g adopts.item o table
-          (each-weaker (λ place. IsPlaceOf client items place) (λ place. g place ≡ f place) table (place_kept slots after items new_items client others) is.named)
+          (each-weaker (λ place. IsTablePlace client items place) (λ place. g place ≡ f place) table (place_kept slots after items new_items client others) is.named)
           (seen_places slots items client table stand is)
           (ap (λ (item : Item). item_object after item) new ∙ held);
     }

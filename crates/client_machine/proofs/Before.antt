@@ -7,7 +7,7 @@ use Rattle.tab_spec.specs.Frame.{code_of}
 use Rattle.tab_spec.specs.declared.contexts.ContextLimits.{ContextLimits}
 use Rattle.device_spec.specs.ContextCommands.{flush_context_command}
 use Rattle.device_port.specs.Device.{Seen, Transmission, asked_of, last_of}
-use Rattle.device_port.specs.Own.{Asks, AsksSome, EndAtNewest, IsAnswered, IsOwn}
+use Rattle.device_port.specs.Own.{Asks, AsksSome, EndAtNewest, IsOwn, IsOwnAnswered}
 use Rattle.device_port.specs.declared.own.SwapError.{SwapError}
 use Rattle.device_port.proofs.Sending.{all_taken, answered_then, one_taken, sends_then}
 use Rattle.client_machine.specs.Moves.{FailsAtLast, FlushesSome, IsSent, MakesReady, SentBefore}
@@ -55,7 +55,7 @@ before_then {contexts = contexts} seen count old mid new x first second = record
   flushed = first.flushed;
   own = sends_then contexts seen first.cleared mid new first.own second.own;
   all = all_taken contexts second.own.sent first.own.sent second.all first.all;
-  answered = answered_then (λ device. IsAnswered contexts (asked_of (seen device)) (last_of (seen device))) old mid new first.answered second.answered;
+  answered = answered_then (λ device. IsOwnAnswered contexts (asked_of (seen device)) (last_of (seen device))) old mid new first.answered second.answered;
 }
 
 -- a call that succeeded, whatever it returned

@@ -28,9 +28,9 @@ use Rattle.history_laws.proofs.Counts.{count_cons, one_if}
 use Rattle.history_laws.proofs.Tables.{held_all}
 use Rattle.history_spec.specs.Table.{held_under}
 use Rattle.client_machine.specs.declared.held.Held.{Held}
-use Rattle.client_machine.specs.Moves.{AreTaken, KeepsOwners, MovesObjects, Prepares, any_client, first_handle, listed, named_by}
+use Rattle.client_machine.specs.Moves.{AreAllActive, KeepsOwners, MovesObjects, Prepares, any_client, first_handle, listed, named_by}
 use Rattle.client_machine.specs.Settled.{Settled, orphan_count}
-use Rattle.client_machine.specs.Tables.{IsPlaceOf, IsPlaced, IsTable, device_handle, handle_or, slot_handle, tables_seen}
+use Rattle.client_machine.specs.Tables.{IsPlaced, IsTable, IsTablePlace, device_handle, handle_or, slot_handle, tables_seen}
 use Rattle.client_machine.proofs.Settling.{counter_over_objects, keeps_over_objects, persist_over_objects, rest_over_objects, sessions_over_objects, settled_over_objects, some_same}
 
 -- ---- the items, one by one
@@ -223,12 +223,12 @@ handle_of_resident None placed = absurd cc
 
 -- ---- the object that a command names
 
-place_by : (transient : Bool) (client : ℕ) (items : List Item) (place : Option ℕ) → IsPlaceOf client items place
-    → IsPlaceOf client items (if transient then place else None)
+place_by : (transient : Bool) (client : ℕ) (items : List Item) (place : Option ℕ) → IsTablePlace client items place
+    → IsTablePlace client items (if transient then place else None)
 place_by true client items place is = is
 place_by false client items place is = tt
 
-kept_place : (client : ℕ) (items new_items : List Item) (place : Option ℕ) → IsPlaceOf client items place → KeepsOwners any_client items new_items
+kept_place : (client : ℕ) (items new_items : List Item) (place : Option ℕ) → IsTablePlace client items place → KeepsOwners any_client items new_items
     → IfSome place (λ item. Names new_items item)
 kept_place client items new_items None is keeps = tt
 kept_place client items new_items (Some index) is keeps = (keeps index client is.0 is.1 refl).0
@@ -239,9 +239,9 @@ pub named_kept : (client : ℕ) (items new_items : List Item) (table : List (Opt
     → IfSome named (λ item. Names new_items item)
 named_kept client items new_items table handle named is own keeps =
     kept_place client items new_items named
-    (subst (λ (place : Option ℕ). IsPlaceOf client items place) (sym is)
+    (subst (λ (place : Option ℕ). IsTablePlace client items place) (sym is)
     (place_by (octet_of handle == HT_TRANSIENT) client items (held_under table handle)
-    (held_all (λ place. IsPlaceOf client items place) table handle own.named tt)))
+    (held_all (λ place. IsTablePlace client items place) table handle own.named tt)))
     keeps
 
 pub command_shape : (tables : Tables) (bytes : List ℕ) (a : Admitted) → client_admitted tables bytes ≡ Ok a → shape_of bytes ≡ Ok a.shape
@@ -338,11 +338,11 @@ places_free (Some slots) (Some after) n same free =
 
 -- the room for a session stays where objects move
 pub room_kept : (old new : Option SlotState) (view new_view : SessionsView) → objects.rest_of new ≡ objects.rest_of old → new_view ≡ view
-    → (sessions.AreFree old 1 × (sessions.loaded_items view.items < view.numbers.loaded)) ⊎ AreTaken view
-    → (sessions.AreFree new 1 × (sessions.loaded_items new_view.items < new_view.numbers.loaded)) ⊎ AreTaken new_view
+    → (sessions.AreFree old 1 × (sessions.loaded_items view.items < view.numbers.loaded)) ⊎ AreAllActive view
+    → (sessions.AreFree new 1 × (sessions.loaded_items new_view.items < new_view.numbers.loaded)) ⊎ AreAllActive new_view
 room_kept old new view new_view rest same (inl free) = inl (
   places_free old new 1 rest free.0,
   subst (λ (v : SessionsView). sessions.loaded_items v.items < v.numbers.loaded) (sym same) free.1,
 )
 room_kept old new view new_view rest same (inr full) =
-    inr (subst AreTaken (sym same) full)
+    inr (subst AreAllActive (sym same) full)

@@ -12,7 +12,7 @@ use Rattle.tab_spec.specs.declared.contexts.ContextLimits.{ContextLimits}
 use Rattle.device_spec.specs.Answers.{IsRight}
 use Rattle.device_spec.specs.Slots.{SlotState}
 use Rattle.device_port.specs.Device.{Seen, asked_of, last_of}
-use Rattle.device_port.specs.Own.{IsAnswered}
+use Rattle.device_port.specs.Own.{IsOwnAnswered}
 use Rattle.device_port.specs.Use.{without_one}
 use Rattle.object_swap.specs.Items.{HasNone, Item, KeepsRest, Names, ObjectsView, Stand, counter_of, handle_in, is_client, is_owner, is_resident, is_vacant, item_at, item_object, no_item, objects_of, rest_of, without_object}
 use Rattle.object_swap.specs.Records.{number}
@@ -30,7 +30,7 @@ use Rattle.client_machine.specs.Costs.{own_objects, own_residents}
 use Rattle.client_machine.specs.Dropping.{AreLeftByFaults, Disowns, Drops, LeavesMore, SendsFlushes}
 use Rattle.client_machine.specs.Moves.{GainsNone, KeepsObjectsOf, KeepsOwners, other_than}
 use Rattle.client_machine.specs.Settled.{Settled, sessions_in}
-use Rattle.client_machine.specs.Tables.{IsPlaceOf, IsTable, is_item, naming_in}
+use Rattle.client_machine.specs.Tables.{IsTable, IsTablePlace, is_item, naming_in}
 use Rattle.client_machine.proofs.Keeping.{ClosesAs, Forgets, closes_same, closes_then, counted_both, counted_once, left_then, objects_same, owners_same, persist_same, right_none, rightly, for_then, same_for}
 use Rattle.client_machine.proofs.Orphans.{answered_then, gains_then, keeps_same, keeps_then, objects_then, owners_then, persist_then}
 use Rattle.client_machine.proofs.Prepared.{counts_same, counts_then}
@@ -48,8 +48,8 @@ pub record IsNamed (items : List Item) (client item : ℕ) : Type 0 where
 pub held_named : (items : List Item) (client : ℕ) (table : List (Option ℕ)) (handle item : ℕ) → IsTable items client table
     → held_under table handle ≡ Some item → IsNamed items client item
 held_named items client table handle item is held_here =
-    let named = subst (λ (place : Option ℕ). IsPlaceOf client items place) held_here
-    (held_all (λ (place : Option ℕ). IsPlaceOf client items place) table handle is.named tt) in
+    let named = subst (λ (place : Option ℕ). IsTablePlace client items place) held_here
+    (held_all (λ (place : Option ℕ). IsTablePlace client items place) table handle is.named tt) in
     record { names = named.0; own = named.1 }
 
 -- ---- the other items
@@ -211,8 +211,8 @@ naming_left table handle item index held_here =
       ap (λ (place : Option ℕ). one_if (is_item index place)) held_here,
     )
 
-other_place : (items : List Item) (client item : ℕ) (place : Option ℕ) → is_item item place ≡ false → IsPlaceOf client items place
-    → IsPlaceOf client (set items item no_item) place
+other_place : (items : List Item) (client item : ℕ) (place : Option ℕ) → is_item item place ≡ false → IsTablePlace client items place
+    → IsTablePlace client (set items item no_item) place
 other_place items client item None apart is = tt
 other_place items client item (Some index) apart is =
     let other : index ≢ item = eqb-false index item apart in
@@ -244,8 +244,8 @@ table_left items client table handle item is held_here =
     let there = there_by table handle item held_here in
     let new_items = set items item no_item in
     record {
-      named = subst (λ (places : List (Option ℕ)). AllByRecursion (λ place. IsPlaceOf client new_items place) places) (sym (taken_out table handle there))
-          (all_but (λ (place : Option ℕ). IsPlaceOf client items place) (λ (place : Option ℕ). IsPlaceOf client new_items place) table n None None is.named
+      named = subst (λ (places : List (Option ℕ)). AllByRecursion (λ place. IsTablePlace client new_items place) places) (sym (taken_out table handle there))
+          (all_but (λ (place : Option ℕ). IsTablePlace client items place) (λ (place : Option ℕ). IsTablePlace client new_items place) table n None None is.named
           (λ j inside apart. other_place items client item (get_or table j None) (elsewhere items client table handle item is held_here j apart)) tt);
       apart = λ index. omega (arith, is.apart index, naming_left table handle item index held_here);
       all = λ index own. all_left items client table handle item index is held_here own;
@@ -307,7 +307,7 @@ pub record Dropped {D : Type 0} (contexts : ContextLimits) (seen : D → Seen)
   pub stand : Stand (seen new).state new_view.items view.left
   pub counter : counter_of (seen new).state ≡ counter_of (seen old).state
   pub rest : KeepsRest seen old new
-  pub taken : (new ≡ old) ⊎ IsAnswered contexts (asked_of (seen new)) (last_of (seen new))
+  pub taken : (new ≡ old) ⊎ IsOwnAnswered contexts (asked_of (seen new)) (last_of (seen new))
   pub slots : new_view.slots ≡ view.slots
   pub owners : new_view.owners ≡ view.owners
   pub left : new_view.left ≡ view.left

@@ -8,7 +8,7 @@ use Rattle.tab_spec.specs.Numbers.{leave_limit}
 use Rattle.tab_spec.specs.declared.contexts.ContextLimits.{ContextLimits}
 use Rattle.device_spec.specs.Slots.{SlotState}
 use Rattle.device_port.specs.Device.{Seen, asked_of, last_of}
-use Rattle.device_port.specs.Own.{IsAnswered}
+use Rattle.device_port.specs.Own.{IsOwnAnswered}
 use Rattle.device_port.specs.Use.{without_one}
 use Rattle.object_swap.specs.Items as objects
 use Rattle.session_swap.specs.Items as sessions
@@ -49,7 +49,7 @@ pub record Ended {D : Type 0} (contexts : ContextLimits) (seen : D → Seen)
   pub room : HasGapRoom (seen new).state
   pub counter : counter_of (seen new).state ≡ counter_of (seen old).state
   pub rest : KeepsRest seen old new
-  pub answered : IsAnswered contexts (asked_of (seen new)) (last_of (seen new))
+  pub answered : IsOwnAnswered contexts (asked_of (seen new)) (last_of (seen new))
   pub made_for : new_view.contexts ≡ view.contexts
 
 -- of a session that is no orphan

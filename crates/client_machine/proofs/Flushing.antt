@@ -13,7 +13,7 @@ use Rattle.tab_spec.specs.declared.contexts.ContextLimits.{ContextLimits}
 use Rattle.device_spec.specs.ContextCommands.{flush_context_command}
 use Rattle.device_spec.specs.Slots.{SlotState}
 use Rattle.device_port.specs.Device.{Seen, asked_of, last_of, sent_of}
-use Rattle.device_port.specs.Own.{Asks, IsAnswered}
+use Rattle.device_port.specs.Own.{Asks, IsOwnAnswered}
 use Rattle.object_swap.specs.Items.{Item, KeepsRest, ObjectsStand, ObjectsView, handle_in, item_at, no_item, objects_of, without_object}
 use Rattle.session_swap.specs.Items as sessions
 use Rattle.history_laws.proofs.Tables.{at_all, held_all, named, without}
@@ -22,7 +22,7 @@ use Rattle.world_spec.specs.World.{ClientState, Owned, without_named}
 use Rattle.client_machine.specs.declared.held.Held.{Held}
 use Rattle.client_machine.specs.Moves.{FlushesSome, IsFlushSent, KeepsOwners, LeavesState, Moves, Prepares, StaysAs, any_client, client_state, other_than}
 use Rattle.client_machine.specs.Settled.{Sequences, Settled, orphan_count, sessions_in}
-use Rattle.client_machine.specs.Tables.{IsPlaceOf, IsTable, flushed_handle, is_item, objects_in, place_object, slot_handle}
+use Rattle.client_machine.specs.Tables.{IsTable, IsTablePlace, flushed_handle, is_item, objects_in, place_object, slot_handle}
 use Rattle.client_machine.proofs.Keeping.{Forgets}
 use Rattle.client_machine.proofs.Orphans.{dropped_object, keeps_then, objects_then, owners_then, zero_set}
 use Rattle.client_machine.proofs.Prepared.{counts_then}
@@ -123,7 +123,7 @@ only_there items client table handle item is held_here j apart =
 
 place_same : (old new : Option SlotState) (slots after : SlotState) (items new_items : List Item) (client item : ℕ) (place : Option ℕ)
     → objects_of new new_items ≡ without_object item (objects_of old items) → new_items ≡ set items item no_item
-    → old ≡ Some slots → new ≡ Some after → is_item item place ≡ false → IsPlaceOf client items place
+    → old ≡ Some slots → new ≡ Some after → is_item item place ≡ false → IsTablePlace client items place
     → place_object after (set items item no_item) place ≡ place_object slots items place
 place_same old new slots after items new_items client item None same are is_old is_new apart is = refl
 place_same old new slots after items new_items client item (Some index) same are is_old is_new apart is =
@@ -137,14 +137,14 @@ objects_left : {others : List ℕ} (old new : Option SlotState) (slots after : S
     → objects_in after new_items (without_handle table handle) ≡ without_handle (objects_in slots items table) handle
 objects_left old new slots after items new_items client table handle item same are is_old is_new stand is held_here =
     let there : is_some (held_under table handle) ≡ true = ap (λ (place : Option ℕ). is_some place) held_here in
-    let named = held_all (λ (place : Option ℕ). IsPlaceOf client items place) table handle is.named tt in
+    let named = held_all (λ (place : Option ℕ). IsTablePlace client items place) table handle is.named tt in
     ap (λ (l : List Item). objects_in after l (without_handle table handle)) are
     ∙ without (λ (place : Option ℕ). place_object slots items place) (λ (place : Option ℕ). place_object after (set items item no_item) place)
     table handle refl refl there (place_there slots items client stand (held_under table handle) named ∙ there)
     (λ i apart.
     place_same old new slots after items new_items client item (get_or table i None) same are is_old is_new
     (only_there items client table handle item is held_here i apart)
-    (at_all (λ (place : Option ℕ). IsPlaceOf client items place) table is.named tt i))
+    (at_all (λ (place : Option ℕ). IsTablePlace client items place) table is.named tt i))
 
 pub chosen : {A : Type 0} (test : Bool) (x y : A) → test ≡ true → (if test then x else y) ≡ x
 chosen true x y is = refl
@@ -179,7 +179,7 @@ object_leaves seen client old new held new_view table new_table handle item same
 
 -- ---- what is sent
 
-pub was_answered : (contexts : ContextLimits) (asked : List ℕ) (last : Option (List ℕ)) → IsAnswered contexts asked last → IsSome last
+pub was_answered : (contexts : ContextLimits) (asked : List ℕ) (last : Option (List ℕ)) → IsOwnAnswered contexts asked last → IsSome last
 was_answered contexts asked None answered = absurd answered.1
 was_answered contexts asked (Some response) answered = refl
 
@@ -193,7 +193,7 @@ sent_by : {contexts : ContextLimits} {D : Type 0} (seen : D → Seen) (nobodys :
     (old middle new : D) → is_some slot ≡ true → FlushesSome contexts seen nobodys old middle
     → (nobodys ≡ 0 → middle ≡ old)
     → IfSome slot (λ handle. (asked_of (seen new) ≡ flush_context_command handle) × (sent_of (seen new) ≡ one_more (sent_of (seen middle))))
-    → IfSome slot (λ handle. IsAnswered contexts (asked_of (seen new)) (last_of (seen new))) → IsFlushSent contexts seen nobodys slot old new
+    → IfSome slot (λ handle. IsOwnAnswered contexts (asked_of (seen new)) (last_of (seen new))) → IsFlushSent contexts seen nobodys slot old new
 sent_by seen nobodys None old middle new there own still flushed answered = absurd cc
 sent_by {contexts = contexts} seen nobodys (Some slot) old middle new there own still flushed answered =
     (middle, own, still, flushed.0, flushed.1, was_answered contexts (asked_of (seen new)) (last_of (seen new)) answered)
@@ -206,7 +206,7 @@ sent_once contexts unsent seen old new (Some handle) sent = (sent.asked, sent.on
 
 sent_answered : (contexts : ContextLimits) {D : Type 0} (unsent : Type 0) (seen : D → Seen) (old new : D) (slot : Option ℕ)
     → MatchOption slot unsent (λ handle. Asks {A = Unit {0}} contexts seen old new (flush_context_command handle) (Ok tt))
-    → IfSome slot (λ handle. IsAnswered contexts (asked_of (seen new)) (last_of (seen new)))
+    → IfSome slot (λ handle. IsOwnAnswered contexts (asked_of (seen new)) (last_of (seen new)))
 sent_answered contexts unsent seen old new None sent = tt
 sent_answered contexts unsent seen old new (Some handle) sent = sent.answered
 

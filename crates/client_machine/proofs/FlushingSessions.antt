@@ -29,9 +29,9 @@ use Rattle.world_spec.specs.World.{ClientState, ClientStep, choosing_nothing, cl
 use Rattle.history_laws.proofs.Tables as tables
 use Rattle.history_laws.proofs.Tables.{held_all}
 use Rattle.client_machine.specs.declared.held.Held.{Held}
-use Rattle.client_machine.specs.Moves.{CountsOn, Flushed, Flushes, IsFlushSent, IsUnflushed, LeavesState, MayFlush, StepsAs, client_state, flush_of, flush_reply, pick_of, reply_unless}
+use Rattle.client_machine.specs.Moves.{CountsOn, Flushed, FlushesNamed, IsFlushSent, IsUnflushed, LeavesState, MayFlush, StepsAs, client_state, flush_of, flush_reply, pick_of, reply_unless}
 use Rattle.client_machine.specs.Settled.{AreBelow, IsSettled, Sequences, Settled, orphan_count, sessions_in}
-use Rattle.client_machine.specs.Tables.{IsPlaceOf, IsTable, OwnedHandle, flush_fault_of, flush_sent_unless, objects_in, owned_handle, owned_handles, place_object, sessions_unless, sessions_without, table_unless, tables_had, tables_seen}
+use Rattle.client_machine.specs.Tables.{IsTable, IsTablePlace, OwnedHandle, flush_fault_of, flush_sent_unless, objects_in, owned_handle, owned_handles, place_object, sessions_unless, sessions_without, table_unless, tables_had, tables_seen}
 use Rattle.client_machine.proofs.Flushing.{other_chosen, state_is}
 use Rattle.client_machine.proofs.Leaving.{owned_held, owned_unleft, unleft}
 use Rattle.client_machine.proofs.Orphans.{sessions_told, sessions_without_one}
@@ -143,7 +143,7 @@ object_seen : {others : List ℕ} (slots : SlotState) (items : List objects.Item
 object_seen slots items client table handle stand is =
     ap (λ (o : Option Object). is_some o) (tables.held (λ (place : Option ℕ). place_object slots items place) table handle refl)
     ∙ place_there slots items client stand (held_under table handle)
-    (held_all (λ (place : Option ℕ). IsPlaceOf client items place) table handle is.named tt)
+    (held_all (λ (place : Option ℕ). IsTablePlace client items place) table handle is.named tt)
 
 fault_seen : (slots : SlotState) (held : Held) (client : ℕ) (table : List (Option ℕ)) (least : Sequences) (handle : ℕ) → IsSettled slots held
     → IsTable held.objects.items client table
@@ -248,7 +248,7 @@ flushed_frame tables named reply is = ap (λ (reply : List ℕ). is_frame reply)
 -- what it names goes
 pub flushed_so : {contexts : ContextLimits} {D : Type 0} (seen : D → Seen) (client handle : ℕ) (old new : D) (held new_held : Held) (table new_table : List (Option ℕ))
     (named : Result ℕ ℕ) (reply : List ℕ) → named ≡ Ok handle → MayFlush client handle held table
-    → Flushes contexts seen handle old new held new_held table new_table → reply ≡ response ST_NO_SESSIONS RC_SUCCESS []
+    → FlushesNamed contexts seen handle old new held new_held table new_table → reply ≡ response ST_NO_SESSIONS RC_SUCCESS []
     → Flushed contexts seen (tables_had client table held.sessions.items) old new held new_held table new_table named reply
 flushed_so {contexts = contexts} seen client handle old new held new_held table new_table named reply is may done reply_is =
     let tables = tables_had client table held.sessions.items in

@@ -10,7 +10,7 @@ use Rattle.device_port.specs.Device.{Seen, asked_of, last_of}
 use Rattle.device_port.specs.declared.device.DeviceFailed.{DeviceFailed}
 use Rattle.device_port.specs.declared.own.SwapError.{SwapError}
 use Rattle.device_port.specs.declared.own.SwapError.TheVariants.{Failed}
-use Rattle.device_port.specs.Own.{HasCause, IsAnswered}
+use Rattle.device_port.specs.Own.{HasCause, IsOwnAnswered}
 use Rattle.device_laws.proofs.AnswerForms.{takes_more}
 use Rattle.object_swap.specs.Items.{Item, item_at, item_object}
 use Rattle.session_swap.specs.Items as sessions
@@ -107,7 +107,7 @@ pub record Forgets {D : Type 0} (seen : D → Seen) (client : ℕ) (old new : D)
 
 -- ---- the last response
 
-pub right_of : (contexts : ContextLimits) (asked : List ℕ) (last : Option (List ℕ)) → IsAnswered contexts asked last → IsRight contexts asked last
+pub right_of : (contexts : ContextLimits) (asked : List ℕ) (last : Option (List ℕ)) → IsOwnAnswered contexts asked last → IsRight contexts asked last
 right_of contexts asked None answered = tt
 right_of contexts asked (Some response) answered = takes_more contexts true true asked response answered.1
 
@@ -115,7 +115,7 @@ pub right_none : (contexts : ContextLimits) (asked : List ℕ) (last : Option (L
 right_none contexts asked None none = tt
 right_none contexts asked (Some response) none = absurd cc
 
-pub rightly : (contexts : ContextLimits) {D : Type 0} (seen : D → Seen) (old new : D) → (new ≡ old) ⊎ IsAnswered contexts (asked_of (seen new)) (last_of (seen new))
+pub rightly : (contexts : ContextLimits) {D : Type 0} (seen : D → Seen) (old new : D) → (new ≡ old) ⊎ IsOwnAnswered contexts (asked_of (seen new)) (last_of (seen new))
     → (new ≡ old) ⊎ IsRight contexts (asked_of (seen new)) (last_of (seen new))
 rightly contexts seen old new (inl same) = inl same
 rightly contexts seen old new (inr answered) = inr (right_of contexts (asked_of (seen new)) (last_of (seen new)) answered)

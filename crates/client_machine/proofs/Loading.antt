@@ -21,7 +21,8 @@ use Rattle.session_swap.specs.declared.TheConstants.{NEEDED_MOST}
 use Rattle.history_laws.proofs.Counts.{count_cons, one_if}
 use Rattle.client_machine.specs.declared.held.Held.{Held}
 use Rattle.client_machine.specs.Costs.{places_of}
-use Rattle.client_machine.specs.Moves.{AreTaken, MovesSessions, Prepares, any_client, places_needed}
+use Rattle.client_machine.specs.Moves.{AreAllActive, MovesSessions, Prepares, any_client}
+use Rattle.client_machine.specs.Moves.{places_needed}
 use Rattle.client_machine.specs.Settled.{Settled}
 use Rattle.client_machine.proofs.Settling.{keeps_over_sessions, object_counter_over_sessions, objects_over_sessions, owned_handles_same, persist_over_sessions, sessions_kept, settled_over_sessions}
 
@@ -162,7 +163,7 @@ pub room_made : (state : Option SlotState) (view new_view : SessionsView) (few :
     → places ≡ bool_byte few → few ≡ ltb active most → most ≡ view.numbers.active → active ≡ count_by is_held view.items
     → count_by is_orphan view.items ≡ 0 → new_view.numbers ≡ view.numbers → holders new_view.items ≡ holders view.items
     → AreFree state places → loaded_items new_view.items + places ≤ new_view.numbers.loaded
-    → (AreFree state 1 × (loaded_items new_view.items < new_view.numbers.loaded)) ⊎ AreTaken new_view
+    → (AreFree state 1 × (loaded_items new_view.items < new_view.numbers.loaded)) ⊎ AreAllActive new_view
 room_made state view new_view true places active most long places_is few_is most_is active_is none numbers same free room =
     inl (subst (λ (count : ℕ). AreFree state count) places_is free, omega (arith, places_is, room))
 room_made state view new_view false places active most long places_is few_is most_is active_is none numbers same free room =

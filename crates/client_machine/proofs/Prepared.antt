@@ -9,7 +9,7 @@ use Rattle.device_port.specs.Device.{Seen}
 use Rattle.object_swap.specs.Items as objects
 use Rattle.session_swap.specs.Items as sessions
 use Rattle.client_machine.specs.declared.held.Held.{Held}
-use Rattle.client_machine.specs.Moves.{CountsOnBy, MayMove, Prepares}
+use Rattle.client_machine.specs.Moves.{CountsOnBy, MayBegin, Prepares}
 
 pub counts_same : (old new : Option SlotState) → objects.counter_of new ≡ objects.counter_of old → sessions.counter_of new ≡ sessions.counter_of old
     → CountsOnBy 0 old new
@@ -30,7 +30,7 @@ counts_then n m most old mid new few first second = record {
 
 -- over which the next call may begin
 pub may_then : {contexts : ContextLimits} {D : Type 0} (seen : D → Seen) (n left most : ℕ) (old new : D) (held new_held : Held)
-    → n + left ≤ most → MayMove most contexts seen old held → Prepares n seen old new held new_held → MayMove left contexts seen new new_held
+    → n + left ≤ most → MayBegin most contexts seen old held → Prepares n seen old new held new_held → MayBegin left contexts seen new new_held
 may_then seen n left most old new held new_held few may prepares = record {
   made_for = record { objects = prepares.made_for.objects ∙ may.made_for.objects; sessions = prepares.made_for.sessions ∙ may.made_for.sessions };
   slots = prepares.slots ∙ may.slots ∙ sym (ap (λ (n : Numbers). n.slots) prepares.numbers);

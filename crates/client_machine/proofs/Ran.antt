@@ -37,9 +37,9 @@ use Rattle.world_laws.proofs.Histories.{each-weaker}
 use Rattle.history_laws.proofs.Tables.{held_all, mapped}
 use Rattle.client_machine.specs.declared.held.Held.{Held}
 use Rattle.client_machine.specs.Costs.{SendsUpTo, StaysIn, new_bound, places_of, renewal_bound}
-use Rattle.client_machine.specs.Moves.{Adopts, AreTaken, CarriesOut, CountsOnBy, FailsAtLast, GainsNone, HasRoomFor, IsAtHand, IsCalm, IsPrepared, IsSent, IsTaken, KeepsOwners, MayAdopt, MayMove, MayStart, Moves, Prepares, Ran, Serves, StaysAs, StepsAs, UsesNamed, any_client, order_after, order_made, client_reply, first_handle, loads_kept, number_taken, objects_told, other_than, pick_of, saved_list_after, saved_number, saves_one, saves_session, sessions_held_after, told_handle, SentBefore}
+use Rattle.client_machine.specs.Moves.{Adopts, AreAllActive, CarriesOut, CountsOnBy, FailsAtLast, GainsNone, HasRoomFor, IsAtHand, IsCalm, IsPrepared, IsSent, IsTaken, KeepsOwners, MayAdopt, MayBegin, MayStart, Moves, Prepares, Ran, Serves, StaysAs, StepsAs, UsesNamed, any_client, order_after, order_made, client_reply, first_handle, loads_kept, number_taken, objects_told, other_than, pick_of, saved_list_after, saved_number, saves_one, saves_session, sessions_held_after, told_handle, SentBefore}
 use Rattle.client_machine.specs.Settled.{AreBelow, Sequences, Settled, call_contexts, orphan_count}
-use Rattle.client_machine.specs.Tables.{AreOpenOwners, IsOpenOwner, IsPlaceOf, IsPlaced, IsTable, OwnedHandle, device_handle, handle_or, is_open, objects_in, owned_handles, place_object, slot_handle, table_with, tables_seen, with_owner}
+use Rattle.client_machine.specs.Tables.{AreOpenOwners, IsOpenOwner, IsPlaced, IsTable, IsTablePlace, OwnedHandle, device_handle, handle_or, is_open, objects_in, owned_handles, place_object, slot_handle, table_with, tables_seen, with_owner}
 use Rattle.client_machine.proofs.Adopting.{adopted_gained, adopted_item, adopted_length, adopted_loads, adopted_new, adopted_others, adopted_table}
 use Rattle.client_machine.proofs.Handing.{handed_frame, slice_bytes, taken_frame}
 use Rattle.client_machine.proofs.Orphans.{zero_set}
@@ -166,14 +166,14 @@ none_after client a answer items none =
 
 -- ---- before the command
 
-place_kept : (client : ℕ) (items new_items : List Item) → KeepsOwners any_client items new_items → (place : Option ℕ) → IsPlaceOf client items place
-    → IsPlaceOf client new_items place
+place_kept : (client : ℕ) (items new_items : List Item) → KeepsOwners any_client items new_items → (place : Option ℕ) → IsTablePlace client items place
+    → IsTablePlace client new_items place
 place_kept client items new_items keeps None is = tt
 place_kept client items new_items keeps (Some index) is = keeps index client is.0 is.1 refl
 
 place_stays : (slots after : SlotState) (items new_items : List Item) (client : ℕ)
     → ((index : ℕ) → Names items index → (item_at items index).client ≡ Some client → item_object after (item_at new_items index) ≡ item_object slots (item_at items index))
-    → (place : Option ℕ) → IsPlaceOf client items place → place_object after new_items place ≡ place_object slots items place
+    → (place : Option ℕ) → IsTablePlace client items place → place_object after new_items place ≡ place_object slots items place
 place_stays slots after items new_items client keeps None is = refl
 place_stays slots after items new_items client keeps (Some index) is = keeps index is.0 is.1
 
@@ -181,7 +181,7 @@ pub prepares_table : {D : Type 0} {most : ℕ} {seen : D → Seen} {old new : D}
     (client : ℕ) (table : List (Option ℕ)) → Prepares most seen old new held new_held → IsTable held.objects.items client table
     → IsTable new_held.objects.items client table
 prepares_table {held = held} {new_held = new_held} client table prepares is = record {
-  named = each-weaker (λ place. IsPlaceOf client held.objects.items place) (λ place. IsPlaceOf client new_held.objects.items place) table
+  named = each-weaker (λ place. IsTablePlace client held.objects.items place) (λ place. IsTablePlace client new_held.objects.items place) table
       (place_kept client held.objects.items new_held.objects.items prepares.owners) is.named;
   apart = is.apart;
   all = λ index own. is.all index (prepares.gained index client own refl);
@@ -222,7 +222,7 @@ prepares_stays {seen = seen} {old = old} {new = new} {held = held} {new_held = n
     λ slots after least was now.
     let objects_are : objects_in after new_held.objects.items table ≡ objects_in slots held.objects.items table =
     mapped (λ place. place_object slots held.objects.items place) (λ place. place_object after new_held.objects.items place) table
-    (each-weaker (λ place. IsPlaceOf client held.objects.items place)
+    (each-weaker (λ place. IsTablePlace client held.objects.items place)
     (λ place. place_object after new_held.objects.items place ≡ place_object slots held.objects.items place) table
     (place_stays slots after held.objects.items new_held.objects.items client (λ index names own. prepares.objects slots after index client was now names own refl))
     is.named) in
@@ -316,7 +316,7 @@ table_plain table item a answer plain = ap (λ (told : Bool). if told then put_l
 
 -- the object that the command names stays where it is
 slot_kept : {client handle : ℕ} {items new_items : List Item} {table new_table : List (Option ℕ)} (place : Option ℕ)
-    → Adopts client handle items new_items table new_table → IsPlaceOf client items place → slot_handle new_items place ≡ slot_handle items place
+    → Adopts client handle items new_items table new_table → IsTablePlace client items place → slot_handle new_items place ≡ slot_handle items place
 slot_kept None adopts is = refl
 slot_kept (Some index) adopts is = ap (λ (item : Item). handle_in item.slot) (adopted_item index adopts is.0)
 
@@ -324,7 +324,7 @@ adopted_slot : {client handle : ℕ} {items new_items : List Item} {table new_ta
     → Adopts client handle items new_items table new_table → IsTable items client table
     → slot_handle new_items (held_under table named) ≡ slot_handle items (held_under table named)
 adopted_slot {client = client} {items = items} {table = table} named adopts is =
-    slot_kept (held_under table named) adopts (held_all (λ place. IsPlaceOf client items place) table named is.named tt)
+    slot_kept (held_under table named) adopts (held_all (λ place. IsTablePlace client items place) table named is.named tt)
 
 pub adopted_placed : {client handle : ℕ} {items new_items : List Item} {table new_table : List (Option ℕ)} (named : ℕ)
     → Adopts client handle items new_items table new_table → IsTable items client table → IsPlaced table items named → IsPlaced table new_items named
@@ -339,7 +339,7 @@ adopted_device named adopts is =
 
 -- ---- in every state
 
-place_or_full : (Free : Type 0) (view : SessionsView) → (Free × (loaded_items view.items < view.numbers.loaded)) ⊎ AreTaken view
+place_or_full : (Free : Type 0) (view : SessionsView) → (Free × (loaded_items view.items < view.numbers.loaded)) ⊎ AreAllActive view
     → Free ⊎ (view.numbers.active ≤ count_by is_some view.items)
 place_or_full Free view (inl free) = inl free.0
 place_or_full Free view (inr taken) = inr taken.full
@@ -517,7 +517,7 @@ pub record Prepared (contexts : ContextLimits) {D : Type 0} (seen : D → Seen) 
 pub prepared : {contexts : ContextLimits} {D : Type 0} {seen : D → Seen} {old between : D} {held mid : Held}
     (client : ℕ) (table : List (Option ℕ)) (a : Admitted) (bytes : List ℕ) {translated command : List ℕ} → Prepares 100 seen old between held mid
     → IsTable held.objects.items client table → client_admitted (tables_seen contexts client table held.sessions.items) bytes ≡ Ok a → is_sent contexts a bytes ≡ true
-    → MayMove call_contexts contexts seen old held → IsProfile contexts (seen between).state → ((i : ℕ) → Fits w8 (get_or bytes i 0)) → IsPrepared contexts (seen between).state mid table a bytes translated
+    → MayBegin call_contexts contexts seen old held → IsProfile contexts (seen between).state → ((i : ℕ) → Fits w8 (get_or bytes i 0)) → IsPrepared contexts (seen between).state mid table a bytes translated
     → SendsUpTo seen (11 + orphan_count held + renewal_bound (gap_kept held.sessions) held.sessions.numbers) old between
     → (gap_kept held.sessions < renewal_gap held.sessions.numbers → StaysIn 1 (places_of a) None held mid) → (IsCalm held → UsesNamed contexts held mid table a bytes)
     → command ≡ translated → Prepared contexts seen old between held mid client table a bytes command
@@ -570,7 +570,7 @@ taken_unkept {contexts = contexts} {mid = mid} {command = command} {reply = repl
 
 -- there is a place for it: where as many are active as may be, none is told
 place_for : (Free : Type 0) (view : SessionsView) → count_by is_held view.items < view.numbers.active → count_by sessions.is_orphan view.items ≡ 0
-    → (Free × (loaded_items view.items < view.numbers.loaded)) ⊎ AreTaken view → loaded_items view.items < view.numbers.loaded
+    → (Free × (loaded_items view.items < view.numbers.loaded)) ⊎ AreAllActive view → loaded_items view.items < view.numbers.loaded
 place_for Free view few none (inl free) = free.1
 place_for Free view few none (inr taken) = absurd (omega (arith, taken.full, few, none, held_and_orphans view.items))
 

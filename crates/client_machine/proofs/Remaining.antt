@@ -28,7 +28,7 @@ any_earlier P [] earlier (k, x, inside, is, holds) = absurd (omega (arith, insid
 any_earlier P (y ∷ later) earlier (zero, x, inside, is, holds) = (zero, x, omega arith, is, holds)
 any_earlier P (y ∷ later) earlier (suc k, x, inside, is, holds) =
     any_cons P y (later ++ earlier)
-        (any_earlier P later earlier (k, x, omega (arith, inside), is, holds))
+    (any_earlier P later earlier (k, x, omega (arith, inside), is, holds))
 
 -- ---- one session
 
@@ -49,7 +49,7 @@ remains_then contexts later earlier (Some item) None None first second =
 remains_then contexts later earlier (Some item) None (Some new) first second = absurd cc
 remains_then contexts later earlier (Some item) (Some between) None first second =
     subst (λ (handle : ℕ). WasFlushedBy contexts (later ++ earlier) handle) first.handle
-        (any_earlier _ later earlier second)
+    (any_earlier _ later earlier second)
 remains_then contexts later earlier (Some item) (Some between) (Some new) first second = record {
   handle = second.handle ∙ first.handle;
   saved = second.saved ∙ first.saved;
@@ -99,7 +99,7 @@ pub one_altered : (contexts : ContextLimits) (sent : List Transmission)
     → ((item : Option Item) → RemainsOrFlushed contexts sent item (change item))
     → (items : List (Option Item)) (n number : ℕ)
     → RemainsOrFlushed contexts sent (item_at items number)
-        (item_at (set items n (change (item_at items n))) number)
+    (item_at (set items n (change (item_at items n))) number)
 one_altered contexts sent change remains items n number =
     let new = change (item_at items n) in
     elim (cases_lt n (length items)) [
@@ -125,18 +125,18 @@ handle_named : (contexts : ContextLimits) (sent : List Transmission) (handle : �
 handle_named contexts sent handle None names flushed = refl
 handle_named contexts sent handle (Some item) names flushed =
     subst (λ (h : ℕ). WasFlushedBy contexts sent h)
-        (sym (handle_by item handle (item.handle == handle) refl names)) flushed
+    (sym (handle_by item handle (item.handle == handle) refl names)) flushed
 
 pub one_gone : (contexts : ContextLimits) (sent : List Transmission) (items : List (Option Item))
     (handle : ℕ) → Names items handle
     → WasFlushedBy contexts sent handle → (number : ℕ)
     → RemainsOrFlushed contexts sent (item_at items number)
-        (item_at (set items (number_of_session handle) None) number)
+    (item_at (set items (number_of_session handle) None) number)
 one_gone contexts sent items handle names flushed number =
     by_number (RemainsOrFlushed contexts sent) items (number_of_session handle) number None
-        (named_inside items handle names)
+    (named_inside items handle names)
     (handle_named contexts sent handle (item_at items (number_of_session handle)) names flushed)
-        (remains_same contexts sent (item_at items number))
+    (remains_same contexts sent (item_at items number))
 
 -- ---- those that are left
 

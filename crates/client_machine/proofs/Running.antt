@@ -22,7 +22,7 @@ use Rattle.device_laws.specs.Effects.{is_managed}
 use Rattle.device_laws.specs.OtherHandles.{slots_with}
 use Rattle.device_laws.proofs.Replies.{step_keeps}
 use Rattle.device_laws.proofs.Seeds.{step_numbers, step_seed}
-use Rattle.client_laws.specs.Ready.{AreAmong, TellsMade, client_effect, ends_session, named_sessions, starts_session, tells_object, tells_session}
+use Rattle.client_laws.specs.Ready.{SessionsAreAmong, TellsMade, client_effect, ends_session, named_sessions, starts_session, tells_object, tells_session}
 use Rattle.client_laws.proofs.Commands.{command_session, unmanaged}
 use Rattle.client_laws.proofs.Made.{command_made}
 use Rattle.client_laws.proofs.OverSlots.{command_full, command_run}
@@ -114,7 +114,7 @@ pub record Left (slots after : SlotState) (held : Held) (client : ℕ) (table : 
   pub few : HasFew held.sessions created
   pub ended_is : ended ≡ ends_session a effect_reply
   pub own : AreOwn held.sessions.items client (command_auth a.auths).session ended operands
-  pub none : starts_session a ≡ true → AreAmong [] operands
+  pub none : starts_session a ≡ true → SessionsAreAmong [] operands
   pub unsaved : (a.shape.row.code == CC_CONTEXT_SAVE) ≡ false
   pub step : (least : Sequences) (pick : Pick) → client_step client (client_state slots held table least) bytes pick
       ≡ made_step client (state_left slots after held client table least operands ended) created effect_reply pick
@@ -167,7 +167,7 @@ left_run slots held client table a bytes may managed room =
         authorized = left_authorized client state bytes a;
       };
       none = λ start.
-          subst (λ (named : List ℕ). AreAmong named effect.operands) (named_none (tables_of client state) bytes a e start) (left_among client state bytes a);
+          subst (λ (named : List ℕ). SessionsAreAmong named effect.operands) (named_none (tables_of client state) bytes a e start) (left_among client state bytes a);
       unsaved = (unmanaged a.shape.row.code managed).save;
       step = λ least pick.
           step_run client (client_state slots held table least) bytes pick a (admitted_here slots held client table least a bytes may) managed room

@@ -22,7 +22,7 @@ use Rattle.history_laws.proofs.Tables.{full, get_or_mapped, held_all}
 use Rattle.client_machine.specs.declared.held.Held.{Held}
 use Rattle.client_machine.specs.Moves.{client_state}
 use Rattle.client_machine.specs.Settled.{Sequences, owned_by_client, owned_in, sessions_in}
-use Rattle.client_machine.specs.Tables.{IsPlaceOf, IsTable, place_object, tables_seen}
+use Rattle.client_machine.specs.Tables.{IsTable, IsTablePlace, place_object, tables_seen}
 
 -- ---- objects
 
@@ -33,7 +33,7 @@ item_stands slots items index stand inside =
     All-get_or (λ item. ItemStands slots item) items index no_item inside (All-from_recursion (λ item. ItemStands slots item) items stand.each)
 
 pub place_there : {others : List ℕ} (slots : SlotState) (items : List Item) (client : ℕ) → ObjectsStand slots items others → (place : Option ℕ)
-    → IsPlaceOf client items place
+    → IsTablePlace client items place
     → is_some (place_object slots items place) ≡ is_some place
 place_there slots items client stand None is = refl
 place_there slots items client stand (Some index) is = (item_stands slots items index stand is.0.inside).there is.0.there
@@ -42,7 +42,7 @@ pub seen_places : {others : List ℕ} (slots : SlotState) (items : List Item) (c
     → IsTable items client table
     → AllByRecursion (λ place. is_some (place_object slots items place) ≡ is_some place) table
 seen_places slots items client table stand is =
-    each-weaker (λ place. IsPlaceOf client items place) (λ place. is_some (place_object slots items place) ≡ is_some place) table
+    each-weaker (λ place. IsTablePlace client items place) (λ place. is_some (place_object slots items place) ≡ is_some place) table
     (place_there slots items client stand) is.named
 
 -- ---- sessions

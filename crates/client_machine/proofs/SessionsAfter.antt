@@ -8,7 +8,7 @@ use Rattle.tab_spec.specs.Session.{Session}
 use Rattle.tab_spec.specs.Shape.{number_of_session, octet_of}
 use Rattle.effect_spec.specs.Operands.{Operand, Operands, a_session, absent, an_object, operand_at, plain, sessions_after, with_authorization, with_operand}
 use Rattle.device_spec.specs.Slots.{SessionPlace, SlotState, inactive, loaded, loaded_under, place_of, session_in_place, sessions_left}
-use Rattle.client_laws.specs.Ready.{AreAmong, IsAmong}
+use Rattle.client_laws.specs.Ready.{IsAmong, SessionsAreAmong}
 use Rattle.session_swap.specs.Items.{Item, ItemStands, SessionsStand, SessionsView, context_of, item_at, new_item}
 use Rattle.session_swap.proofs.Moved.{item_inside, session_loaded}
 use Rattle.session_swap.proofs.PlaceSet.{map_but}
@@ -182,7 +182,7 @@ authorization_after slots items client handle false (Some held) numbered long ow
 pub record AreOwn (items : List (Option Item)) (client handle : ℕ) (ended : Bool) (operands : Operands) : Type 0 where
   pub named : List ℕ
   pub own : AllByRecursion (λ handle. IsOwn items client handle) named
-  pub among : AreAmong named operands
+  pub among : SessionsAreAmong named operands
   pub authorized : IsAuthorized handle ended operands.session
 
 pub own_session : (items : List (Option Item)) (client : ℕ) (named : List ℕ) (session : Option (ℕ × Session))

@@ -12,7 +12,7 @@ use Rattle.tab_spec.specs.Shape.{number_of_session, octet_of}
 use Rattle.effect_spec.specs.Operands.{Operand, Operands, a_session, absent, an_object, operand_at, plain, sessions_after, with_authorization, with_operand}
 use Rattle.device_spec.specs.Answers.{is_word, word_at}
 use Rattle.device_spec.specs.Slots.{IsSlots, SessionPlace, SlotState, free_number, gap_of, inactive, is_active, loaded, saved}
-use Rattle.client_laws.specs.Ready.{AreAmong, IsAmong}
+use Rattle.client_laws.specs.Ready.{IsAmong, SessionsAreAmong}
 use Rattle.session_swap.specs.declared.TheConstants.{NEEDED_MOST}
 use Rattle.session_swap.specs.Items.{HasGapRoom, Item, SessionsStand, SessionsView, flag, is_held, item_at, new_item, place_at, renewal_gap}
 use Rattle.session_swap.proofs.Standing.{stands_begun}
@@ -36,7 +36,7 @@ no_authorization : {P : Type 0} (place : ℕ → Session → P) (unused : P) (pl
 no_authorization place unused places ended None among = refl
 no_authorization place unused places ended (Some held) among = absurd cc
 
-pub none_after : {P : Type 0} (place : ℕ → Session → P) (unused : P) (places : List P) (operands : Operands) (ended : Bool) → AreAmong [] operands
+pub none_after : {P : Type 0} (place : ℕ → Session → P) (unused : P) (places : List P) (operands : Operands) (ended : Bool) → SessionsAreAmong [] operands
     → sessions_after place unused places operands ended ≡ places
 none_after place unused places operands ended among =
     let first = operand_at operands.handles 0 in

@@ -63,7 +63,7 @@ pub tried_over : {contexts : ContextLimits} {D : Type 0} {seen : D → Seen} {ol
 tried_over {contexts = contexts} {seen = seen} {old = old} {new = new} {items = items}
     {wrong = wrong} is sent =
     subst (λ (l : List (Option Item)). SendsFlushes contexts seen old new items l wrong) (sym is)
-        sent
+    sent
 
 -- ---- one
 
@@ -92,8 +92,8 @@ pub tried_failed : {contexts : ContextLimits} {D A : Type 0} (seen : D → Seen)
     → last_of (seen new) ≡ None
     → Asks {A = A} contexts seen old new (flush_context_command handle) (Err e)
     → SendsFlushes contexts seen old new items
-        (set items (number_of_session handle) (disowned (item_at items (number_of_session handle))))
-        false
+    (set items (number_of_session handle) (disowned (item_at items (number_of_session handle))))
+    false
 tried_failed {contexts = contexts} seen old new items handle e none asks = record {
   sent = flush_of handle (last_of (seen new)) ∷ [];
   trace_is = asks.one;
@@ -120,7 +120,7 @@ tried_wrong {contexts = contexts} seen old new items handle e asks = record {
 pub tried_behind : {contexts : ContextLimits} {D : Type 0} (seen : D → Seen) (device : D)
     (items : List (Option Item)) (n : ℕ)
     → SendsFlushes contexts seen device device items (set items n (left_behind (item_at items n)))
-        false
+    false
 tried_behind {contexts = contexts} seen device items n =
     record {
       sent = [];
@@ -137,11 +137,11 @@ pub slot_ok : {contexts : ContextLimits} {D A : Type 0} (seen : D → Seen)
     → SendsFlushes contexts seen old new items items false
 slot_ok {contexts = contexts} seen items None done x old new sent =
     subst (λ (d : _). SendsFlushes contexts seen old d items items false) (sym sent.1)
-        (none_tried seen old items)
+    (none_tried seen old items)
 slot_ok {contexts = contexts} seen items (Some slot) done x old new asks =
     let handle = TRANSIENT_FIRST + slot in
     let taken = one_taken contexts (flush_context_command handle) (asked_of (seen new))
-        (last_of (seen new)) asks.asked asks.answered in
+    (last_of (seen new)) asks.asked asks.answered in
     record {
       sent = flush_of handle (last_of (seen new)) ∷ [];
       trace_is = asks.one;
@@ -156,7 +156,7 @@ pub slot_failed : {contexts : ContextLimits} {D A : Type 0} (seen : D → Seen)
     → SendsFlushes contexts seen old new items items false
 slot_failed {contexts = contexts} seen items None done old new e none sent =
     subst (λ (d : _). SendsFlushes contexts seen old d items items false) (sym sent.1)
-        (none_tried seen old items)
+    (none_tried seen old items)
 slot_failed {contexts = contexts} seen items (Some slot) done old new e none asks =
     let handle = TRANSIENT_FIRST + slot in
     record {

@@ -14,7 +14,7 @@ use Rattle.tab_spec.specs.Shape.{makes_object_by, needs_slot, number_of_session,
 use Rattle.tab_spec.specs.declared.contexts.ContextLimits.{ContextLimits}
 use Rattle.effect_spec.specs.Operands.{command_auth}
 use Rattle.device_port.specs.Device.{Answered, Seen, Transmission, asked_of, last_of, sent_of}
-use Rattle.device_port.specs.Own.{AsksSome, HasCause, IsAnswered, IsOwn, SendsOwn, WasTaken}
+use Rattle.device_port.specs.Own.{AsksSome, HasCause, IsOwn, IsOwnAnswered, SendsOwn, WasTaken}
 use Rattle.device_port.specs.Use.{all_used, without_first, without_one}
 use Rattle.device_port.specs.declared.own.SwapError.{SwapError}
 use Rattle.device_spec.specs.Answers.{IsRight, is_word, takes, word_at}
@@ -85,7 +85,7 @@ pub record StaysFor (held new_held : Held) : Type 0 where
   pub sessions : new_held.sessions.contexts ≡ held.sessions.contexts
 
 -- the device, over which the next call may begin: there are numbers for so many more contexts of either sort
-pub record MayMove {D : Type 0} (more : ℕ) (contexts : ContextLimits) (seen : D → Seen) (device : D) (held : Held) : Type 0 where
+pub record MayBegin {D : Type 0} (more : ℕ) (contexts : ContextLimits) (seen : D → Seen) (device : D) (held : Held) : Type 0 where
   pub made_for : IsFor contexts held
   pub slots : held.objects.slots ≡ held.sessions.numbers.slots
   pub range : AreInRange held.sessions.numbers
@@ -108,7 +108,7 @@ pub record MayServe {D : Type 0} (contexts : ContextLimits) (seen : D → Seen) 
   pub room : HasRoomFor contexts a bytes spare held.objects.items
   pub own_list : objects.owner_at held.objects.owners list ≡ Some client
   pub own_table : IsTable held.objects.items client table
-  pub moves : MayMove call_contexts contexts seen device held
+  pub moves : MayBegin call_contexts contexts seen device held
 
 -- ---- what a call leaves
 
@@ -388,7 +388,7 @@ pub record IsAtHand (contexts : ContextLimits) (held : Held) (table : List (Opti
   pub starts_none : starts_session a ≡ false
 
 -- as many sessions are active as may be
-pub record AreTaken (view : sessions.SessionsView) : Type 0 where
+pub record AreAllActive (view : sessions.SessionsView) : Type 0 where
   pub long : length view.items ≡ SESSION_NUMBERS
   pub full : view.numbers.active ≤ count_by is_some view.items
 
@@ -396,7 +396,7 @@ pub record AreTaken (view : sessions.SessionsView) : Type 0 where
 pub record HasSessions (state : Option SlotState) (view : sessions.SessionsView) (a : Admitted) : Type 0 where
   pub loaded : AreLoaded (named_sessions a) view.items
   pub room : starts_session a ≡ true
-      → (sessions.AreFree state 1 × (sessions.loaded_items view.items < view.numbers.loaded)) ⊎ AreTaken view
+      → (sessions.AreFree state 1 × (sessions.loaded_items view.items < view.numbers.loaded)) ⊎ AreAllActive view
 
 -- no session has to be moved for a command: it starts none, and those that it names are loaded, or it starts one where as many as may
 -- be active are clients' or were left
@@ -518,7 +518,7 @@ pub record SentBefore {D : Type 0} (contexts : ContextLimits) (seen : D → Seen
   pub flushed : FlushesSome contexts seen nobodys old cleared
   pub own : SendsOwn contexts seen cleared new
   pub all : AllByRecursion (WasTaken contexts) own.sent
-  pub answered : (new ≡ old) ⊎ IsAnswered contexts (asked_of (seen new)) (last_of (seen new))
+  pub answered : (new ≡ old) ⊎ IsOwnAnswered contexts (asked_of (seen new)) (last_of (seen new))
 
 -- what a call sends that makes ready for a client's own command
 pub record MakesReady {D A : Type 0} (contexts : ContextLimits) (seen : D → Seen) (nobodys : ℕ) (old new : D) (result : Result A SwapError) : Type 0 where
@@ -611,7 +611,7 @@ pub record Flushed {D : Type 0} (contexts : ContextLimits) (seen : D → Seen) (
   pub left : new_held.sessions.left ≡ held.sessions.left
 
 -- the same of a handle that the client may flush
-pub record Flushes {D : Type 0} (contexts : ContextLimits) (seen : D → Seen) (handle : ℕ) (old new : D)
+pub record FlushesNamed {D : Type 0} (contexts : ContextLimits) (seen : D → Seen) (handle : ℕ) (old new : D)
     (held new_held : Held) (table new_table : List (Option ℕ)) : Type 0 where
   pub sent_is : IsFlushSent contexts seen (orphan_count held) (flushed_handle table held.objects.items handle) old new
   pub nobodys : is_some (flushed_handle table held.objects.items handle) ≡ true → orphan_count new_held ≡ 0

@@ -40,13 +40,13 @@ abbrev pub naming_in : ℕ → List (Option ℕ) → ℕ
 naming_in index table = count_by (λ place. is_item index place) table
 
 -- a place of a table names an object of its client
-abbrev pub IsPlaceOf : ℕ → List Item → Option ℕ → Type 0
-IsPlaceOf client items None = Unit {0}
-IsPlaceOf client items (Some index) = Names items index × ((item_at items index).client ≡ Some client)
+abbrev pub IsTablePlace : ℕ → List Item → Option ℕ → Type 0
+IsTablePlace client items None = Unit {0}
+IsTablePlace client items (Some index) = Names items index × ((item_at items index).client ≡ Some client)
 
 -- a client's table: it names the objects of the client, each once, under no more numbers than a client may have objects
 pub record IsTable (items : List Item) (client : ℕ) (table : List (Option ℕ)) : Type 0 where
-  pub named : AllByRecursion (λ place. IsPlaceOf client items place) table
+  pub named : AllByRecursion (λ place. IsTablePlace client items place) table
   pub apart : (index : ℕ) → naming_in index table ≤ 1
   pub all : (index : ℕ) → (item_at items index).client ≡ Some client → 1 ≤ naming_in index table
   pub few : count_held table ≤ CLIENT_OBJECTS

@@ -6,7 +6,7 @@ ghost use Rattle.tab_spec.specs.declared.TheConstants.{SESSION_NUMBERS};
 ghost use Rattle.object_swap.specs.Items as objects;
 ghost use Rattle.object_swap.specs.Items.{HasNone, owner_at};
 ghost use Rattle.session_swap.specs.Items.{Names, is_owned, owner_in};
-ghost use Rattle.client_machine.specs.Moves.{MayMove};
+ghost use Rattle.client_machine.specs.Moves.{MayBegin};
 ghost use Rattle.client_machine.specs.Costs.{SendsUpTo, own_objects, own_residents};
 ghost use Rattle.client_machine.specs.Dropping.{ClosesSession, Disowns, Drops, DropsOne};
 ghost use Rattle.client_machine.specs.Dropping.{DropsAll, DropsSession, IsDropped, IsLeastOf};
@@ -35,7 +35,7 @@ impl<D: Device> Machine<D> {
     /// failed. An error is the code of a wrong answer.
     pub fn drop_all(&mut self, client: u32, list: u32) -> Result<u32, u32>
         requires list { owner_at self.old.held.objects.owners list ≡ Some client }
-        requires may { MayMove call_contexts D.CONTEXTS D.seen self.old.device self.old.held }
+        requires may { MayBegin call_contexts D.CONTEXTS D.seen self.old.device self.old.held }
         ensures { DropsAll D.CONTEXTS D.seen client list self.old.device self.new.device
             self.old.held self.new.held result }
     {
@@ -51,7 +51,7 @@ impl<D: Device> Machine<D> {
         steps: &mut Steps<L>,
     ) -> Result<u32, u32>
         requires list { owner_at self.old.held.objects.owners list ≡ Some client }
-        requires may { MayMove call_contexts D.CONTEXTS D.seen self.old.device self.old.held }
+        requires may { MayBegin call_contexts D.CONTEXTS D.seen self.old.device self.old.held }
         ensures drops { DropsAll D.CONTEXTS D.seen client list self.old.device self.new.device
             self.old.held self.new.held result }
         ensures steps { steps.new
@@ -72,7 +72,7 @@ impl<D: Device> Machine<D> {
         steps: &mut C,
     ) -> Result<u32, u32>
         requires list { owner_at self.old.held.objects.owners list ≡ Some client }
-        requires may { MayMove call_contexts D.CONTEXTS D.seen self.old.device self.old.held }
+        requires may { MayBegin call_contexts D.CONTEXTS D.seen self.old.device self.old.held }
         ensures drops { DropsAll D.CONTEXTS D.seen client list self.old.device self.new.device
             self.old.held self.new.held result }
         ensures steps { C.count steps.new
@@ -89,7 +89,7 @@ impl<D: Device> Machine<D> {
 
     // The sessions of a client.
     fn drop_sessions(&mut self, client: u32) -> Result<u32, u32>
-        requires may { MayMove call_contexts D.CONTEXTS D.seen self.old.device self.old.held }
+        requires may { MayBegin call_contexts D.CONTEXTS D.seen self.old.device self.old.held }
         ensures ok { IfOk result (λ failed. Drops D.CONTEXTS D.seen client self.old.device
             self.new.device self.old.held self.new.held self.old.held.objects.owners failed) }
         ensures none { OnOk result

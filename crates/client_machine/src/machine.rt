@@ -16,9 +16,9 @@ ghost use Rattle.session_swap.specs.Items.{is_held, item_at};
 ghost use Rattle.client_laws.specs.Ready.{is_sent};
 ghost use Rattle.world_spec.specs.World.{flush_handle, without_named};
 ghost use Rattle.client_machine.specs.Moves as moves;
-ghost use Rattle.client_machine.specs.Moves.{Flushes, HasRoomFor, ServesCommand};
+ghost use Rattle.client_machine.specs.Moves.{FlushesNamed, HasRoomFor, ServesCommand};
 ghost use Rattle.client_machine.specs.Moves.{IsTaken, IsUnflushed, IsUntaken, LeavesState};
-ghost use Rattle.client_machine.specs.Moves.{MayFlush, MayMove, MayServe, Serves};
+ghost use Rattle.client_machine.specs.Moves.{MayBegin, MayFlush, MayServe, Serves};
 ghost use Rattle.client_machine.specs.Moves.{number_taken};
 ghost use Rattle.client_machine.specs.Costs.{SendsUpTo};
 ghost use Rattle.client_machine.specs.Settled.{call_contexts, orphan_count};
@@ -289,7 +289,7 @@ impl<D: Device> Machine<D> {
         requires code { admitted.now.shape.row.code ≡ CC_FLUSH_CONTEXT }
         requires params { admitted.now.auths.params ≤ length bytes.now }
         requires table { IsTable self.old.held.objects.items client table.old.items }
-        requires may { MayMove call_contexts D.CONTEXTS D.seen self.old.device self.old.held }
+        requires may { MayBegin call_contexts D.CONTEXTS D.seen self.old.device self.old.held }
         ensures { ServesCommand D.CONTEXTS D.seen client self.old.device self.new.device
             self.old.held self.new.held table.old.items table.new.items admitted.now bytes.now
             reply.new result }
@@ -317,11 +317,11 @@ impl<D: Device> Machine<D> {
     // flushed first.
     fn flush(&mut self, table: &mut ClientTable, handle: u32) -> Result<(), SwapError>
         requires there { (client : ℕ) × MayFlush client handle self.old.held table.old.items }
-        requires may { MayMove call_contexts D.CONTEXTS D.seen self.old.device self.old.held }
+        requires may { MayBegin call_contexts D.CONTEXTS D.seen self.old.device self.old.held }
         ensures serves { (client : ℕ) → MayFlush client handle self.old.held table.old.items
             → Serves D.CONTEXTS D.seen client self.old.device self.new.device self.old.held
             self.new.held table.old.items table.new.items result }
-        ensures flushes { OnOk result (Flushes D.CONTEXTS D.seen handle self.old.device
+        ensures flushes { OnOk result (FlushesNamed D.CONTEXTS D.seen handle self.old.device
             self.new.device self.old.held self.new.held table.old.items table.new.items) }
         ensures left { (client : ℕ) → MayFlush client handle self.old.held table.old.items
             → OnOk result (LeavesState (λ state. without_named state handle)

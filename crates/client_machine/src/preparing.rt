@@ -11,7 +11,7 @@ ghost use Rattle.session_swap.specs.Items.{AreNamed, gap_kept, renewal_gap};
 ghost use Rattle.client_machine.specs.Costs.{SendsUpTo, StaysIn, places_of};
 ghost use Rattle.client_machine.specs.Costs.{renewal_bound};
 ghost use Rattle.client_machine.specs.Moves.{Clears, FlushesSome, HasSessions, IsAtHand, IsCalm};
-ghost use Rattle.client_machine.specs.Moves.{IsClear, IsPrepared, Loses, MakesReady, MayMove};
+ghost use Rattle.client_machine.specs.Moves.{IsClear, IsPrepared, Loses, MakesReady, MayBegin};
 ghost use Rattle.client_machine.specs.Moves.{MovesObjects};
 ghost use Rattle.client_machine.specs.Moves.{MovesSessions, NeedsNoSession, Prepares, UsesNamed};
 ghost use Rattle.client_machine.specs.Moves.{listed, moves_for, named_by};
@@ -54,7 +54,7 @@ pub(crate) fn flush_orphans<D: Device>(
 // Flushes orphans, and renews old contexts. It makes 65 contexts at most: one for each of 64
 // sessions, and one that frees a place.
 fn renew<D: Device>(held: &mut Held, device: &mut D, scratch: &mut Buffer) -> Result<(), SwapError>
-    requires may { MayMove call_contexts D.CONTEXTS D.seen device.old held.old }
+    requires may { MayBegin call_contexts D.CONTEXTS D.seen device.old held.old }
     ensures prepared { Prepares 65 D.seen device.old device.new held.old held.new }
     ensures clear { OnOk result (IsClear (D.seen device.new).state held.new) }
     ensures still { orphan_count held.old ≡ 0
@@ -105,7 +105,7 @@ fn load_sessions<D: Device>(
     admitted: &Admitted,
     scratch: &mut Buffer,
 ) -> Result<(), SwapError>
-    requires may { MayMove swap_contexts D.CONTEXTS D.seen device.old held.old }
+    requires may { MayBegin swap_contexts D.CONTEXTS D.seen device.old held.old }
     requires clear { IsClear (D.seen device.old).state held.old }
     requires named { AreNamed (named_sessions admitted.now) held.old.sessions.items }
     requires starts { starts_session admitted.now ≡ true → named_sessions admitted.now ≡ [] }
@@ -160,7 +160,7 @@ fn bring<D: Device>(
 ) -> Result<(), SwapError>
     requires named { IfSome named (λ item. Names held.old.objects.items item) }
     requires few { new_slots ≤ 1 }
-    requires may { MayMove swap_contexts D.CONTEXTS D.seen device.old held.old }
+    requires may { MayBegin swap_contexts D.CONTEXTS D.seen device.old held.old }
     requires nobodys { orphan_count held.old ≡ 0 }
     ensures prepared { Prepares 3 D.seen device.old device.new held.old held.new }
     ensures rest { (objects.rest_of (D.seen device.new).state
@@ -201,7 +201,7 @@ pub(crate) fn prepare<D: Device>(
         × (client_admitted
         (tables_seen D.CONTEXTS client table.now.items held.old.sessions.items) bytes.now
         ≡ Ok admitted.now) }
-    requires may { MayMove call_contexts D.CONTEXTS D.seen device.old held.old }
+    requires may { MayBegin call_contexts D.CONTEXTS D.seen device.old held.old }
     ensures prepared { Prepares 100 D.seen device.old device.new held.old held.new }
     ensures ready { OnOk result (IsPrepared D.CONTEXTS (D.seen device.new).state held.new
         table.now.items admitted.now bytes.now translated.new) }

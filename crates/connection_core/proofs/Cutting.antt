@@ -2,37 +2,37 @@
 use Rattle.std.proofs.Common.{◌≡◌, ◌<◌, ◌≤◌, ◌+◌, ◌-◌, ℕ, min, false, List, [], ◌∷◌, ◌++◌, length, take, drop, Option, Some, None, refl, sym, ap, subst, ◌∙◌, append_assoc, arith, length-append}
 use Rattle.std.proofs.lemmas.List.{append-nil, take_all}
 use Rattle.std.proofs.Math.Seq.{take-append_seam}
-use Rattle.tab_spec.specs.Frame.{Item, Frames, cancel, command, commands, commands_of, frames, meets_bad_size, with_item}
+use Rattle.tab_spec.specs.Frame.{StreamItem, Frames, cancel, command, commands, commands_of, frames, meets_bad_size, with_item}
 use Rattle.tab_laws.proofs.Cuts.{frame_before, left_few, left_nothing}
 use Rattle.tab_frame.specs.Framing.{GaveItem}
 use Rattle.link_port.specs.Port.{Pulled}
 use Rattle.history_spec.specs.Cancels.{cancels, cancels_after}
-use Rattle.connection_core.specs.Rounds.{IsAtEnd, IsTaken}
+use Rattle.connection_core.specs.Rounds.{IsAtEnd, IsTakenFrom}
 
 -- ---- what is taken
 
-pub taken_none : (given : Option (List ℕ)) → IsTaken given given []
+pub taken_none : (given : Option (List ℕ)) → IsTakenFrom given given []
 taken_none given all is = (all, is, refl)
 
-pub taken_more : (given left left_new : Option (List ℕ)) (taken piece : List ℕ) → IsTaken given left taken → IsTaken left left_new piece → IsTaken given left_new (taken ++ piece)
+pub taken_more : (given left left_new : Option (List ℕ)) (taken piece : List ℕ) → IsTakenFrom given left taken → IsTakenFrom left left_new piece → IsTakenFrom given left_new (taken ++ piece)
 taken_more given left left_new taken piece first second all is =
     let one = first all is in
     let two = second one.0 one.1 in
     (two.0, two.1, one.2 ∙ ap (λ (l : List ℕ). taken ++ l) two.2 ∙ sym (append_assoc taken piece two.0))
 
-pub taken_same : (given left left_new : Option (List ℕ)) (taken : List ℕ) → left_new ≡ left → IsTaken given left taken → IsTaken given left_new taken
-taken_same given left left_new taken same is = subst (λ (l : Option (List ℕ)). IsTaken given l taken) (sym same) is
+pub taken_same : (given left left_new : Option (List ℕ)) (taken : List ℕ) → left_new ≡ left → IsTakenFrom given left taken → IsTakenFrom given left_new taken
+taken_same given left left_new taken same is = subst (λ (l : Option (List ℕ)). IsTakenFrom given l taken) (sym same) is
 
 some_same : (a b : List ℕ) → Some a ≡ Some b → a ≡ b
 some_same a b e = cc
 
-pub pulled_taken : (left left_new : Option (List ℕ)) (room : ℕ) (piece : List ℕ) → Pulled left left_new room piece → IsTaken left left_new piece
+pub pulled_taken : (left left_new : Option (List ℕ)) (room : ℕ) (piece : List ℕ) → Pulled left left_new room piece → IsTakenFrom left left_new piece
 pulled_taken None left_new room piece pulled all is = absurd cc
 pulled_taken (Some bytes) left_new room piece pulled all is = (pulled.rest, pulled.left, some_same all bytes (sym is) ∙ pulled.next)
 
 -- all that was given is taken, once nothing is left
-pub taken_all : (given left left_new : Option (List ℕ)) (taken : List ℕ) → IsTaken given left taken → IsAtEnd left left_new
-    → IsTaken given left_new taken × ((all : List ℕ) → given ≡ Some all → taken ≡ all)
+pub taken_all : (given left left_new : Option (List ℕ)) (taken : List ℕ) → IsTakenFrom given left taken → IsAtEnd left left_new
+    → IsTakenFrom given left_new taken × ((all : List ℕ) → given ≡ Some all → taken ≡ all)
 taken_all given left left_new taken took end = (
   (λ all is.
       let one = took all is in
@@ -74,11 +74,11 @@ cut_fed taken list raised kept kept_new piece cut is = subst (IsCut (taken ++ pi
 })
 
 -- how the bytes behind a frame are cut
-behind : (item : Item) (kept kept_new out more : List ℕ) → GaveItem item kept kept_new out → frames (kept ++ more) ≡ with_item item (frames (kept_new ++ more))
+behind : (item : StreamItem) (kept kept_new out more : List ℕ) → GaveItem item kept kept_new out → frames (kept ++ more) ≡ with_item item (frames (kept_new ++ more))
 behind item kept kept_new out more gave =
     ap frames (ap (λ (l : List ℕ). l ++ more) gave.parts ∙ append_assoc out kept_new more)
     ∙ frame_before out (kept_new ++ more) gave.frame
-    ∙ ap (λ (i : Item). with_item i (frames (kept_new ++ more))) gave.is_item
+    ∙ ap (λ (i : StreamItem). with_item i (frames (kept_new ++ more))) gave.is_item
 
 -- one command more
 pub one_longer : (list : List (List ℕ)) (out : List ℕ) → length (list ++ out ∷ []) ≡ length list + 1
@@ -114,13 +114,13 @@ same_ending taken list raised kept cut =
 pub cut_all : (taken : List ℕ) (list : List (List ℕ)) (raised kept : List ℕ) → IsCut taken list raised kept → (frames kept).items ≡ [] → commands taken ≡ list
 cut_all taken list raised kept cut none =
     ap commands (sym (append-nil taken)) ∙ cut.commands_are [] ∙ ap (λ (l : List ℕ). list ++ commands l) (append-nil kept)
-    ∙ ap (λ (items : List Item). list ++ commands_of items) none ∙ append-nil list
+    ∙ ap (λ (items : List StreamItem). list ++ commands_of items) none ∙ append-nil list
 
 -- and no more cancels
 pub raised_all : (taken : List ℕ) (list : List (List ℕ)) (raised kept : List ℕ) → IsCut taken list raised kept → (frames kept).items ≡ [] → cancels taken ≡ raised
 raised_all taken list raised kept cut none =
     ap cancels (sym (append-nil taken)) ∙ cut.cancels_are [] ∙ ap (λ (l : List ℕ). raised ++ cancels_after (length list) (frames l).items) (append-nil kept)
-    ∙ ap (λ (items : List Item). raised ++ cancels_after (length list) items) none ∙ append-nil raised
+    ∙ ap (λ (items : List StreamItem). raised ++ cancels_after (length list) items) none ∙ append-nil raised
 
 -- ---- a block
 

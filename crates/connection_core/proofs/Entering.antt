@@ -19,15 +19,15 @@ use Rattle.broker_lock.specs.declared.calls.OpenClientError.{OpenClientError}
 use Rattle.broker_lock.specs.declared.calls.OpenClientError.TheVariants as open_errors
 use Rattle.broker_lock.specs.declared.calls.Told.{Told}
 use Rattle.broker_lock.specs.declared.calls.Told.TheVariants as tolds
-use Rattle.broker_lock.specs.Examples.{IsServed}
+use Rattle.broker_lock.specs.Examples.{HasCommandsUpTo}
 use Rattle.broker_lock.specs.Known.{Fixed, IsLegalOver, Origin, knows, limits_of}
 use Rattle.broker_lock.specs.Pass.{Acts, Does, MayAsk, PassView, done_wrong}
-use Rattle.broker_lock.specs.Serves.{IsAnswered, IsCanceled, IsFailed, Tells, TellsCanceled, tells_wrong}
+use Rattle.broker_lock.specs.Serves.{IsAnswered, IsEnteredCanceled, IsFailed, Tells, TellsCanceled, tells_wrong}
 use Rattle.broker_lock.proofs.Knowing.{filter-weaker, knows_left, nothing_more, own-append, own_here, own_rest}
 use Rattle.broker_lock.proofs.Serving.{may_command, served_at_first}
 use Rattle.connection_core.specs.declared.ends.Ending.TheVariants as endings
-use Rattle.connection_core.specs.Links.{AreEntriesFrom, AreRepliesFrom, DecideFrom, Decides, IsCanceledUpTo, IsEntryOf, IsOpenedIn, IsRefused, IsTold, KnowsClient, upto_of}
-use Rattle.connection_core.specs.Turns.{Asks, GoesOn, job_of}
+use Rattle.connection_core.specs.Links.{AreEntriesFrom, AreRepliesFrom, DecideFrom, Decides, IsCanceledUpTo, IsCommandEntry, IsOpenedIn, IsOpeningRefused, IsTold, KnowsClient, upto_of}
+use Rattle.connection_core.specs.Turns.{AsksInTurn, GoesOn, job_of}
 use Rattle.connection_core.proofs.Telling.{AddsNone, IsBefore, before_all, decide_push, decide_stay, replies_stay}
 
 -- ---- any turn
@@ -66,7 +66,7 @@ unentered : {legal : Origin → List Entry → Type 0} (old new : PassView) (byt
 unentered old new bytes reply done nobody acts same =
     acts.known ∙ ap (λ (l : List Entry). l ++ acts.added) nobody ∙ nothing_more acts.before acts.added (sym acts.front ∙ same)
 
-pub refused_memory : {legal : Origin → List Entry → Type 0} (old new : PassView) (bytes reply : List ℕ) → old.known ≡ [] → Acts legal old jobs.Open bytes (dones.Opened (Err open_errors.Memory)) reply new → IsRefused endings.Memory new 0
+pub refused_memory : {legal : Origin → List Entry → Type 0} (old new : PassView) (bytes reply : List ℕ) → old.known ≡ [] → Acts legal old jobs.Open bytes (dones.Opened (Err open_errors.Memory)) reply new → IsOpeningRefused endings.Memory new 0
 refused_memory old new bytes reply nobody acts = record { done_is = refl; nobody = unentered old new bytes reply _ nobody acts acts.does.0; refuses = tt }
 
 -- where memory lacked, the journal had room
@@ -75,7 +75,7 @@ memory_had_room old new bytes reply acts =
     subst (λ (f : Fixed). HasRoomForClient f.limit new.front) (sym acts.fixed)
     (subst (λ (h : List Entry). HasRoomForClient old.fixed.limit h) (sym acts.does.0) acts.does.1)
 
-pub refused_answer : {legal : Origin → List Entry → Type 0} (old new : PassView) (bytes reply : List ℕ) → old.known ≡ [] → Acts legal old jobs.Open bytes (dones.Opened (Err open_errors.Answer)) reply new → IsRefused endings.Answer new 0
+pub refused_answer : {legal : Origin → List Entry → Type 0} (old new : PassView) (bytes reply : List ℕ) → old.known ≡ [] → Acts legal old jobs.Open bytes (dones.Opened (Err open_errors.Answer)) reply new → IsOpeningRefused endings.Answer new 0
 refused_answer old new bytes reply nobody acts = record {
   done_is = refl;
   nobody = unentered old new bytes reply _ nobody acts acts.does.0;
@@ -83,7 +83,7 @@ refused_answer old new bytes reply nobody acts = record {
 }
 
 pub refused_full : {legal : Origin → List Entry → Type 0} (old new : PassView) (bytes reply : List ℕ) (count limit : ℕ) → old.known ≡ [] → Acts legal old jobs.Open bytes (dones.Opened (Err (open_errors.JournalFull count limit))) reply new
-    → IsRefused (endings.JournalFull count limit) new 0
+    → IsOpeningRefused (endings.JournalFull count limit) new 0
 refused_full old new bytes reply count limit nobody acts = record {
   done_is = refl;
   nobody = unentered old new bytes reply _ nobody acts acts.does.same;
@@ -208,7 +208,7 @@ canceled_for : (client number upto : ℕ) (command : List ℕ) (e : Entry) → I
 canceled_for client number upto command e is =
     of_form client number command e (canceled_entry client number upto command (error_reply RC_CANCELED)) (record { client_is = refl; number_is = refl; command_is = refl; no_close = refl }) is.form
 
-pub entry_for : (fixed : Fixed) (history : List Entry) (client number : ℕ) (command : List ℕ) (e : Entry) → IsEntryOf fixed history client number command e → IsFor client number command e
+pub entry_for : (fixed : Fixed) (history : List Entry) (client number : ℕ) (command : List ℕ) (e : Entry) → IsCommandEntry fixed history client number command e → IsFor client number command e
 entry_for fixed history client number command e is = by_cause is.cause
   where
     by_cause : IsAnswered client number command e ⊎ (IsFailed fixed.began client number command e ⊎ ((upto : ℕ) × IsCanceledUpTo client number upto command e)) → IsFor client number command e
@@ -237,14 +237,14 @@ pub record Before (client number : ℕ) (history : List Entry) : Type 0 where
   pub none : entry_of history client number ≡ None
   pub all : part_before client number history ≡ history
 
-pub before_next : (known history : List Entry) (client done : ℕ) → IsServed known client done → own history client ≡ own known client → Before client (done + 1) history
+pub before_next : (known history : List Entry) (client done : ℕ) → HasCommandsUpTo known client done → own history client ≡ own known client → Before client (done + 1) history
 before_next known history client done served same =
     let all = subst (AllByRecursion (IsBefore (done + 1))) (sym same) (all_before done (own known client) served.numbers served.not_closed) in
     record { none = find_none (done + 1) (own history client) all; all = before_all client (done + 1) history all }
 
 -- the entry of a command that may have one
 abbrev pub MayHaveEntry : Fixed → List Entry → (client number : ℕ) (command : List ℕ) → List Entry → Type 0
-MayHaveEntry fixed history client number command added = (added ≡ []) ⊎ ((e : Entry) × (added ≡ e ∷ []) × IsEntryOf fixed history client number command e)
+MayHaveEntry fixed history client number command added = (added ≡ []) ⊎ ((e : Entry) × (added ≡ e ∷ []) × IsCommandEntry fixed history client number command e)
 
 one_of_three : {A B C : Type 0} → A ⊎ B → A ⊎ (B ⊎ C)
 one_of_three (inl a) = inl a
@@ -326,7 +326,7 @@ found_last client number history e none of_client of_number =
     found_behind [] is = ap (λ (b : Bool). cond b (Some e) None) (eq-eqb e.number number of_number)
     found_behind (x ∷ es) is = by_test (eqb x.number number) x (find (λ (y : Entry). eqb y.number number) es) (find (λ (y : Entry). eqb y.number number) (es ++ e ∷ [])) is (found_behind es)
 
-found_canceled : (limit : ℕ) (before after : List Entry) (client number upto : ℕ) (command reply : List ℕ) → Before client number before → IsCanceled limit before after client number upto command reply
+found_canceled : (limit : ℕ) (before after : List Entry) (client number upto : ℕ) (command reply : List ℕ) → Before client number before → IsEnteredCanceled limit before after client number upto command reply
     → entry_of after client number ≡ Some (canceled_entry client number upto command reply)
 found_canceled limit before after client number upto command reply there tells =
     ap (λ (h : List Entry). entry_of h client number) tells.entered ∙ found_last client number before (canceled_entry client number upto command reply) there.none refl refl
@@ -432,7 +432,7 @@ each_push : (done : ℕ) (es : List Entry) (e : Entry) → AllByRecursion (λ (x
 each_push done [] e all is = (omega (arith, is), tt)
 each_push done (x ∷ es) e all is = (omega (arith, all.0), each_push done es e all.1 is)
 
-served_by : (known : List Entry) (client done : ℕ) (command : List ℕ) (e : Entry) → IsServed known client done → IsFor client (done + 1) command e → IsServed (known ++ e ∷ []) client (done + 1)
+served_by : (known : List Entry) (client done : ℕ) (command : List ℕ) (e : Entry) → HasCommandsUpTo known client done → IsFor client (done + 1) command e → HasCommandsUpTo (known ++ e ∷ []) client (done + 1)
 served_by known client done command e served is =
     let all : own (known ++ e ∷ []) client ≡ own known client ++ e ∷ [] = own-append client known (e ∷ []) ∙ ap (λ (l : List Entry). own known client ++ l) (own_here client e [] is.client_is) in record {
       client_known = knows_left client known (e ∷ []) served.client_known;
@@ -441,19 +441,19 @@ served_by known client done command e served is =
       numbers = subst (AllByRecursion (λ (x : Entry). x.number ≤ done + 1)) (sym all) (each_push done (own known client) e served.numbers is.number_is);
     }
 
-served_more : (fixed : Fixed) (history : List Entry) (client done : ℕ) (command : List ℕ) (known added : List Entry) → IsServed known client done → MayHaveEntry fixed history client (done + 1) command added
-    → IsServed (known ++ added) client (done + 1)
+served_more : (fixed : Fixed) (history : List Entry) (client done : ℕ) (command : List ℕ) (known added : List Entry) → HasCommandsUpTo known client done → MayHaveEntry fixed history client (done + 1) command added
+    → HasCommandsUpTo (known ++ added) client (done + 1)
 served_more fixed history client done command known added served (inl nothing) =
-    subst (λ (l : List Entry). IsServed l client (done + 1)) (sym (ap (λ (l : List Entry). known ++ l) nothing ∙ append-nil known)) record {
+    subst (λ (l : List Entry). HasCommandsUpTo l client (done + 1)) (sym (ap (λ (l : List Entry). known ++ l) nothing ∙ append-nil known)) record {
       client_known = served.client_known;
       not_closed = served.not_closed;
       numbers = up_to_more done (own known client) served.numbers;
     }
 served_more fixed history client done command known added served (inr one) =
-    subst (λ (l : List Entry). IsServed (known ++ l) client (done + 1)) (sym one.1) (served_by known client done command one.0 served (entry_for fixed history client (done + 1) command one.0 one.2))
+    subst (λ (l : List Entry). HasCommandsUpTo (known ++ l) client (done + 1)) (sym one.1) (served_by known client done command one.0 served (entry_for fixed history client (done + 1) command one.0 one.2))
 
 -- what it may ask next
-pub may_next : (known : List Entry) (client done word : ℕ) → IsServed known client done → MayAsk known (job_of client (done + 1) word)
+pub may_next : (known : List Entry) (client done word : ℕ) → HasCommandsUpTo known client done → MayAsk known (job_of client (done + 1) word)
 may_next known client done word served = by_test (nat_le (done + 1) word) refl
   where
     by_test : (b : Bool) → nat_le (done + 1) word ≡ b → MayAsk known (if b then jobs.Cancel client (done + 1) word else jobs.Command client (done + 1))
@@ -471,7 +471,7 @@ pub entries_push : (fixed : Fixed) (history : List Entry) (client number : ℕ) 
     → MayHaveEntry fixed history client (number + length list) command added → AreEntriesFrom fixed history client number (list ++ command ∷ []) (entries ++ added)
 entries_push fixed history client number [] entries added command none (inl nothing) = inl ((λ i. none i ++ nothing i))
 entries_push fixed history client number [] entries added command none (inr one) =
-    inr (one.0, [], (λ i. none i ++ one.1 i), subst (λ (n : ℕ). IsEntryOf fixed history client n command one.0) (let e : number + 0 ≡ number = omega arith in e) one.2, refl)
+    inr (one.0, [], (λ i. none i ++ one.1 i), subst (λ (n : ℕ). IsCommandEntry fixed history client n command one.0) (let e : number + 0 ≡ number = omega arith in e) one.2, refl)
 entries_push fixed history client number (first ∷ list) entries added command (inl rest) may = inl (entries_push fixed history client (number + 1) list entries added command rest (later fixed history client number first list command added may))
 entries_push fixed history client number (first ∷ list) entries added command (inr one) may =
     inr (one.0, one.1 ++ added, ap (λ (l : List Entry). l ++ added) one.2, one.3, entries_push fixed history client (number + 1) list one.1 added command one.4 (later fixed history client number first list command added may))
@@ -489,7 +489,7 @@ opened_on limit history more client opened = record {
   room = opened.room;
 }
 
-entry_on : (fixed : Fixed) (history more : List Entry) (client number : ℕ) (command : List ℕ) (e : Entry) → IsEntryOf fixed history client number command e → IsEntryOf fixed (history ++ more) client number command e
+entry_on : (fixed : Fixed) (history more : List Entry) (client number : ℕ) (command : List ℕ) (e : Entry) → IsCommandEntry fixed history client number command e → IsCommandEntry fixed (history ++ more) client number command e
 entry_on fixed history more client number command e is = record { cause = is.cause; before = is.before; there = there_on history more (is.before ++ e ∷ []) is.there; room = is.room }
 
 pub entries_on : (fixed : Fixed) (history more : List Entry) (client number : ℕ) (list : List (List ℕ)) (entries : List Entry) → AreEntriesFrom fixed history client number list entries
@@ -523,7 +523,7 @@ pub record Answered (fixed : Fixed) (new : PassView) (client done word : ℕ) (l
 
 pub answered : {legal : Origin → List Entry → Type 0} (old new : PassView) (client done word : ℕ) (list : List (List ℕ)) (loaded : List ℕ) (output : List ℕ) (entries : List Entry) (command reply : List ℕ) → KnowsClient old client done entries
     → length list ≡ done → length loaded ≡ done → AreEntriesFrom old.fixed old.front client 1 list entries → AreRepliesFrom old.fixed old.wrong old.front client 1 list output → DecideFrom old.front client 1 loaded
-    → Asks legal old (job_of client (done + 1) word) command reply new → Answered old.fixed new client done word list loaded output entries command reply
+    → AsksInTurn legal old (job_of client (done + 1) word) command reply new → Answered old.fixed new client done word list loaded output entries command reply
 answered {legal = legal} old new client done word list loaded output entries command reply serves count loads are replies decide (d, acts) =
     let job = job_of client (done + 1) word in
     let may = may_turn old.fixed acts.before new.front acts.added client (done + 1) word command reply d acts.front acts.does in
@@ -540,7 +540,7 @@ answered {legal = legal} old new client done word list loaded output entries com
         opened = subst (λ (f : Fixed). IsOpenedIn f.limit new.front client) (sym acts.fixed)
             (subst (λ (h : List Entry). IsOpenedIn old.fixed.limit h client) (sym turn.front) (opened_on old.fixed.limit old.front more client serves.opened));
         own_is = turn.own_is;
-        present = subst (λ (l : List Entry). IsServed l client (done + 1)) (sym acts.known) (served_more old.fixed new.front client done command old.known acts.added serves.present may);
+        present = subst (λ (l : List Entry). HasCommandsUpTo l client (done + 1)) (sym acts.known) (served_more old.fixed new.front client done command old.known acts.added serves.present may);
       };
       entries_are = entries_push old.fixed new.front client 1 list entries acts.added command
           (subst (λ (h : List Entry). AreEntriesFrom old.fixed h client 1 list entries) (sym turn.front) (entries_on old.fixed old.front more client 1 list entries are))
@@ -565,7 +565,7 @@ pub record ClosedAs (legal : Origin → List Entry → Type 0) (old new : PassVi
   pub own_is : own new.front client ≡ new.known
   pub is_legal : IsLegalOver legal new.fixed.base new.front
 
-pub closed_as : {legal : Origin → List Entry → Type 0} (old new : PassView) (client done : ℕ) (entries : List Entry) (bytes reply : List ℕ) → KnowsClient old client done entries → Asks legal old (jobs.Close client) bytes reply new → ClosedAs legal old new client done entries
+pub closed_as : {legal : Origin → List Entry → Type 0} (old new : PassView) (client done : ℕ) (entries : List Entry) (bytes reply : List ℕ) → KnowsClient old client done entries → AsksInTurn legal old (jobs.Close client) bytes reply new → ClosedAs legal old new client done entries
 closed_as {legal = legal} old new client done entries bytes reply serves (dones.Closed closed, acts) =
     let one : acts.added ≡ close_entry client ∷ [] = append_cancel_left acts.before acts.added (close_entry client ∷ []) (sym acts.front ∙ acts.does.entered) in
     let own_added : own acts.added client ≡ acts.added = ap (λ (l : List Entry). own l client) one ∙ own_here client (close_entry client) [] refl ∙ sym one in

@@ -11,13 +11,13 @@ use Rattle.connection_core.specs.declared.between.Side.{Side}
 use Rattle.connection_core.specs.declared.ends.Ending.{Ending}
 use Rattle.connection_core.specs.declared.ends.Ending.TheVariants as endings
 use Rattle.connection_core.specs.Leaves.{IsFinished, ReaderLeaves, WorkerLeaves}
-use Rattle.connection_core.specs.Links.{HasCause, IsClosed}
+use Rattle.connection_core.specs.Links.{HasEndingCause, IsClosedLink}
 use Rattle.connection_core.specs.Works.{ended_by}
 use Rattle.connection_core.proofs.Serving.{cause_both, closed_link, stopped_both}
 
 pub closed_both : {legal : Origin → List Entry → Type 0} (between : Between) (reader worker : Side) (seat : WordView) (ending : Ending) (old new : PassView) (client done : ℕ) (given left written written_new : Option (List ℕ)) (faults faults_new sink_faults sink_faults_new : ℕ)
     → ReaderLeaves between reader given left faults faults_new → WorkerLeaves legal between worker ending old new client done written written_new sink_faults sink_faults_new → IsFinished reader worker seat
-    → IsClosed legal ending new client done given left written written_new (Some seat)
+    → IsClosedLink legal ending new client done given left written written_new (Some seat)
 closed_both between reader worker seat ending old new client done given left written written_new faults faults_new sink_faults sink_faults_new reads works finished =
     closed_link ending works.last new client done given left written written_new seat [] works.reply
     (stopped_both ending works.last client done reads.ended given left written written_new (view reader.pass).sent (view worker.pass).taken finished.items reader.seat.raised worker.seat.loaded seat reads.read works.worked finished.whole
@@ -26,7 +26,7 @@ closed_both between reader worker seat ending old new client done given left wri
 
 pub caused_both : {legal : Origin → List Entry → Type 0} (between : Between) (reader worker : Side) (seat : WordView) (ending : Ending) (old new : PassView) (client done : ℕ) (given left written written_new : Option (List ℕ)) (faults faults_new sink_faults sink_faults_new : ℕ)
     → ReaderLeaves between reader given left faults faults_new → WorkerLeaves legal between worker ending old new client done written written_new sink_faults sink_faults_new → IsFinished reader worker seat
-    → HasCause ending faults faults_new sink_faults sink_faults_new
+    → HasEndingCause ending faults faults_new sink_faults sink_faults_new
 caused_both between reader worker seat ending old new client done given left written written_new faults faults_new sink_faults sink_faults_new reads works finished =
     cause_both ending works.last client done reads.ended given left written written_new (view reader.pass).sent (view worker.pass).taken finished.items reader.seat.raised worker.seat.loaded faults faults_new sink_faults sink_faults_new
     reads.read works.worked finished.whole reads.counts works.counts

@@ -10,7 +10,7 @@ use Rattle.connection_core.specs.declared.message.Ended.TheVariants as ends
 use Rattle.connection_core.specs.declared.message.Message.TheVariants as messages
 use Rattle.connection_core.specs.declared.intake.Round.TheVariants as rounds
 use Rattle.connection_core.specs.Line.{LineView, messages_of, sending, with_sent}
-use Rattle.connection_core.specs.Rounds.{HasSent, IsEnd, IsRound, IsTaken, ReadsTo}
+use Rattle.connection_core.specs.Rounds.{HasSent, IsEnd, IsRound, IsTakenFrom, ReadsTo}
 use Rattle.connection_core.specs.Sides.{IsFreshReaders, IsReaders}
 use Rattle.connection_core.proofs.Cutting.{IsCut, cut_all, cut_cancel, cut_command, cut_fed, cut_none, one_longer, raised_all, same_ending, taken_all, taken_more, taken_none, taken_same}
 
@@ -18,7 +18,7 @@ use Rattle.connection_core.proofs.Cutting.{IsCut, cut_all, cut_cancel, cut_comma
 pub record ReadSoFar (count : ℕ) (given left : Option (List ℕ)) (line : LineView) (raised kept : List ℕ) : Type 0 where
   pub taken : List ℕ
   pub list : List (List ℕ)
-  pub took : IsTaken given left taken
+  pub took : IsTakenFrom given left taken
   pub cut : IsCut taken list raised kept
   pub count_is : length list ≡ count
   pub line_is : line ≡ sending (messages_of list)
@@ -98,8 +98,8 @@ no_frame ends.NoMore left left_new kept end = end.0.none
 no_frame (ends.BadSize size) left left_new kept end = ap (λ (f : Frames). f.items) end.0
 no_frame ends.Fault left left_new kept end = end.0.none
 
-reads_to : (ended : Ended) (given left left_new : Option (List ℕ)) (taken : List ℕ) (list : List (List ℕ)) (raised kept : List ℕ) → IsTaken given left taken → IsCut taken list raised kept → IsEnd ended left left_new kept
-    → IsTaken given left_new taken × ReadsTo ended given taken
+reads_to : (ended : Ended) (given left left_new : Option (List ℕ)) (taken : List ℕ) (list : List (List ℕ)) (raised kept : List ℕ) → IsTakenFrom given left taken → IsCut taken list raised kept → IsEnd ended left left_new kept
+    → IsTakenFrom given left_new taken × ReadsTo ended given taken
 reads_to ends.NoMore given left left_new taken list raised kept took cut end =
     let all = taken_all given left left_new taken took end.1 in
     (all.0, (ap is_bad (same_ending taken list raised kept cut) ∙ end.0.sound, all.1))

@@ -6,7 +6,7 @@ use Rattle.atomic_table.proofs.Lists.{at_set, at_snoc}
 use Rattle.crossbeam_channel.specs.Fifo.{Pushes, Pops, Forks, Merges, Learns}
 use Rattle.tab_spec.specs.Count.{largest_count}
 use Rattle.connection_core.specs.declared.message.Message.{Message}
-use Rattle.connection_core.specs.Line.{Fits, HasTaken, IsInOrder, IsWhole, LineView, both_of, first_view, sending, spent_view, taking, with_sent, with_taken}
+use Rattle.connection_core.specs.Line.{FitsLine, HasTaken, IsInOrder, IsWholeLine, LineView, both_of, first_view, sending, spent_view, taking, with_sent, with_taken}
 
 -- ---- a list of views, one of which changes
 
@@ -41,7 +41,7 @@ begins_line = record {
   taken = [];
   whole = refl;
   short = omega arith;
-  each = begins_first (Fits 0 0 [] []) ((λ _. (refl, refl)), λ _. (refl, refl));
+  each = begins_first (FitsLine 0 0 [] []) ((λ _. (refl, refl)), λ _. (refl, refl));
 }
 
 pub sends_line : (room place : ℕ) (v : LineView) (x : Message) → v.sends ≡ true → length v.sent < largest_count → Pushes IsInOrder room place v x (λ w. w ≡ with_sent v x)
@@ -54,7 +54,7 @@ sends_line room place v x may few items views _ h at = let w = with_sent v x in 
     taken = h.taken;
     whole = ap (λ (l : List Message). l ++ x ∷ []) h.whole ∙ append_assoc h.taken items (x ∷ []);
     short = omega (arith, few, ap length (mine.0 may).1, length-append h.sent (x ∷ []));
-    each = each_set (Fits h.sender h.taker sent h.taken) views place w ((λ _. ((mine.0 may).0, ap (λ (l : List Message). l ++ x ∷ []) (mine.0 may).1)), mine.1)
+    each = each_set (FitsLine h.sender h.taker sent h.taken) views place w ((λ _. ((mine.0 may).0, ap (λ (l : List Message). l ++ x ∷ []) (mine.0 may).1)), mine.1)
         (λ j u other there. ((λ p. absurd (other (((h.each j u there).0 p).0 ∙ sym (mine.0 may).0))), (h.each j u there).1));
   },
   refl,
@@ -70,7 +70,7 @@ takes_line place v may x items views h at = let w = with_taken v x in let mine =
     taken = taken;
     whole = h.whole ∙ sym (append_assoc h.taken (x ∷ []) items);
     short = h.short;
-    each = each_set (Fits h.sender h.taker h.sent taken) views place w (mine.0, λ _. ((mine.1 may).0, ap (λ (l : List Message). l ++ x ∷ []) (mine.1 may).1))
+    each = each_set (FitsLine h.sender h.taker h.sent taken) views place w (mine.0, λ _. ((mine.1 may).0, ap (λ (l : List Message). l ++ x ∷ []) (mine.1 may).1))
         (λ j u other there. ((h.each j u there).0, λ p. absurd (other (((h.each j u there).1 p).0 ∙ sym (mine.1 may).0))));
   },
   (refl, omega (arith, h.short, ap length h.whole, length-append h.taken (x ∷ items), length-append v.taken (x ∷ []), ap length (mine.1 may).1)),
@@ -95,7 +95,8 @@ splits_line place v a b items views h at = let l = sending v.sent in let r = tak
 pub joins_line : (place : ℕ) (v : LineView) (other : ℕ) (u : LineView) → v.sends ≡ true → u.takes ≡ true → Merges IsInOrder place v other u (both_of v u) spent_view
 joins_line place v other u a b items views h at two given = let both = both_of v u in let mine = h.each place v at in let vs : List LineView = set views place both in
     let was : get_elem? views other ≡ some u = ⊎_elim (λ x. absurd (two x.0)) (λ x. x.1) (at_set views place other both u given) in let theirs = (h.each other u was).1 b in
-    let Now : ℕ → LineView → Type 0 = λ j y. j ≢ other → Fits h.sender place h.sent h.taken j y in
+    let Now : ℕ → LineView → Type 0 =
+    λ j y. j ≢ other → FitsLine h.sender place h.sent h.taken j y in
     let now : Each Now vs = each_set Now views place both (λ _. ((λ _. mine.0 a), λ _. (refl, theirs.1))) (λ j y _ there apart. ((h.each j y there).0, λ p. absurd (apart (((h.each j y there).1 p).0 ∙ sym theirs.0)))) in
     record {
       sender = h.sender;
@@ -104,8 +105,8 @@ joins_line place v other u a b items views h at two given = let both = both_of v
       taken = h.taken;
       whole = h.whole;
       short = h.short;
-      each = each_set (Fits h.sender place h.sent h.taken) vs other spent_view ((λ p. absurd (true≢false (sym p))), λ p. absurd (true≢false (sym p))) (λ j y apart there. now j y there apart);
+      each = each_set (FitsLine h.sender place h.sent h.taken) vs other spent_view ((λ p. absurd (true≢false (sym p))), λ p. absurd (true≢false (sym p))) (λ j y apart there. now j y there apart);
     }
 
-pub wholes_line : (place : ℕ) (v : LineView) → v.sends ≡ true → v.takes ≡ true → Learns IsInOrder place v (IsWhole v)
+pub wholes_line : (place : ℕ) (v : LineView) → v.sends ≡ true → v.takes ≡ true → Learns IsInOrder place v (IsWholeLine v)
 wholes_line place v a b items views h at = let mine = h.each place v at in (mine.0 a).1 ∙ h.whole ∙ ap (λ (l : List Message). l ++ items) (sym (mine.1 b).1)

@@ -20,12 +20,12 @@ use Rattle.connection_core.specs.declared.message.Message.{Message}
 use Rattle.connection_core.specs.declared.message.Message.TheVariants as messages
 use Rattle.connection_core.specs.declared.between.Between.{Between}
 use Rattle.connection_core.specs.declared.between.Side.{Side}
-use Rattle.connection_core.specs.Keeps.{IsDropped}
+use Rattle.connection_core.specs.Keeps.{AreDropped}
 use Rattle.connection_core.specs.Line.{LineView, messages_of, with_taken}
-use Rattle.connection_core.specs.Links.{AnswersAll, AreEntriesFrom, AreRepliesFrom, CutsReply, DecideFrom, EndsAs, HasCause, IsClosed, IsSeatOf, IsStopped, IsTold, KnowsClient, StaysOrRose}
+use Rattle.connection_core.specs.Links.{AnswersAll, AreEntriesFrom, AreRepliesFrom, CutsReply, DecideFrom, EndsAs, HasEndingCause, IsClosedLink, IsSeatOf, IsStopped, IsTold, KnowsClient, StaysOrRose}
 use Rattle.connection_core.specs.Rounds.{EndCounts, HasRead, ReadsTo}
 use Rattle.connection_core.specs.Sides.{IsFreshWorkers, IsWorkers}
-use Rattle.connection_core.specs.Turns.{Asks, AsksNext, WroteFront}
+use Rattle.connection_core.specs.Turns.{AsksInTurn, AsksNext, WroteFront}
 use Rattle.connection_core.specs.Works.{CutsShort, HasWorked, IsDrained, SoFar, WorkCounts, WorksTo}
 use Rattle.connection_core.proofs.Covering.{canceled_by}
 use Rattle.connection_core.proofs.Entering.{answered, closed_as, entries_on, goes_on_act}
@@ -162,17 +162,17 @@ so_far_end pass client done taken taken_new loaded written written_new ended so 
 
 -- ---- what is dropped
 
-pub dropped_none : (taken : List Message) → IsDropped taken taken
+pub dropped_none : (taken : List Message) → AreDropped taken taken
 dropped_none taken = ([], sym (append-nil taken))
 
-pub dropped_one : (taken between taken_new : List Message) (command : List ℕ) → IsDropped taken between → taken_new ≡ between ++ messages.Command command ∷ [] → IsDropped taken taken_new
+pub dropped_one : (taken between taken_new : List Message) (command : List ℕ) → AreDropped taken between → taken_new ≡ between ++ messages.Command command ∷ [] → AreDropped taken taken_new
 dropped_one taken between taken_new command so more = (
   so.0 ++ command ∷ [],
   more ∙ ap (λ (l : List Message). l ++ messages.Command command ∷ []) so.1 ∙ append_assoc taken (messages_of so.0) (messages.Command command ∷ [])
       ∙ ap (λ (l : List Message). taken ++ l) (sym (map_push messages.Command so.0 command)),
 )
 
-pub drained : (taken between taken_new : List Message) (ended : Ended) → IsDropped taken between → taken_new ≡ between ++ messages.End ended ∷ [] → IsDrained taken taken_new
+pub drained : (taken between taken_new : List Message) (ended : Ended) → AreDropped taken between → taken_new ≡ between ++ messages.End ended ∷ [] → IsDrained taken taken_new
 drained taken between taken_new ended so more = record {
   list = so.0;
   ended = ended;
@@ -368,7 +368,7 @@ stays_or_rose (ends.BadSize size) faults faults_new counts = inl counts
 stays_or_rose ends.Fault faults faults_new counts = inr counts
 
 cause_as : (ending : Ending) (ended : Ended) (fixed : Fixed) (wrong : Bool) (history : List Entry) (client done : ℕ) (list : List (List ℕ)) (output : List ℕ) (faults faults_new sink_faults sink_faults_new : ℕ)
-    → WorksTo ending ended fixed wrong history client done list output → EndCounts ended faults faults_new → WorkCounts ending sink_faults sink_faults_new → HasCause ending faults faults_new sink_faults sink_faults_new
+    → WorksTo ending ended fixed wrong history client done list output → EndCounts ended faults faults_new → WorkCounts ending sink_faults sink_faults_new → HasEndingCause ending faults faults_new sink_faults sink_faults_new
 cause_as endings.EndOfInput ended fixed wrong history client done list output faults faults_new sink_faults sink_faults_new works read wrote = (subst (λ (e : Ended). EndCounts e faults faults_new) works.0 read, wrote)
 cause_as (endings.BadFrame size) ended fixed wrong history client done list output faults faults_new sink_faults sink_faults_new works read wrote = (subst (λ (e : Ended). EndCounts e faults faults_new) works.0 read, wrote)
 cause_as endings.ReadFault ended fixed wrong history client done list output faults faults_new sink_faults sink_faults_new works read wrote = (subst (λ (e : Ended). EndCounts e faults faults_new) works.0 read, wrote)
@@ -379,7 +379,7 @@ cause_as endings.Answer ended fixed wrong history client done list output faults
 
 pub cause_both : (ending : Ending) (pass : PassView) (client done : ℕ) (ended : Ended) (given left written written_new : Option (List ℕ)) (sent taken items : List Message) (raised loaded : List ℕ) (faults faults_new sink_faults sink_faults_new : ℕ)
     → HasRead ended given left sent raised → HasWorked ending pass client done taken loaded written written_new → sent ≡ taken ++ items
-    → EndCounts ended faults faults_new → WorkCounts ending sink_faults sink_faults_new → HasCause ending faults faults_new sink_faults sink_faults_new
+    → EndCounts ended faults faults_new → WorkCounts ending sink_faults sink_faults_new → HasEndingCause ending faults faults_new sink_faults sink_faults_new
 cause_both ending pass client done ended given left written written_new sent taken items raised loaded faults faults_new sink_faults sink_faults_new read worked whole counts wrote =
     let from = read.commands_sent in
     let same = same_messages (commands from.taken) worked.list ended worked.ended items
@@ -435,7 +435,7 @@ ends_stay endings.Answer fixed wrong new_wrong history more client done given ta
 
 -- the client is closed at the end of its connection
 pub closed_link : {legal : Origin → List Entry → Type 0} (ending : Ending) (old new : PassView) (client done : ℕ) (given left written written_new : Option (List ℕ)) (seat : WordView) (bytes reply : List ℕ) → IsStopped ending old client done given left written written_new seat
-    → Asks legal old (jobs.Close client) bytes reply new → IsClosed legal ending new client done given left written written_new (Some seat)
+    → AsksInTurn legal old (jobs.Close client) bytes reply new → IsClosedLink legal ending new client done given left written written_new (Some seat)
 closed_link {legal = legal} ending old new client done given left written written_new seat bytes reply stopped asks =
     let closed = closed_as old new client done stopped.entries bytes reply stopped.serves asks in
     let same : new.fixed ≡ old.fixed = (goes_on_act old new (jobs.Close client) bytes reply asks.0 asks.1).fixed in

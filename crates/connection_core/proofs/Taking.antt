@@ -18,9 +18,9 @@ use Rattle.connection_core.specs.declared.ends.Ending.{Ending}
 use Rattle.connection_core.specs.declared.message.Message.{Message}
 use Rattle.connection_core.specs.declared.message.Message.TheVariants as messages
 use Rattle.connection_core.specs.declared.worker.Worker.{Worker}
-use Rattle.connection_core.specs.Duties.{Keeps, KeepsTo}
-use Rattle.connection_core.specs.Hands.{Closes}
-use Rattle.connection_core.specs.Keeps.{IsBegun, Stands, Start, start_of}
+use Rattle.connection_core.specs.Duties.{KeepsDuty, KeepsTo}
+use Rattle.connection_core.specs.Hands.{ClosesDuty}
+use Rattle.connection_core.specs.Keeps.{DutyStands, IsBegun, Start, start_of}
 use Rattle.connection_core.specs.Leaves.{WorkerLeaves}
 use Rattle.connection_core.specs.Line.{LineView, messages_of}
 use Rattle.connection_core.specs.Links.{KnowsClient}
@@ -47,10 +47,10 @@ pub keeps_first : {B K : Type 0} {legal : Origin → List Entry → Type 0} (wri
     → KnowsClient duty.worker.pass duty.worker.client 0 [] → GoesOn legal first duty.worker.pass → KeepsTo legal written ended faults begun duty
 keeps_first {legal = legal} written ended faults begun between first duty begins going none fresh serves goes_on start is =
     let one = start_of between first (written duty.worker.sink) (ended duty.worker.sink) (faults duty.worker.sink) in
-    subst (λ (s : Start). Keeps legal written ended faults s duty) (some_same one start (sym begins ∙ is)) (record {
+    subst (λ (s : Start). KeepsDuty legal written ended faults s duty) (some_same one start (sym begins ∙ is)) (record {
       side = workers_at_first between duty.worker.side fresh;
       goes_on = goes_on;
-      stands = subst (λ (s : Stage). Stands s one duty.worker.pass duty.worker.client duty.worker.done (view duty.worker.side.pass).taken duty.worker.side.seat.loaded (written duty.worker.sink) (ended duty.worker.sink) (faults duty.worker.sink)) (sym going) (record {
+      stands = subst (λ (s : Stage). DutyStands s one duty.worker.pass duty.worker.client duty.worker.done (view duty.worker.side.pass).taken duty.worker.side.seat.loaded (written duty.worker.sink) (ended duty.worker.sink) (faults duty.worker.sink)) (sym going) (record {
         so_far = so_far_first duty.worker.pass duty.worker.client duty.worker.done (view duty.worker.side.pass).taken duty.worker.side.seat.loaded (written duty.worker.sink) serves none (ap (λ (v : LineView). v.taken) fresh.untaken) fresh.unloaded;
         sink_open = refl;
         same = refl;
@@ -60,8 +60,8 @@ keeps_first {legal = legal} written ended faults begun between first duty begins
 -- ---- one message
 
 pub stood : (stage other : Stage) (start : Start) (pass : PassView) (client done : ℕ) (taken : List Message) (loaded : List ℕ) (written : Option (List ℕ)) (ended : Option Bool) (faults : ℕ) → stage ≡ other
-    → Stands stage start pass client done taken loaded written ended faults → Stands other start pass client done taken loaded written ended faults
-stood stage other start pass client done taken loaded written ended faults is stands = subst (λ (s : Stage). Stands s start pass client done taken loaded written ended faults) is stands
+    → DutyStands stage start pass client done taken loaded written ended faults → DutyStands other start pass client done taken loaded written ended faults
+stood stage other start pass client done taken loaded written ended faults is stands = subst (λ (s : Stage). DutyStands s start pass client done taken loaded written ended faults) is stands
 
 -- its side, whatever was taken
 pub workers_now : (start_between between : Between) (side side_new : Side) → start_between ≡ between → IsWorkers start_between side → IsSeatAt (sends_on between.line.sender) side_new.pass → (view side_new.pass).takes ≡ (view side.pass).takes
@@ -86,7 +86,7 @@ below pass client done taken taken_new message loaded written written_new so mor
 
 -- what is left of a duty, over what both hands share
 pub leaves_at : {B K : Type 0} {legal : Origin → List Entry → Type 0} (written : K → Option (List ℕ)) (ended : K → Option Bool) (faults : K → ℕ) (ending : Ending) (start : Start) (between : Between) (worker : Worker B K)
-    → start.between ≡ between → Closes legal written ended faults ending start worker
+    → start.between ≡ between → ClosesDuty legal written ended faults ending start worker
     → WorkerLeaves legal between worker.side ending start.pass worker.pass worker.client worker.done start.written (written worker.sink) start.faults (faults worker.sink)
 leaves_at {legal = legal} written ended faults ending start between worker same closes =
     subst (λ (x : Between). WorkerLeaves legal x worker.side ending start.pass worker.pass worker.client worker.done start.written (written worker.sink) start.faults (faults worker.sink)) same closes.leaves

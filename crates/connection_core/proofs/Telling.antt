@@ -10,7 +10,7 @@ use Rattle.std.proofs.lemmas.List.Sums.{sum_by_push}
 use Rattle.history_spec.specs.declared.EntryKind.{EntryKind}
 use Rattle.history_spec.specs.declared.EntryKind.TheVariants.{Open, Command, Canceled, Fault, Close}
 use Rattle.history_spec.specs.Entry.{Clients, Entry, clients_of, is_after, is_close_kind, kept_by, own, part_before, present_by, reserved, without}
-use Rattle.history_spec.specs.Told.{AnswersFrom, IsToldFull, Told, ToldBy, entry_of, Limits}
+use Rattle.history_spec.specs.Told.{AnswersFrom, IsToldFull, MayBeTold, ToldBy, entry_of, Limits}
 use Rattle.broker_lock.specs.Known.{Fixed, Origin, limits_of}
 use Rattle.broker_lock.proofs.Knowing.{own-append}
 use Rattle.broker_lock.proofs.Orderly.{clients_of-push}
@@ -182,7 +182,7 @@ decide_push history client number (first ∷ loaded) word decide decides = (
 
 -- no wrong answer is told then
 told_of : (fixed : Fixed) (wrong : Bool) (base : Origin) (history : List Entry) (client number : ℕ) (command reply : List ℕ) → fixed.base ≡ Some base → IsTold fixed wrong history client number command reply
-    → Told history (limits_of fixed) client number command reply
+    → MayBeTold history (limits_of fixed) client number command reply
 told_of fixed wrong base history client number command reply is (inl told) = told
 told_of fixed wrong base history client number command reply is (inr answer) = absurd (some_none base (sym is ∙ answer.2))
   where

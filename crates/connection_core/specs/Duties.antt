@@ -6,20 +6,20 @@ use Rattle.broker_lock.specs.Known.{Origin}
 use Rattle.connection_core.specs.declared.duty.Duty.{Duty}
 use Rattle.connection_core.specs.declared.ends.Ending.{Ending}
 use Rattle.connection_core.specs.declared.worker.Worker.{Worker}
-use Rattle.connection_core.specs.Keeps.{Stands, Start}
+use Rattle.connection_core.specs.Keeps.{DutyStands, Start}
 use Rattle.connection_core.specs.Sides.{IsWorkers}
 use Rattle.connection_core.specs.Turns.{GoesOn}
 use Rattle.connection_core.specs.Works.{HasWorked, WorkCounts, ended_by}
 
 -- since the start it was done as it should be
-pub record Keeps {B K : Type 0} (legal : Origin → List Entry → Type 0) (written : K → Option (List ℕ)) (ended : K → Option Bool) (faults : K → ℕ) (start : Start) (duty : Duty B K) : Type 0 where
+pub record KeepsDuty {B K : Type 0} (legal : Origin → List Entry → Type 0) (written : K → Option (List ℕ)) (ended : K → Option Bool) (faults : K → ℕ) (start : Start) (duty : Duty B K) : Type 0 where
   pub side : IsWorkers start.between duty.worker.side
   pub goes_on : GoesOn legal start.pass duty.worker.pass
-  pub stands : Stands duty.stage start duty.worker.pass duty.worker.client duty.worker.done (view duty.worker.side.pass).taken duty.worker.side.seat.loaded (written duty.worker.sink) (ended duty.worker.sink) (faults duty.worker.sink)
+  pub stands : DutyStands duty.stage start duty.worker.pass duty.worker.client duty.worker.done (view duty.worker.side.pass).taken duty.worker.side.seat.loaded (written duty.worker.sink) (ended duty.worker.sink) (faults duty.worker.sink)
 
 -- since the start of its connection
 abbrev pub KeepsTo : {B K : Type 0} → (legal : Origin → List Entry → Type 0) → (written : K → Option (List ℕ)) → (ended : K → Option Bool) → (faults : K → ℕ) → Option Start → Duty B K → Type 0
-KeepsTo legal written ended faults begun duty = (start : Start) → begun ≡ Some start → Keeps legal written ended faults start duty
+KeepsTo legal written ended faults begun duty = (start : Start) → begun ≡ Some start → KeepsDuty legal written ended faults start duty
 
 -- all messages were taken, and its client is still open
 pub record Finishes {B K : Type 0} (legal : Origin → List Entry → Type 0) (written : K → Option (List ℕ)) (ended : K → Option Bool) (faults : K → ℕ) (ending : Ending) (start : Start) (worker : Worker B K) : Type 0 where

@@ -20,7 +20,7 @@ use Rattle.connection_core.specs.declared.worker.Worker.{Worker}
 use Rattle.connection_core.specs.Duties.{KeepsTo}
 use Rattle.connection_core.specs.Keeps.{IsBegun, Start}
 use Rattle.connection_core.specs.Leaves.{ReaderLeaves, WorkerLeaves}
-use Rattle.connection_core.specs.Links.{HasCause, IsClosed, IsRefused}
+use Rattle.connection_core.specs.Links.{HasEndingCause, IsClosedLink, IsOpeningRefused}
 use Rattle.connection_core.specs.Sides.{IsFreshReaders, IsReaders}
 use Rattle.connection_core.specs.Turns.{GoesOn}
 use Rattle.connection_core.specs.Works.{ended_by}
@@ -62,12 +62,12 @@ HasReadAll left failed between reader reader_new = ReaderLeaves between reader_n
     (left reader.source) (left reader_new.source) (failed reader.source) (failed reader_new.source)
 
 -- what the worker of a duty that is over leaves, once its client is closed
-pub record Closes {B K : Type 0} (legal : Origin → List Entry → Type 0) (written : K → Option (List ℕ)) (ended : K → Option Bool) (faults : K → ℕ) (ending : Ending) (start : Start) (worker : Worker B K) : Type 0 where
+pub record ClosesDuty {B K : Type 0} (legal : Origin → List Entry → Type 0) (written : K → Option (List ℕ)) (ended : K → Option Bool) (faults : K → ℕ) (ending : Ending) (start : Start) (worker : Worker B K) : Type 0 where
   pub leaves : WorkerLeaves legal start.between worker.side ending start.pass worker.pass worker.client worker.done start.written (written worker.sink) start.faults (faults worker.sink)
   pub sink_ended : ended worker.sink ≡ ended_by ending start.ended
 
 abbrev pub ClosesTo : {B K : Type 0} → (legal : Origin → List Entry → Type 0) → (written : K → Option (List ℕ)) → (ended : K → Option Bool) → (faults : K → ℕ) → Ending → Option Start → Worker B K → Type 0
-ClosesTo legal written ended faults ending begun worker = (start : Start) → begun ≡ Some start → Closes legal written ended faults ending start worker
+ClosesTo legal written ended faults ending begun worker = (start : Start) → begun ≡ Some start → ClosesDuty legal written ended faults ending start worker
 
 -- what both leave
 pub record BothLeave {B K S : Type 0} (legal : Origin → List Entry → Type 0)
@@ -82,9 +82,10 @@ pub record Served {B S K : Type 0} (legal : Origin → List Entry → Type 0) (l
   pub client : ℕ
   pub client_is : end.client ≡ Some client
   pub goes_on : GoesOn legal start.pass end.pass
-  pub closed : IsClosed legal end.ending end.pass client end.done (left source) (left end.source) start.written (written end.sink) (Some seat)
+  pub closed : IsClosedLink legal end.ending end.pass client end.done (left source) (left end.source) start.written (written end.sink) (Some seat)
   pub sink_ended : ended end.sink ≡ at_end start.ended
-  pub cause : HasCause end.ending (failed source) (failed end.source) start.faults (faults end.sink)
+  pub cause : HasEndingCause end.ending (failed source) (failed end.source) start.faults
+      (faults end.sink)
 
 abbrev pub ServedTo : {B S K : Type 0} → (legal : Origin → List Entry → Type 0) → (left : S → Option (List ℕ)) → (failed : S → ℕ) → (written : K → Option (List ℕ)) → (ended : K → Option Bool) → (faults : K → ℕ) → Option Start → S → LinkEnd B S K → WordView → Type 0
 ServedTo legal left failed written ended faults begun source end seat = (start : Start) → begun ≡ Some start → Served legal left failed written ended faults start source end seat
@@ -97,12 +98,13 @@ pub record LinkLeaves {B S K : Type 0} (legal : Origin → List Entry → Type 0
     (end : LinkEnd B S K) (word : Option WordView) : Type 0 where
   pub goes_on : GoesOn legal pass end.pass
   pub closed : IfSome end.client
-      (λ client. IsClosed legal end.ending end.pass client end.done (left source) (left end.source)
+      (λ client. IsClosedLink legal end.ending end.pass client end.done (left source)
+      (left end.source)
       (written sink) (written end.sink) word)
-  pub refused : end.client ≡ None → IsRefused end.ending end.pass end.done
+  pub refused : end.client ≡ None → IsOpeningRefused end.ending end.pass end.done
   pub no_word : end.client ≡ None → word ≡ None
   pub source_is : end.client ≡ None → end.source ≡ source
   pub written_is : end.client ≡ None → written end.sink ≡ written sink
   pub sink_ended : ended end.sink ≡ at_end (ended sink)
-  pub cause : HasCause end.ending (failed source) (failed end.source) (faults sink)
+  pub cause : HasEndingCause end.ending (failed source) (failed end.source) (faults sink)
       (faults end.sink)

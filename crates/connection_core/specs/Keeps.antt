@@ -31,8 +31,8 @@ pub record IsBegun (begun : Option Start) (lock : TableId) (between : Between) :
   pub lock_is : start.pass.lock ≡ lock
 
 -- these were dropped so far
-abbrev pub IsDropped : (taken taken_new : List Message) → Type 0
-IsDropped taken taken_new = (list : List (List ℕ)) × (taken_new ≡ taken ++ messages_of list)
+abbrev pub AreDropped : (taken taken_new : List Message) → Type 0
+AreDropped taken taken_new = (list : List (List ℕ)) × (taken_new ≡ taken ++ messages_of list)
 
 -- a reply was cut short, the sink was ended, and what was taken since was dropped
 pub record CutsThen (rest : List Message → List Message → Type 0) (start : Start) (pass : PassView) (client done : ℕ) (taken : List Message) (loaded : List ℕ) (written : Option (List ℕ)) (ended : Option Bool) (faults : ℕ) : Type 0 where
@@ -49,8 +49,8 @@ pub record GoesWell (rest : List Message) (start : Start) (pass : PassView) (cli
   pub same : faults ≡ start.faults
 
 -- by what became of the duty
-abbrev pub Stands : Stage → Start → PassView → (client done : ℕ) → (taken : List Message) → (loaded : List ℕ) → (written : Option (List ℕ)) → (ended : Option Bool) → (faults : ℕ) → Type 0
-Stands stages.Going = GoesWell []
-Stands (stages.Over ended) = GoesWell (messages.End ended ∷ [])
-Stands stages.Cut = CutsThen IsDropped
-Stands stages.CutOver = CutsThen IsDrained
+abbrev pub DutyStands : Stage → Start → PassView → (client done : ℕ) → (taken : List Message) → (loaded : List ℕ) → (written : Option (List ℕ)) → (ended : Option Bool) → (faults : ℕ) → Type 0
+DutyStands stages.Going = GoesWell []
+DutyStands (stages.Over ended) = GoesWell (messages.End ended ∷ [])
+DutyStands stages.Cut = CutsThen AreDropped
+DutyStands stages.CutOver = CutsThen IsDrained

@@ -14,7 +14,7 @@ use Rattle.connection_core.specs.declared.message.Message.{Message}
 use Rattle.connection_core.specs.declared.serve.Outfit.{Outfit}
 use Rattle.connection_core.specs.Rounds.{EndCounts, HasRead}
 use Rattle.connection_core.specs.Sides.{IsFreshReaders, IsFreshWorkers, IsReaders, IsWorkers}
-use Rattle.connection_core.specs.Turns.{Asks, GoesOn}
+use Rattle.connection_core.specs.Turns.{AsksInTurn, GoesOn}
 use Rattle.connection_core.specs.Works.{HasWorked, WorkCounts}
 
 -- nothing was pulled, sent or taken yet
@@ -38,7 +38,7 @@ pub record WorkerLeaves (legal : Origin → List Entry → Type 0) (between : Be
   pub of : IsWorkers between side
   pub goes_on : GoesOn legal old new
   pub worked : HasWorked ending last client done (view side.pass).taken side.seat.loaded written written_new
-  pub closes : Asks legal last (jobs.Close client) [] reply new
+  pub closes : AsksInTurn legal last (jobs.Close client) [] reply new
   pub counts : WorkCounts ending faults faults_new
 
 -- what was taken of the line is the front of what was sent, and each word that was loaded is 0 or was raised

@@ -43,8 +43,8 @@ with_taken v message = record v { taken = v.taken ++ message ∷ [] }
 -- ---- the rule
 
 -- one pass at most may send, and has sent this; one at most may take, and has taken that
-abbrev pub Fits : (sender taker : ℕ) (sent taken : List Message) → ℕ → LineView → Type 0
-Fits sender taker sent taken place v = (v.sends ≡ true → (place ≡ sender) × (v.sent ≡ sent)) × (v.takes ≡ true → (place ≡ taker) × (v.taken ≡ taken))
+abbrev pub FitsLine : (sender taker : ℕ) (sent taken : List Message) → ℕ → LineView → Type 0
+FitsLine sender taker sent taken place v = (v.sends ≡ true → (place ≡ sender) × (v.sent ≡ sent)) × (v.takes ≡ true → (place ≡ taker) × (v.taken ≡ taken))
 
 pub record IsInOrder (items : List Message) (views : List LineView) : Type 0 where
   pub sender : ℕ
@@ -53,15 +53,15 @@ pub record IsInOrder (items : List Message) (views : List LineView) : Type 0 whe
   pub taken : List Message
   pub whole : sent ≡ taken ++ items
   pub short : length sent ≤ largest_count
-  pub each : (place : ℕ) (v : LineView) → get_elem? views place ≡ some v → Fits sender taker sent taken place v
+  pub each : (place : ℕ) (v : LineView) → get_elem? views place ≡ some v → FitsLine sender taker sent taken place v
 
 -- what a pass that took this message is told: no more were taken than can be counted
 abbrev pub HasTaken : LineView → Message → LineView → Type 0
 HasTaken v message w = (w ≡ with_taken v message) × (length w.taken ≤ largest_count)
 
 -- what a pass learns that may do both
-abbrev pub IsWhole : LineView → List Message → Type 0
-IsWhole v items = v.sent ≡ v.taken ++ items
+abbrev pub IsWholeLine : LineView → List Message → Type 0
+IsWholeLine v items = v.sent ≡ v.taken ++ items
 
 -- ---- what is sent
 

@@ -9,16 +9,16 @@ use Rattle.history_spec.specs.declared.EntryKind.{EntryKind}
 use Rattle.history_spec.specs.declared.EntryKind.TheVariants.{Open, Command, Canceled, Fault, Close}
 use Rattle.history_spec.specs.Cancels.{IsCovered, cancels, cover}
 use Rattle.history_spec.specs.Entry.{Entry, HasRoom, HasRoomForClient, canceled_entry, clients_of, close_entry, kept, open_entry, own}
-use Rattle.history_spec.specs.Told.{Answers, Told, entry_of}
+use Rattle.history_spec.specs.Told.{Answers, MayBeTold, entry_of}
 use Rattle.link_port.specs.Port.{with_more}
-use Rattle.broker_lock.specs.Examples.{IsServed}
+use Rattle.broker_lock.specs.Examples.{HasCommandsUpTo}
 use Rattle.broker_lock.specs.Known.{Fixed, IsLegalOver, IsUntold, Origin, limits_of}
 use Rattle.broker_lock.specs.Pass.{PassView}
 use Rattle.broker_lock.specs.Serves.{IsAnswered, IsFailed}
 use Rattle.cancel_words.specs.View.{IsZeroOrRaised, WordView, of_both}
 use Rattle.connection_core.specs.declared.ends.Ending.{Ending}
 use Rattle.connection_core.specs.declared.ends.Ending.TheVariants as endings
-use Rattle.connection_core.specs.Rounds.{IsTaken}
+use Rattle.connection_core.specs.Rounds.{IsTakenFrom}
 
 -- ---- the entries of a client
 
@@ -35,7 +35,7 @@ pub record IsCanceledUpTo (client number upto : ℕ) (command : List ℕ) (e : E
   pub covers : number ≤ upto
 
 -- the entry of a client's command of this number, which was answered, failed or was canceled, where the journal had room for it
-pub record IsEntryOf (fixed : Fixed) (history : List Entry) (client number : ℕ) (command : List ℕ) (e : Entry) : Type 0 where
+pub record IsCommandEntry (fixed : Fixed) (history : List Entry) (client number : ℕ) (command : List ℕ) (e : Entry) : Type 0 where
   pub cause : IsAnswered client number command e ⊎ (IsFailed fixed.began client number command e ⊎ ((upto : ℕ) × IsCanceledUpTo client number upto command e))
   pub before : List Entry
   pub there : IsPrefix (before ++ e ∷ []) history
@@ -46,7 +46,7 @@ abbrev pub AreEntriesFrom : Fixed → List Entry → (client number : ℕ) → L
 AreEntriesFrom fixed history client number [] entries = entries ≡ []
 AreEntriesFrom fixed history client number (command ∷ commands) entries =
     AreEntriesFrom fixed history client (number + 1) commands entries
-    ⊎ ((e : Entry) × (more : List Entry) × (entries ≡ e ∷ more) × IsEntryOf fixed history client number command e
+    ⊎ ((e : Entry) × (more : List Entry) × (entries ≡ e ∷ more) × IsCommandEntry fixed history client number command e
     × AreEntriesFrom fixed history client (number + 1) commands more)
 
 -- ---- what a client is told
@@ -55,7 +55,7 @@ AreEntriesFrom fixed history client number (command ∷ commands) entries =
 -- came, as it may over a device that doesn't tell its state
 abbrev pub IsTold : Fixed → (wrong : Bool) → List Entry → (client number : ℕ) (command reply : List ℕ) → Type 0
 IsTold fixed wrong history client number command reply =
-    Told history (limits_of fixed) client number command reply
+    MayBeTold history (limits_of fixed) client number command reply
     ⊎ ((entry_of history client number ≡ None) × (reply ≡ error_reply RC_DEVICE_ANSWER) × IsUntold fixed × (wrong ≡ true))
 
 -- one such reply for each command, numbered from this number on, one after another
@@ -151,11 +151,11 @@ EndsAs (endings.JournalFull count limit) fixed wrong history client done given t
 EndsAs endings.Answer fixed wrong history client done given taken output = ⊥
 
 -- what came of an open client's connection: these entries, by the history at the end
-pub record Ran (ending : Ending) (fixed : Fixed) (wrong : Bool) (history : List Entry) (client done : ℕ) (entries : List Entry)
+pub record RanLink (ending : Ending) (fixed : Fixed) (wrong : Bool) (history : List Entry) (client done : ℕ) (entries : List Entry)
     (given left written written_new : Option (List ℕ)) (seat : WordView) : Type 0 where
   pub taken : List ℕ
   pub output : List ℕ
-  pub took : IsTaken given left taken
+  pub took : IsTakenFrom given left taken
   pub within : done ≤ length (commands taken)
   pub entries_are : AreEntriesFrom fixed history client 1 (take done (commands taken)) entries
   pub written_is : written_new ≡ with_more written output
@@ -168,17 +168,17 @@ pub record KnowsClient (pass : PassView) (client done : ℕ) (entries : List Ent
   pub known : pass.known ≡ open_entry client ∷ entries
   pub opened : IsOpenedIn pass.fixed.limit pass.front client
   pub own_is : own pass.front client ≡ pass.known
-  pub present : IsServed pass.known client done
+  pub present : HasCommandsUpTo pass.known client done
 
 -- an open client's connection came to its end
 pub record IsStopped (ending : Ending) (pass : PassView) (client done : ℕ) (given left written written_new : Option (List ℕ)) (seat : WordView) : Type 0 where
   pub entries : List Entry
   pub serves : KnowsClient pass client done entries
-  pub ran : Ran ending pass.fixed pass.wrong pass.front client done entries given left written written_new seat
+  pub ran : RanLink ending pass.fixed pass.wrong pass.front client done entries given left written written_new seat
 
 -- a client was opened, its connection came to its end, and it was closed. The pass knows its entries alone, and the history
 -- has just these of it. The seat of the cancel word is there
-pub record IsClosed (legal : Origin → List Entry → Type 0) (ending : Ending) (pass : PassView) (client done : ℕ) (given left written written_new : Option (List ℕ)) (word : Option WordView) : Type 0 where
+pub record IsClosedLink (legal : Origin → List Entry → Type 0) (ending : Ending) (pass : PassView) (client done : ℕ) (given left written written_new : Option (List ℕ)) (word : Option WordView) : Type 0 where
   pub entries : List Entry
   pub seat : WordView
   pub known : pass.known ≡ (open_entry client ∷ entries) ++ close_entry client ∷ []
@@ -186,7 +186,7 @@ pub record IsClosed (legal : Origin → List Entry → Type 0) (ending : Ending)
   pub own_is : own pass.front client ≡ pass.known
   pub is_legal : IsLegalOver legal pass.fixed.base pass.front
   pub word_is : word ≡ Some seat
-  pub ran : Ran ending pass.fixed pass.wrong pass.front client done entries given left written written_new seat
+  pub ran : RanLink ending pass.fixed pass.wrong pass.front client done entries given left written written_new seat
 
 -- ---- a connection without a client
 
@@ -202,7 +202,7 @@ Refuses (endings.JournalFull count limit) pass =
 Refuses endings.Answer pass = IsUntold pass.fixed × (pass.wrong ≡ true)
 
 -- nothing was run, and the pass knows nobody
-pub record IsRefused (ending : Ending) (pass : PassView) (done : ℕ) : Type 0 where
+pub record IsOpeningRefused (ending : Ending) (pass : PassView) (done : ℕ) : Type 0 where
   pub done_is : done ≡ 0
   pub nobody : pass.known ≡ []
   pub refuses : Refuses ending pass
@@ -215,11 +215,11 @@ StaysOrRose faults faults_new = (faults_new ≡ faults) ⊎ Rose faults faults_n
 
 -- a fault is told where that end's count rose. Where the sink's did, the source was read to its end, and its count may have risen,
 -- too. The other counts stay
-abbrev pub HasCause : Ending → (source_faults source_faults_new sink_faults sink_faults_new : ℕ) → Type 0
-HasCause endings.EndOfInput source_faults source_faults_new sink_faults sink_faults_new = (source_faults_new ≡ source_faults) × (sink_faults_new ≡ sink_faults)
-HasCause (endings.BadFrame size) source_faults source_faults_new sink_faults sink_faults_new = (source_faults_new ≡ source_faults) × (sink_faults_new ≡ sink_faults)
-HasCause endings.ReadFault source_faults source_faults_new sink_faults sink_faults_new = Rose source_faults source_faults_new × (sink_faults_new ≡ sink_faults)
-HasCause endings.WriteFault source_faults source_faults_new sink_faults sink_faults_new = StaysOrRose source_faults source_faults_new × Rose sink_faults sink_faults_new
-HasCause endings.Memory source_faults source_faults_new sink_faults sink_faults_new = (source_faults_new ≡ source_faults) × (sink_faults_new ≡ sink_faults)
-HasCause (endings.JournalFull count limit) source_faults source_faults_new sink_faults sink_faults_new = (source_faults_new ≡ source_faults) × (sink_faults_new ≡ sink_faults)
-HasCause endings.Answer source_faults source_faults_new sink_faults sink_faults_new = (source_faults_new ≡ source_faults) × (sink_faults_new ≡ sink_faults)
+abbrev pub HasEndingCause : Ending → (source_faults source_faults_new sink_faults sink_faults_new : ℕ) → Type 0
+HasEndingCause endings.EndOfInput source_faults source_faults_new sink_faults sink_faults_new = (source_faults_new ≡ source_faults) × (sink_faults_new ≡ sink_faults)
+HasEndingCause (endings.BadFrame size) source_faults source_faults_new sink_faults sink_faults_new = (source_faults_new ≡ source_faults) × (sink_faults_new ≡ sink_faults)
+HasEndingCause endings.ReadFault source_faults source_faults_new sink_faults sink_faults_new = Rose source_faults source_faults_new × (sink_faults_new ≡ sink_faults)
+HasEndingCause endings.WriteFault source_faults source_faults_new sink_faults sink_faults_new = StaysOrRose source_faults source_faults_new × Rose sink_faults sink_faults_new
+HasEndingCause endings.Memory source_faults source_faults_new sink_faults sink_faults_new = (source_faults_new ≡ source_faults) × (sink_faults_new ≡ sink_faults)
+HasEndingCause (endings.JournalFull count limit) source_faults source_faults_new sink_faults sink_faults_new = (source_faults_new ≡ source_faults) × (sink_faults_new ≡ sink_faults)
+HasEndingCause endings.Answer source_faults source_faults_new sink_faults sink_faults_new = (source_faults_new ≡ source_faults) × (sink_faults_new ≡ sink_faults)

@@ -13,8 +13,8 @@ use Rattle.connection_core.specs.declared.intake.Round.TheVariants as rounds
 use Rattle.connection_core.specs.Line.{messages_of}
 
 -- what is gone from a source that tells what it has left
-abbrev pub IsTaken : (given left : Option (List ℕ)) (taken : List ℕ) → Type 0
-IsTaken given left taken = (all : List ℕ) → given ≡ Some all → (rest : List ℕ) × (left ≡ Some rest) × (all ≡ taken ++ rest)
+abbrev pub IsTakenFrom : (given left : Option (List ℕ)) (taken : List ℕ) → Type 0
+IsTakenFrom given left taken = (all : List ℕ) → given ≡ Some all → (rest : List ℕ) × (left ≡ Some rest) × (all ≡ taken ++ rest)
 
 -- ---- one round
 
@@ -26,7 +26,7 @@ pub record HasNoFrame (kept : List ℕ) : Type 0 where
 -- a pull gave these bytes, some at least
 pub record IsPulled (left left_new : Option (List ℕ)) (kept kept_new : List ℕ) : Type 0 where
   pub piece : List ℕ
-  pub took : IsTaken left left_new piece
+  pub took : IsTakenFrom left left_new piece
   pub kept_is : kept_new ≡ kept ++ piece
 
 -- no byte is left
@@ -71,7 +71,7 @@ ReadsTo ends.Fault given taken = meets_bad_size taken ≡ false
 -- the commands of what was taken were sent, and at each cancel the word was raised to how many came before it
 pub record HasSent (ended : Ended) (given left : Option (List ℕ)) (sent : List Message) (raised : List ℕ) : Type 0 where
   pub taken : List ℕ
-  pub took : IsTaken given left taken
+  pub took : IsTakenFrom given left taken
   pub sent_is : sent ≡ messages_of (commands taken)
   pub raised_is : raised ≡ cancels taken
   pub ends : ReadsTo ended given taken

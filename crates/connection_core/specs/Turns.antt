@@ -13,8 +13,8 @@ use Rattle.broker_lock.specs.Pass.{Acts, PassView}
 use Rattle.cancel_words.specs.View.{WordView, with_loaded}
 
 -- this was asked in one turn, and answered
-abbrev pub Asks : (legal : Origin → List Entry → Type 0) → PassView → Job → (bytes reply : List ℕ) → PassView → Type 0
-Asks legal old job bytes reply new = (done : Done) × Acts legal old job bytes done reply new
+abbrev pub AsksInTurn : (legal : Origin → List Entry → Type 0) → PassView → Job → (bytes reply : List ℕ) → PassView → Type 0
+AsksInTurn legal old job bytes reply new = (done : Done) × Acts legal old job bytes done reply new
 
 -- what is asked of a client's command: that it is run, or where this word covers its number, that it is canceled
 abbrev pub job_of : (client number word : ℕ) → Job
@@ -29,7 +29,7 @@ pub record IsNextJob (client number word : ℕ) (seat seat_new : WordView) (job 
 pub record AsksNext (legal : Origin → List Entry → Type 0) (old : PassView) (client number : ℕ) (seat seat_new : WordView) (bytes reply : List ℕ) (new : PassView) : Type 0 where
   pub word : ℕ
   pub seat_is : seat_new ≡ with_loaded seat word
-  pub asks : Asks legal old (job_of client number word) bytes reply new
+  pub asks : AsksInTurn legal old (job_of client number word) bytes reply new
 
 -- a pass after some turns, or none: the history that it has seen goes on, and is legal where it was. A wrong answer that it knows of
 -- is still known

@@ -2,7 +2,7 @@
 use Rattle.std.specs.Prelude.{◌≡◌, ℕ, ◌+◌, List}
 use Rattle.atomic_table.specs.Seated.{TableId}
 use Rattle.history_spec.specs.Entry.{Entry}
-use Rattle.broker_lock.specs.Examples.{IsServed}
+use Rattle.broker_lock.specs.Examples.{HasCommandsUpTo}
 use Rattle.broker_lock.specs.Known.{Origin}
 use Rattle.connection_core.specs.declared.between.Between.{Between}
 use Rattle.connection_core.specs.declared.worker.Worker.{Worker}
@@ -10,9 +10,9 @@ use Rattle.connection_core.specs.Sides.{IsWorkers}
 use Rattle.connection_core.specs.Turns.{AsksNext}
 
 -- its client is open, under this lock
-pub record IsOpen {B K : Type 0} (lock : TableId) (worker : Worker B K) : Type 0 where
+pub record IsOpenWorker {B K : Type 0} (lock : TableId) (worker : Worker B K) : Type 0 where
   pub lock_is : worker.pass.lock ≡ lock
-  pub present : IsServed worker.pass.known worker.client worker.done
+  pub present : HasCommandsUpTo worker.pass.known worker.client worker.done
 
 -- a word was loaded, and the client's next command was asked in one turn
 pub record TookUp {B K : Type 0} (legal : Origin → List Entry → Type 0) (between : Between)

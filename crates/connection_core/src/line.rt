@@ -4,7 +4,7 @@ ghost use Rattle.std.specs.Prelude.{◌≡◌, ◌<◌, List, ◌++◌, [], true
 ghost use Rattle.tab_spec.specs.Count.{largest_count};
 ghost use Rattle.crossbeam_channel.specs.Claims.{view, IsSeatAt};
 ghost use Rattle.crossbeam_channel.specs.Ends.{sends_on, receives_on, ruled_capacity};
-ghost use Rattle.connection_core.specs.Line.{HasTaken, IsWhole, both_of, sending, taking};
+ghost use Rattle.connection_core.specs.Line.{HasTaken, IsWholeLine, both_of, sending, taking};
 ghost use Rattle.connection_core.specs.Line.{with_sent};
 ghost use Rattle.connection_core.specs.declared.message.Message.{Message};
 
@@ -101,9 +101,9 @@ impl Lesson<Message, LineHistory> for Takes {
 struct Total;
 
 impl Lesson<Message, LineHistory> for Total {
-    ghost use Rattle.connection_core.specs.Line.{IsWhole};
+    ghost use Rattle.connection_core.specs.Line.{IsWholeLine};
 
-    ghost fact = { IsWhole };
+    ghost fact = { IsWholeLine };
 }
 
 /// What a thread knows of a line.

@@ -7,7 +7,7 @@ ghost use Rattle.connection_core.specs.Hands.{BothLeave, ClosesTo, IsHandOf, Lin
 ghost use Rattle.connection_core.specs.Hands.{ServedTo};
 ghost use Rattle.connection_core.specs.Keeps.{IsBegun, start_of};
 ghost use Rattle.connection_core.specs.Leaves.{IsFresh};
-ghost use Rattle.connection_core.specs.Links.{HasCause, IsRefused, KnowsClient};
+ghost use Rattle.connection_core.specs.Links.{HasEndingCause, IsOpeningRefused, KnowsClient};
 ghost use Rattle.connection_core.specs.Turns.{GoesOn};
 ghost use Rattle.link_port.specs.Port.{at_end};
 
@@ -85,7 +85,7 @@ fn open_client<B: Serves, R: Wait>(
     requires lock { pass.old.lock ≡ shared.now }
     requires nobody { pass.old.known ≡ [] }
     ensures ok { IfOk result (λ client. KnowsClient pass.new client 0 []) }
-    ensures err { IfErr result (λ ending. IsRefused ending pass.new 0) }
+    ensures err { IfErr result (λ ending. IsOpeningRefused ending pass.new 0) }
     ensures memory { result ≡ Err endings.Memory
         → HasRoomForClient pass.new.fixed.limit pass.new.front }
     ensures goes_on { GoesOn B.legal pass.old pass.new }
@@ -236,15 +236,15 @@ fn refuse<B: Serves, S: Source, K: Sink>(
     sink: K,
     ending: Ending,
 ) -> (LinkEnd<B, S, K>, Option<WordSeat>)
-    requires refused { IsRefused ending pass 0 }
+    requires refused { IsOpeningRefused ending pass 0 }
     ensures client { result.0.client ≡ None }
     ensures no_word { result.1 ≡ None }
     ensures pass { result.0.pass ≡ pass }
-    ensures refused { IsRefused result.0.ending result.0.pass result.0.done }
+    ensures refused { IsOpeningRefused result.0.ending result.0.pass result.0.done }
     ensures source { result.0.source ≡ source }
     ensures sink { K.written result.0.sink ≡ K.written sink }
     ensures ended { K.ended result.0.sink ≡ at_end (K.ended sink) }
-    ensures cause { HasCause result.0.ending (S.faults source) (S.faults result.0.source)
+    ensures cause { HasEndingCause result.0.ending (S.faults source) (S.faults result.0.source)
         (K.faults sink) (K.faults result.0.sink) }
 {
     let mut sink = sink;

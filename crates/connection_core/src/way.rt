@@ -46,17 +46,18 @@ pub(crate) struct Kept<J> {
 
 impl<B: Recorded, K: Sink + Drop, J: Begins> Protocol<Handed<B, K>, ()> for Kept<J> {
     ghost use Rattle.std.specs.Prelude.{All};
-    ghost use Rattle.connection_core.specs.Handing.{IsKept};
+    ghost use Rattle.connection_core.specs.Handing.{KeepsHanded};
 
-    ghost holds = { λ items views. All (IsKept B.legal K.written K.ended K.faults J.begun) items };
+    ghost holds = { λ items views. All (KeepsHanded B.legal K.written K.ended K.faults J.begun)
+        items };
 
     ghost first = { tt };
 }
 
 impl<B: Recorded, K: Sink + Drop, J: Begins> Outcome<Handed<B, K>, ()> for Kept<J> {
-    ghost use Rattle.connection_core.specs.Handing.{IsKept};
+    ghost use Rattle.connection_core.specs.Handing.{KeepsHanded};
 
-    ghost then = { λ v x w. IsKept B.legal K.written K.ended K.faults J.begun x };
+    ghost then = { λ v x w. KeepsHanded B.legal K.written K.ended K.faults J.begun x };
 }
 
 impl<B: Recorded, K: Sink + Drop, J: Begins> Lesson<Handed<B, K>, ()> for Kept<J> {
@@ -86,7 +87,7 @@ pub(crate) struct Way<B: Recorded, K: Sink + Drop, J: Begins> {
 }
 
 impl<B: Recorded, K: Sink + Drop, J: Begins> Way<B, K, J> {
-    ghost use Rattle.connection_core.specs.Handing.{IsKept};
+    ghost use Rattle.connection_core.specs.Handing.{KeepsHanded};
 
     // A way with nothing on it, with a pass for each hand. It fails only for want of memory, and
     // takes none later.
@@ -102,7 +103,7 @@ impl<B: Recorded, K: Sink + Drop, J: Begins> Way<B, K, J> {
     // Puts this on the way. There is room.
     pub fn give<R: Wait>(&self, rt: &R, pass: &mut WayPass<B, K>, handed: Handed<B, K>)
         requires way { IsSeatAt (sends_on self.now.sender) pass.old }
-        requires kept { IsKept B.legal K.written K.ended K.faults J.begun handed }
+        requires kept { KeepsHanded B.legal K.written K.ended K.faults J.begun handed }
         ensures { IsSeatAt (sends_on self.now.sender) pass.new }
     {
         let mut handed = handed;
@@ -119,7 +120,7 @@ impl<B: Recorded, K: Sink + Drop, J: Begins> Way<B, K, J> {
     pub fn take<R: Wait>(&self, rt: &R, pass: &mut WayPass<B, K>) -> Handed<B, K>
         requires { IsSeatAt (sends_on self.now.sender) pass.old }
         ensures way { IsSeatAt (sends_on self.now.sender) pass.new }
-        ensures kept { IsKept B.legal K.written K.ended K.faults J.begun result }
+        ensures kept { KeepsHanded B.legal K.written K.ended K.faults J.begun result }
     {
         for _ in rt.forever() {
             if let Ok(handed) = self.receiver.recv_as::<Kept<J>, R>(rt, pass) {
@@ -134,7 +135,7 @@ impl<B: Recorded, K: Sink + Drop, J: Begins> Way<B, K, J> {
         requires { IsSeatAt (sends_on self.now.sender) pass.old }
         ensures way { IsSeatAt (sends_on self.now.sender) pass.new }
         ensures kept { IfSome result
-            (λ handed. IsKept B.legal K.written K.ended K.faults J.begun handed) }
+            (λ handed. KeepsHanded B.legal K.written K.ended K.faults J.begun handed) }
     {
         self.receiver.try_recv_as::<Kept<J>, R>(rt, pass).ok()
     }

@@ -6,8 +6,8 @@ ghost use Rattle.tab_spec.specs.declared.TheConstants.{RC_COMMAND_SIZE};
 ghost use Rattle.broker_lock.specs.declared.calls.Job.TheVariants as jobs;
 ghost use Rattle.cancel_words.specs.View.{of_worker};
 ghost use Rattle.connection_core.specs.Sides.{IsWorkers};
-ghost use Rattle.connection_core.specs.Turns.{Asks, IsNextJob, IsPushed};
-ghost use Rattle.connection_core.specs.Workers.{IsOpen, TookUp};
+ghost use Rattle.connection_core.specs.Turns.{AsksInTurn, IsNextJob, IsPushed};
+ghost use Rattle.connection_core.specs.Workers.{IsOpenWorker, TookUp};
 
 use crate::between::{Between, Side};
 use broker_lock::{Closed, Done, Job, Pass, Serves, Shared, Told};
@@ -42,7 +42,7 @@ impl<B: Serves, K: Sink> Worker<B, K> {
         command: Buffer,
         reply: &mut Buffer,
     ) -> Result<(), Failed>
-        requires opened { IsOpen shared.now self.old }
+        requires opened { IsOpenWorker shared.now self.old }
         requires more { self.old.done < largest_count }
         requires side { IsWorkers between.now self.old.side }
         ensures took { TookUp B.legal between.now self.old self.new command reply.new }
@@ -79,12 +79,12 @@ impl<B: Serves, K: Sink> Worker<B, K> {
         gate: &G,
         reply: &mut Buffer,
     )
-        requires opened { IsOpen shared.now self.old }
+        requires opened { IsOpenWorker shared.now self.old }
         ensures client { self.new.client ≡ self.old.client }
         ensures done { self.new.done ≡ self.old.done }
         ensures sink { self.new.sink ≡ self.old.sink }
         ensures side { self.new.side ≡ self.old.side }
-        ensures acts { Asks B.legal self.old.pass (jobs.Close self.old.client)
+        ensures acts { AsksInTurn B.legal self.old.pass (jobs.Close self.old.client)
             [] reply.new self.new.pass }
     {
         let job = Job::Close {

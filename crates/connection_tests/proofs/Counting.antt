@@ -12,7 +12,7 @@ use Rattle.tab_spec.specs.declared.contexts.TheConstants.{PROFILE_CONTEXTS}
 use Rattle.history_spec.specs.declared.EntryKind.TheVariants.{Open, Command, Canceled, Close}
 use Rattle.history_spec.specs.Entry.{Clients, Entry, HasRoomForClient, canceled_entry, clients_of, command_entry, kept_by, reserved, without, IsOpen}
 use Rattle.history_spec.specs.declared.Pick.TheVariants.{Nothing}
-use Rattle.broker_lock.specs.Serves.{IsCanceled, IsEntered}
+use Rattle.broker_lock.specs.Serves.{IsEntered, IsEnteredCanceled}
 use Rattle.connection_tests.specs.Book.{BookView, IsCounted, answer, asked, book_entry}
 use Rattle.broker_lock.proofs.Orderly.{clients_of-push}
 
@@ -125,9 +125,9 @@ entered_as f view bad old between new x opened present bytes limit client number
 pub canceled_as : {X : Type 0} (f : X → Entry) (view : BookView) (bad : Bool) (old between new : List X) (x : X) (opened present bytes limit client number upto place : ℕ) (command reply : List ℕ)
     → new ≡ between ++ x ∷ [] → between ≡ old → record { entries = map f old; limit = limit; wrong = bad } ≡ view → f x ≡ book_entry client number (Canceled upto) (Some place) → command ≡ asked → reply ≡ error_reply RC_CANCELED
     → IsCounted (map f old) opened present bytes limit → bytes + 64 * present + 4172 ≤ limit
-    → IsCanceled view.limit view.entries (map f new) client number upto command reply
+    → IsEnteredCanceled view.limit view.entries (map f new) client number upto command reply
 canceled_as f view bad old between new x opened present bytes limit client number upto place command reply pushed same is entry command_is reply_is counted room =
-    subst (λ (v : BookView). IsCanceled v.limit v.entries (map f new) client number upto command reply) is (record {
+    subst (λ (v : BookView). IsEnteredCanceled v.limit v.entries (map f new) client number upto command reply) is (record {
       entered = ap (map f) (pushed ∙ ap (λ l. l ++ x ∷ []) same) ∙ map_push f old x ∙ ap (λ (e : Entry). map f old ++ e ∷ []) entry
           ∙ (λ i. map f old ++ canceled_entry client number upto (sym command_is i) (sym reply_is i) ∷ []);
       reply_is = reply_is;

@@ -11,9 +11,9 @@ ghost use Rattle.broker_lock.specs.Known.{Origin};
 ghost use Rattle.connection_core.specs.declared.ends.Ending.TheVariants as endings;
 ghost use Rattle.connection_tests.specs.Book.{answer, asked, book_entry, canceled_client};
 ghost use Rattle.connection_tests.specs.Book.{one_client, with_limit};
-ghost use Rattle.connection_core.specs.Links.{AreEntriesFrom, DecideFrom, Decides, HasCause};
+ghost use Rattle.connection_core.specs.Links.{AreEntriesFrom, DecideFrom, Decides, HasEndingCause};
 ghost use Rattle.connection_core.specs.Links.{IsCanceledUpTo, IsTold};
-ghost use Rattle.connection_core.specs.Rounds.{IsAtEnd, IsTaken};
+ghost use Rattle.connection_core.specs.Rounds.{IsAtEnd, IsTakenFrom};
 
 // Client 0 has an entry of its first command and none of its second. Before its close 224 bytes are
 // kept or reserved for it, so the second command lacks room below a limit of 4,396 bytes.
@@ -78,22 +78,22 @@ fn a_seat_has_a_word_for_each_command()
 {}
 
 fn a_fault_is_counted()
-    ensures read { HasCause endings.ReadFault 3 4 0 0 }
-    ensures at_its_end { HasCause endings.ReadFault largest_count largest_count 0 0 }
-    ensures not_read { HasCause endings.ReadFault 3 3 0 1 → ⊥ }
-    ensures written { HasCause endings.WriteFault 3 3 0 1 }
-    ensures read_on { HasCause endings.WriteFault 3 4 0 1 }
-    ensures not_written { HasCause endings.WriteFault 3 4 0 0 → ⊥ }
-    ensures read_back { HasCause endings.WriteFault 4 3 0 1 → ⊥ }
-    ensures ended { HasCause endings.EndOfInput 3 3 0 0 }
-    ensures not_ended { HasCause endings.EndOfInput 3 4 0 0 → ⊥ }
-    ensures not_bad { HasCause (endings.BadFrame 9) 3 3 0 1 → ⊥ }
+    ensures read { HasEndingCause endings.ReadFault 3 4 0 0 }
+    ensures at_its_end { HasEndingCause endings.ReadFault largest_count largest_count 0 0 }
+    ensures not_read { HasEndingCause endings.ReadFault 3 3 0 1 → ⊥ }
+    ensures written { HasEndingCause endings.WriteFault 3 3 0 1 }
+    ensures read_on { HasEndingCause endings.WriteFault 3 4 0 1 }
+    ensures not_written { HasEndingCause endings.WriteFault 3 4 0 0 → ⊥ }
+    ensures read_back { HasEndingCause endings.WriteFault 4 3 0 1 → ⊥ }
+    ensures ended { HasEndingCause endings.EndOfInput 3 3 0 0 }
+    ensures not_ended { HasEndingCause endings.EndOfInput 3 4 0 0 → ⊥ }
+    ensures not_bad { HasEndingCause (endings.BadFrame 9) 3 3 0 1 → ⊥ }
 {}
 
 fn bytes_are_taken_in_order()
-    ensures one { IsTaken (Some (7 ∷ 8 ∷ [])) (Some (8 ∷ [])) (7 ∷ []) }
-    ensures another { IsTaken (Some (7 ∷ 8 ∷ [])) (Some (8 ∷ [])) (8 ∷ []) → ⊥ }
-    ensures none { IsTaken (Some (7 ∷ 8 ∷ [])) (Some (8 ∷ [])) [] → ⊥ }
+    ensures one { IsTakenFrom (Some (7 ∷ 8 ∷ [])) (Some (8 ∷ [])) (7 ∷ []) }
+    ensures another { IsTakenFrom (Some (7 ∷ 8 ∷ [])) (Some (8 ∷ [])) (8 ∷ []) → ⊥ }
+    ensures none { IsTakenFrom (Some (7 ∷ 8 ∷ [])) (Some (8 ∷ [])) [] → ⊥ }
     ensures at_end { IsAtEnd (Some []) (Some []) }
     ensures not_at_end { IsAtEnd (Some (7 ∷ [])) (Some (7 ∷ [])) → ⊥ }
 {}

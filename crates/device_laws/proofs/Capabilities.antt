@@ -9,7 +9,7 @@ use Rattle.tab_spec.specs.declared.TheConstants.{PCRS, RH_OWNER, RH_NULL, RS_PW,
 use Rattle.tab_spec.specs.NvIndex.{NvIndex}
 use Rattle.tab_spec.specs.Persist.{Persist}
 use Rattle.tab_spec.specs.Shape.{octet_of, number_of_session}
-use Rattle.effect_spec.specs.Capabilities.{Asked, Limits, Listed, asked_of, capability_of, command_attributes, command_items, from_number, handle_items, handles_listed, joined_items, listed, listed_sessions, most_items, pcr_list, property_items, property_pairs, upwards}
+use Rattle.effect_spec.specs.Capabilities.{Asked, CapabilityLimits, Listed, asked_of, capability_of, command_attributes, command_items, from_number, handle_items, handles_listed, joined_items, listed, listed_sessions, most_items, pcr_list, property_items, property_pairs, upwards}
 use Rattle.device_laws.proofs.NvRows.{Short, Any, gives_any, read_gives}
 
 -- no item has more than eight bytes
@@ -94,7 +94,7 @@ pcrs_short = omega arith
 
 -- ---- the whole
 
-pub short_capability : (limits : Limits) (rows : List CommandRow) (persist : Persist) (objects : List ℕ) (sessions : List Listed) (active : ℕ) (params : List ℕ)
+pub short_capability : (limits : CapabilityLimits) (rows : List CommandRow) (persist : Persist) (objects : List ℕ) (sessions : List Listed) (active : ℕ) (params : List ℕ)
     → Short (capability_of limits rows persist objects sessions active params)
 short_capability limits rows persist objects sessions active params =
     read_gives Short Any (asked_of params) _ (gives_any (asked_of params)) (λ code. tt) (λ asked any.

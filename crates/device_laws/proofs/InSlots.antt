@@ -15,7 +15,7 @@ use Rattle.tab_spec.specs.Shape.{is_present, makes_object_by, octet_of}
 use Rattle.tab_spec.specs.declared.contexts.TheConstants.{PROFILE_CONTEXTS}
 use Rattle.effect_spec.specs.Operands.{absent, an_object, plain, object_operand, plain_operand, plain_operands, command_auth, session_operand, operand_by, operands_by}
 use Rattle.device_spec.specs.Slots.{SlotState, in_slot, is_free, loaded_session, slot_operands, slot_tables}
-use Rattle.tab_laws.specs.OtherHandles.{ArePasswords, AreThere, handled}
+use Rattle.tab_laws.specs.OtherHandles.{ArePasswords, HandlesAreThere, handled}
 use Rattle.tab_laws.proofs.Passwords.{none_missing, none_repeated}
 use Rattle.device_laws.specs.OtherHandles.{is_plain_handle, object_operands}
 use Rattle.device_laws.proofs.ContextSteps.{object_there, room_by}
@@ -109,7 +109,7 @@ both_there first second one two first_is second_is = rw (first_is, second_is) re
 
 there_by : (slots : SlotState) (bytes : List ℕ) (a : Admitted) (first second : ℕ) → is_missing (slot_tables slots) first ≡ false
     → is_missing (slot_tables slots) second ≡ false → ArePasswords (take a.auths.count a.auths.auths)
-    → object_too_many (slot_tables slots) a.shape bytes ≡ None → AreThere (slot_tables slots) bytes a first second
+    → object_too_many (slot_tables slots) a.shape bytes ≡ None → HandlesAreThere (slot_tables slots) bytes a first second
 there_by slots bytes a first second first_there second_there passwords room = record {
   handles = both_there (is_missing (slot_tables slots) first) (is_missing (slot_tables slots) second) (RC_REFERENCE_H0 + 0) (RC_REFERENCE_H0 + 1) first_there second_there;
   sessions = none_missing (slot_tables slots) 0 (take a.auths.count a.auths.auths) passwords;
@@ -119,12 +119,12 @@ there_by slots bytes a first second first_there second_there passwords room = re
 
 pub object_and_plain_there : (slots : SlotState) (bytes : List ℕ) (a : Admitted) (first second : ℕ) (o : Object) → (octet_of first == HT_TRANSIENT) ≡ true
     → in_slot slots first ≡ Some o → is_plain_handle second ≡ true → ArePasswords (take a.auths.count a.auths.auths)
-    → object_too_many (slot_tables slots) a.shape bytes ≡ None → AreThere (slot_tables slots) bytes a first second
+    → object_too_many (slot_tables slots) a.shape bytes ≡ None → HandlesAreThere (slot_tables slots) bytes a first second
 object_and_plain_there slots bytes a first second o transient is plain_second passwords room =
     there_by slots bytes a first second (object_is_there slots first o transient is) (plain_there slots second plain_second) passwords room
 
 pub both_plain_there : (slots : SlotState) (bytes : List ℕ) (a : Admitted) (first second : ℕ) → is_plain_handle first ≡ true → is_plain_handle second ≡ true
-    → ArePasswords (take a.auths.count a.auths.auths) → object_too_many (slot_tables slots) a.shape bytes ≡ None → AreThere (slot_tables slots) bytes a first second
+    → ArePasswords (take a.auths.count a.auths.auths) → object_too_many (slot_tables slots) a.shape bytes ≡ None → HandlesAreThere (slot_tables slots) bytes a first second
 both_plain_there slots bytes a first second plain_first plain_second passwords room =
     there_by slots bytes a first second (plain_there slots first plain_first) (plain_there slots second plain_second) passwords room
 

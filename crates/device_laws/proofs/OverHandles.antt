@@ -21,7 +21,7 @@ use Rattle.effect_spec.specs.Sessions.{start_check, start_session_row}
 use Rattle.effect_spec.specs.SessionAuths.{ResponseAuth, operand_name}
 use Rattle.effect_spec.specs.Effect.{Effect, RowOutcome, authorization_fault, changing_policy, effect_authorized, effect_in, effect_of, effect_row, item_row, making_nothing, making_object, making_session, outcome_of, policy_row, response_auth_of, row_by, row_with}
 use Rattle.device_spec.specs.Slots.{SlotState, SessionPlace, Step, effect_by, in_slot, loaded_session, made_by, room_for, session_too_many, sessions_left, slot_admitted, slot_effect, slot_operands, slot_step, slot_tables, unless_full, loaded_under}
-use Rattle.tab_laws.specs.OtherHandles.{admitted_handled, AreHandlesOf, ArePasswords, AreThere, handled}
+use Rattle.tab_laws.specs.OtherHandles.{admitted_handled, AreHandlesOf, ArePasswords, HandlesAreThere, handled}
 use Rattle.tab_laws.proofs.Behind.{AuthsBehind, auths_of_behind}
 use Rattle.tab_laws.proofs.Handled.{handled_admitted, handled_is, passed}
 use Rattle.device_laws.specs.Effects.{is_of_effects}
@@ -57,7 +57,7 @@ admitted_again tables row bytes found known e = ap (λ (known : Result CommandRo
 
 -- the whole step over other handles
 pub over_step : (slots : SlotState) (tables : Tables) (bytes : List ℕ) (a : Admitted) (first second : ℕ) → slots.started ≡ true
-    → admitted row_of tables bytes ≡ Ok a → AreHandlesOf a.shape first second → AreThere (slot_tables slots) bytes a first second
+    → admitted row_of tables bytes ≡ Ok a → AreHandlesOf a.shape first second → HandlesAreThere (slot_tables slots) bytes a first second
     → is_of_effects a.shape.row.code ≡ true
     → slot_step slots (with_handles bytes a.shape (first ∷ second ∷ [])) ≡ effect_by slots (effect_over slots bytes a first second)
 over_step slots tables bytes a first second started e are there only =
@@ -175,7 +175,7 @@ effect_leaves slots effect none =
     made_leaves slots effect effect.outcome.created (sessions_left slots.sessions effect.operands effect.outcome.auth_ended) refl none
 
 pub over_leaves : (slots : SlotState) (tables : Tables) (bytes : List ℕ) (a : Admitted) (first second : ℕ) → slots.started ≡ true
-    → admitted row_of tables bytes ≡ Ok a → AreHandlesOf a.shape first second → AreThere (slot_tables slots) bytes a first second
+    → admitted row_of tables bytes ≡ Ok a → AreHandlesOf a.shape first second → HandlesAreThere (slot_tables slots) bytes a first second
     → is_of_effects a.shape.row.code ≡ true
     → LeavesSlots slots (effect_over slots bytes a first second) (slot_step slots (with_handles bytes a.shape (first ∷ second ∷ [])))
 over_leaves slots tables bytes a first second started e are there only =
@@ -291,7 +291,7 @@ over_no_session objects sessions shape auths other =
     } in operands) (no_named sessions (command_auth auths).session other)
 
 pub over_sessions : (slots : SlotState) (tables : Tables) (bytes : List ℕ) (a : Admitted) (first second : ℕ) → slots.started ≡ true
-    → admitted row_of tables bytes ≡ Ok a → AreHandlesOf a.shape first second → AreThere (slot_tables slots) bytes a first second
+    → admitted row_of tables bytes ≡ Ok a → AreHandlesOf a.shape first second → HandlesAreThere (slot_tables slots) bytes a first second
     → is_of_effects a.shape.row.code ≡ true → ArePasswords (take a.auths.count a.auths.auths)
     → is_session_handle first ≡ false → is_session_handle second ≡ false
     → (slot_step slots (with_handles bytes a.shape (first ∷ second ∷ []))).0.sessions ≡ slots.sessions

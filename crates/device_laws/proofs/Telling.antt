@@ -15,7 +15,7 @@ use Rattle.device_spec.specs.declared.TheConstants.{PT_ACTIVE_SESSIONS_MAX, PT_C
 use Rattle.device_spec.specs.Answers.{is_success_form, is_word, takes, tells_property, value_told, word_at}
 use Rattle.device_spec.specs.Numbers.{number_command}
 use Rattle.device_spec.specs.Slots.{SlotState, Step, active_count, capability_told, get_capability, listed_from, slot_step, step_by}
-use Rattle.device_laws.specs.Remains.{IsTold}
+use Rattle.device_laws.specs.Remains.{IsPropertyTold}
 use Rattle.device_laws.proofs.ContextSteps.{row_known, step_goes}
 use Rattle.device_laws.proofs.Frames.{response_is_frame}
 use Rattle.device_laws.proofs.HandleLists.{lists_form}
@@ -83,7 +83,8 @@ first_listed property value rest =
     ap (λ (count : ℕ). more_than_one items ∷ to_be_bytes w32 6 ++ to_be_bytes w32 count ++ item_of property value) (min-eq_left {n = 1} {m = length items} (omega arith))
 
 told_by : (slots : SlotState) (property value : ℕ) (rest : List (List ℕ)) → slots.started ≡ true → property < 2 ^ 32 → value < 2 ^ 32
-    → items_from slots property ≡ item_of property value ∷ rest → IsTold slots property value
+    → items_from slots property ≡ item_of property value ∷ rest
+    → IsPropertyTold slots property value
 told_by slots property value rest started fits small items =
     let more : ℕ = more_than_one (item_of property value ∷ rest) in
     let steps : slot_step slots (number_command property) ≡ (slots, told_response more property value) =
@@ -98,21 +99,21 @@ told_by slots property value rest started fits small items =
 
 -- ---- the four numbers
 
-pub slots_told : (slots : SlotState) → slots.started ≡ true → slots.numbers.slots < 2 ^ 32 → IsTold slots PT_HR_TRANSIENT_MIN slots.numbers.slots
+pub slots_told : (slots : SlotState) → slots.started ≡ true → slots.numbers.slots < 2 ^ 32 → IsPropertyTold slots PT_HR_TRANSIENT_MIN slots.numbers.slots
 unfolding property_items
 slots_told slots started fits =
     told_by slots PT_HR_TRANSIENT_MIN slots.numbers.slots (items_from slots PT_HR_LOADED_MIN) started (omega arith) fits refl
 
-pub loaded_told : (slots : SlotState) → slots.started ≡ true → slots.numbers.loaded < 2 ^ 32 → IsTold slots PT_HR_LOADED_MIN slots.numbers.loaded
+pub loaded_told : (slots : SlotState) → slots.started ≡ true → slots.numbers.loaded < 2 ^ 32 → IsPropertyTold slots PT_HR_LOADED_MIN slots.numbers.loaded
 unfolding property_items
 loaded_told slots started fits =
     told_by slots PT_HR_LOADED_MIN slots.numbers.loaded (items_from slots PT_ACTIVE_SESSIONS_MAX) started (omega arith) fits refl
 
-pub active_told : (slots : SlotState) → slots.started ≡ true → slots.numbers.active < 2 ^ 32 → IsTold slots PT_ACTIVE_SESSIONS_MAX slots.numbers.active
+pub active_told : (slots : SlotState) → slots.started ≡ true → slots.numbers.active < 2 ^ 32 → IsPropertyTold slots PT_ACTIVE_SESSIONS_MAX slots.numbers.active
 unfolding property_items
 active_told slots started fits =
     told_by slots PT_ACTIVE_SESSIONS_MAX slots.numbers.active (items_from slots 0x112) started (omega arith) fits refl
 
-pub gap_told : (slots : SlotState) → slots.started ≡ true → slots.numbers.gap < 2 ^ 32 → IsTold slots PT_CONTEXT_GAP_MAX slots.numbers.gap
+pub gap_told : (slots : SlotState) → slots.started ≡ true → slots.numbers.gap < 2 ^ 32 → IsPropertyTold slots PT_CONTEXT_GAP_MAX slots.numbers.gap
 unfolding property_items
 gap_told slots started fits = told_by slots PT_CONTEXT_GAP_MAX slots.numbers.gap (items_from slots 0x11e) started (omega arith) fits refl

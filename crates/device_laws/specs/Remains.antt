@@ -14,7 +14,7 @@ pub record IsListed (slots : SlotState) (property : ℕ) (handles : List ℕ) : 
   pub handles_are : listed_handles (slot_step slots (handles_command property)).1 ≡ handles
 
 -- the device tells this value of the property, a broker takes the response, and nothing changes
-pub record IsTold (slots : SlotState) (property value : ℕ) : Type 0 where
+pub record IsPropertyTold (slots : SlotState) (property value : ℕ) : Type 0 where
   pub same : (slot_step slots (number_command property)).0 ≡ slots
   pub taken : takes PROFILE_CONTEXTS true true (number_command property) (slot_step slots (number_command property)).1 ≡ true
   pub value_is : value_told (slot_step slots (number_command property)).1 ≡ value

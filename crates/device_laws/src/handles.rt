@@ -15,7 +15,7 @@ ghost use Rattle.effect_spec.specs.Operands.{Operands, plain_operands, command_a
 ghost use Rattle.effect_spec.specs.Effect.{effect_of};
 ghost use Rattle.device_spec.specs.Slots.{SlotState, effect_by, in_slot, is_free, slot_operands};
 ghost use Rattle.device_spec.specs.Slots.{slot_step, slot_tables};
-ghost use Rattle.tab_laws.specs.OtherHandles.{AreHandlesOf, ArePasswords, AreThere, handled};
+ghost use Rattle.tab_laws.specs.OtherHandles.{AreHandlesOf, ArePasswords, HandlesAreThere, handled};
 ghost use Rattle.device_laws.specs.Effects.{is_of_effects};
 ghost use Rattle.device_laws.specs.OtherHandles.{LeavesSlots, effect_over, is_plain_handle};
 ghost use Rattle.device_laws.specs.OtherHandles.{object_operands};
@@ -37,19 +37,22 @@ pub fn effects_ignore_handles()
 pub fn commands_run_over_other_handles()
     ensures run { (slots : SlotState) (tables : Tables) (bytes : List ℕ) (a : Admitted)
         (first second : ℕ) → slots.started ≡ true → admitted row_of tables bytes ≡ Ok a
-        → AreHandlesOf a.shape first second → AreThere (slot_tables slots) bytes a first second
+        → AreHandlesOf a.shape first second
+        → HandlesAreThere (slot_tables slots) bytes a first second
         → is_of_effects a.shape.row.code ≡ true
         → slot_step slots (with_handles bytes a.shape (first ∷ second ∷ []))
         ≡ effect_by slots (effect_over slots bytes a first second) }
     ensures kept { (slots : SlotState) (tables : Tables) (bytes : List ℕ) (a : Admitted)
         (first second : ℕ) → slots.started ≡ true → admitted row_of tables bytes ≡ Ok a
-        → AreHandlesOf a.shape first second → AreThere (slot_tables slots) bytes a first second
+        → AreHandlesOf a.shape first second
+        → HandlesAreThere (slot_tables slots) bytes a first second
         → is_of_effects a.shape.row.code ≡ true
         → LeavesSlots slots (effect_over slots bytes a first second)
         (slot_step slots (with_handles bytes a.shape (first ∷ second ∷ []))) }
     ensures sessions { (slots : SlotState) (tables : Tables) (bytes : List ℕ) (a : Admitted)
         (first second : ℕ) → slots.started ≡ true → admitted row_of tables bytes ≡ Ok a
-        → AreHandlesOf a.shape first second → AreThere (slot_tables slots) bytes a first second
+        → AreHandlesOf a.shape first second
+        → HandlesAreThere (slot_tables slots) bytes a first second
         → is_of_effects a.shape.row.code ≡ true
         → ArePasswords (take a.auths.count a.auths.auths) → is_session_handle first ≡ false
         → is_session_handle second ≡ false
@@ -82,12 +85,12 @@ pub fn slots_have_what_is_named()
         (o : Object) → (octet_of first == HT_TRANSIENT) ≡ true → in_slot slots first ≡ Some o
         → is_plain_handle second ≡ true → ArePasswords (take a.auths.count a.auths.auths)
         → object_too_many (slot_tables slots) a.shape bytes ≡ None
-        → AreThere (slot_tables slots) bytes a first second }
+        → HandlesAreThere (slot_tables slots) bytes a first second }
     ensures plain { (slots : SlotState) (bytes : List ℕ) (a : Admitted) (first second : ℕ)
         → is_plain_handle first ≡ true → is_plain_handle second ≡ true
         → ArePasswords (take a.auths.count a.auths.auths)
         → object_too_many (slot_tables slots) a.shape bytes ≡ None
-        → AreThere (slot_tables slots) bytes a first second }
+        → HandlesAreThere (slot_tables slots) bytes a first second }
     ensures room { (slots : SlotState) (shape : Shape) (bytes : List ℕ)
         → list_any is_free slots.slots ≡ true
         → object_too_many (slot_tables slots) shape bytes ≡ None }

@@ -5,7 +5,7 @@ ghost use Rattle.device_spec.specs.declared.TheConstants.{PT_HR_TRANSIENT_MIN};
 ghost use Rattle.device_spec.specs.Numbers.{FitWords};
 ghost use Rattle.device_spec.specs.Remains.{object_handles, remains, session_handles};
 ghost use Rattle.device_spec.specs.Slots.{SlotState, IsSlots, held};
-ghost use Rattle.device_laws.specs.Remains.{IsFlushed, IsListed, IsTold};
+ghost use Rattle.device_laws.specs.Remains.{IsFlushed, IsListed, IsPropertyTold};
 
 /// A started device lists the handles of its objects, of its loaded sessions and of its saved ones,
 /// each list whole, and is as it was (Part 3, "TPM2_GetCapability").
@@ -22,13 +22,13 @@ pub fn remains_are_listed()
 /// "TPM2_GetCapability").
 pub fn numbers_are_told()
     ensures slots { (slots : SlotState) → slots.started ≡ true → FitWords slots.numbers
-        → IsTold slots PT_HR_TRANSIENT_MIN slots.numbers.slots }
+        → IsPropertyTold slots PT_HR_TRANSIENT_MIN slots.numbers.slots }
     ensures loaded { (slots : SlotState) → slots.started ≡ true → FitWords slots.numbers
-        → IsTold slots PT_HR_LOADED_MIN slots.numbers.loaded }
+        → IsPropertyTold slots PT_HR_LOADED_MIN slots.numbers.loaded }
     ensures active { (slots : SlotState) → slots.started ≡ true → FitWords slots.numbers
-        → IsTold slots PT_ACTIVE_SESSIONS_MAX slots.numbers.active }
+        → IsPropertyTold slots PT_ACTIVE_SESSIONS_MAX slots.numbers.active }
     ensures gap { (slots : SlotState) → slots.started ≡ true → FitWords slots.numbers
-        → IsTold slots PT_CONTEXT_GAP_MAX slots.numbers.gap }
+        → IsPropertyTold slots PT_CONTEXT_GAP_MAX slots.numbers.gap }
 {}
 
 /// A started device flushes the first thing that it lists, and keeps the others (Part 3,

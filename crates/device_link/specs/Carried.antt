@@ -3,7 +3,7 @@ use Rattle.std.specs.Prelude.{◌≡◌, ◌<◌, ℕ, List, [], ◌∷◌, ◌+
 use Rattle.std.specs.List.{AllByRecursion}
 use Rattle.link_port.specs.Port.{with_more}
 use Rattle.device_port.specs.Device.{Transmission}
-use Rattle.device_link.specs.Link.{Ends, FailsBy, with_front}
+use Rattle.device_link.specs.Link.{DeviceEnds, FailsBy, with_front}
 use Rattle.device_link.specs.declared.fault.LinkFault.{LinkFault}
 use Rattle.device_link.specs.declared.fault.LinkFault.TheVariants as causes
 
@@ -28,7 +28,8 @@ failed command = record { command = command; response = None }
 
 -- each command was answered: just the commands were written, just the responses were read, and
 -- neither end failed
-pub record CarriedAll (began : Ends) (trace : List Transmission) (now : Ends) : Type 0 where
+pub record CarriedAll (began : DeviceEnds) (trace : List Transmission) (now : DeviceEnds)
+    : Type 0 where
   pub answered : AllByRecursion (λ sent. IsSome sent.response) trace
   pub written : now.written ≡ with_more began.written (commands_of trace)
   pub read : began.left ≡ with_front (responses_of trace) now.left
@@ -37,20 +38,20 @@ pub record CarriedAll (began : Ends) (trace : List Transmission) (now : Ends) : 
 
 -- the commands before this one were answered, this one failed for this reason, and nothing went
 -- over the link for the later ones
-pub record CarriedUntil (fault : LinkFault) (began : Ends) (trace : List Transmission)
-    (now : Ends) : Type 0 where
+pub record CarriedUntil (fault : LinkFault) (began : DeviceEnds) (trace : List Transmission)
+    (now : DeviceEnds) : Type 0 where
   pub before : List Transmission
   pub command : List ℕ
   pub later : List (List ℕ)
   pub trace_is : trace ≡ map failed later ++ failed command ∷ before
   -- what the ends told before it
-  pub ends : Ends
+  pub ends : DeviceEnds
   pub carried : CarriedAll began before ends
   pub fails : FailsBy fault ends command now
 
 -- by why the link failed first, if it did. A fault is counted where it did, and only there
-abbrev pub HasCarried : LinkFault → (began : Ends) → (faults : ℕ) → List Transmission
-    → (now : Ends) → Type 0
+abbrev pub HasCarried : LinkFault → (began : DeviceEnds) → (faults : ℕ) → List Transmission
+    → (now : DeviceEnds) → Type 0
 HasCarried causes.Absent began faults trace now = (faults ≡ 0) × CarriedAll began trace now
 HasCarried causes.Source began faults trace now =
     (0 < faults) × CarriedUntil causes.Source began trace now

@@ -34,20 +34,20 @@ has_failed causes.End = true
 has_failed (causes.Size size) = true
 
 -- both ends and the cause are as they were
-pub record Rests {S K : Type 0} (old new : DeviceAtLink S K) : Type 0 where
+pub record EndsRest {S K : Type 0} (old new : DeviceAtLink S K) : Type 0 where
   pub source : new.source ≡ old.source
   pub sink : new.sink ≡ old.sink
   pub fault : new.fault ≡ old.fault
 
 -- what the two ends tell: the bytes that are still to come, the bytes that were written, and how often each end has
 -- failed
-pub record Ends : Type 0 where
+pub record DeviceEnds : Type 0 where
   pub left : Option (List ℕ)
   pub source_faults : ℕ
   pub written : Option (List ℕ)
   pub sink_faults : ℕ
 
-abbrev pub ends_of : {S K : Type 0} → (S → Option (List ℕ)) → (S → ℕ) → (K → Option (List ℕ)) → (K → ℕ) → S → K → Ends
+abbrev pub ends_of : {S K : Type 0} → (S → Option (List ℕ)) → (S → ℕ) → (K → Option (List ℕ)) → (K → ℕ) → S → K → DeviceEnds
 ends_of left source_faults written sink_faults source sink = record {
   left = left source;
   source_faults = source_faults source;
@@ -58,12 +58,12 @@ ends_of left source_faults written sink_faults source sink = record {
 -- ---- the command
 
 -- the whole command was written, and no write failed
-pub record Sends (old : Ends) (command : List ℕ) (new : Ends) : Type 0 where
+pub record Sends (old : DeviceEnds) (command : List ℕ) (new : DeviceEnds) : Type 0 where
   pub written : new.written ≡ with_more old.written command
   pub quiet : new.sink_faults ≡ old.sink_faults
 
 -- a write failed, and only so many of the command's first bytes were written
-pub record SendsPart (old : Ends) (command : List ℕ) (new : Ends) : Type 0 where
+pub record SendsPart (old : DeviceEnds) (command : List ℕ) (new : DeviceEnds) : Type 0 where
   pub count : ℕ
   pub part : count < length command
   pub written : new.written ≡ with_more old.written (take count command)
@@ -77,8 +77,8 @@ with_front front None = None
 with_front front (Some rest) = Some (front ++ rest)
 
 -- no byte is still to come, if the source tells it
-abbrev pub IsEnd : Option (List ℕ) → Type 0
-IsEnd left = IfSome left (λ bytes. bytes ≡ [])
+abbrev pub IsEndOfSource : Option (List ℕ) → Type 0
+IsEndOfSource left = IfSome left (λ bytes. bytes ≡ [])
 
 -- a part of a response, which lacks one byte at least: its size field isn't whole, or its size may be that of a frame
 abbrev pub is_part : List ℕ → Bool
@@ -91,17 +91,17 @@ pub record IsBadStart (size : ℕ) (bytes : List ℕ) : Type 0 where
   pub bad : is_size size ≡ false
 
 -- these bytes were read, and no others
-abbrev pub Reads : Ends → List ℕ → Ends → Type 0
+abbrev pub Reads : DeviceEnds → List ℕ → DeviceEnds → Type 0
 Reads old bytes new = old.left ≡ with_front bytes new.left
 
 -- only a part of a response was read
-pub record ReadsPart (old new : Ends) : Type 0 where
+pub record ReadsPart (old new : DeviceEnds) : Type 0 where
   pub bytes : List ℕ
   pub read : Reads old bytes new
   pub part : is_part bytes ≡ true
 
 -- only a response up to a bad size was read, and no read failed
-pub record ReadsBadStart (old : Ends) (size : ℕ) (new : Ends) : Type 0 where
+pub record ReadsBadStart (old : DeviceEnds) (size : ℕ) (new : DeviceEnds) : Type 0 where
   pub bytes : List ℕ
   pub read : Reads old bytes new
   pub start : IsBadStart size bytes
@@ -110,7 +110,8 @@ pub record ReadsBadStart (old : Ends) (size : ℕ) (new : Ends) : Type 0 where
 -- ---- both
 
 -- the whole command was written, and the response was read, which is one whole frame
-pub record Exchanges (old : Ends) (command response : List ℕ) (new : Ends) : Type 0 where
+pub record Exchanges (old : DeviceEnds) (command response : List ℕ) (new : DeviceEnds)
+    : Type 0 where
   pub sent : Sends old command new
   pub read : Reads old response new
   pub frame : is_frame response ≡ true
@@ -118,17 +119,17 @@ pub record Exchanges (old : Ends) (command response : List ℕ) (new : Ends) : T
 
 -- what the first transmission that failed did, by its cause. Where a write failed, nothing is read: a clause beside
 -- this one says that of the source itself
-abbrev pub FailsBy : LinkFault → Ends → List ℕ → Ends → Type 0
+abbrev pub FailsBy : LinkFault → DeviceEnds → List ℕ → DeviceEnds → Type 0
 FailsBy causes.Absent old command new = ⊥
 FailsBy causes.Sink old command new = SendsPart old command new
 FailsBy causes.Source old command new = Sends old command new × ReadsPart old new × Rose old.source_faults new.source_faults
-FailsBy causes.End old command new = Sends old command new × ReadsPart old new × IsEnd new.left × (new.source_faults ≡ old.source_faults)
+FailsBy causes.End old command new = Sends old command new × ReadsPart old new × IsEndOfSource new.left × (new.source_faults ≡ old.source_faults)
 FailsBy (causes.Size size) old command new = Sends old command new × ReadsBadStart old size new
 
 -- what one transmission does to a device whose ends tell this, and whose sink tells whether it was ended
-pub record Carries {S K E : Type 0} (ends : S → K → Ends) (ended : K → Option Bool) (old : DeviceAtLink S K) (command : List ℕ) (result : Result (Unit {0}) E) (reply : List ℕ) (new : DeviceAtLink S K) : Type 0 where
+pub record TransmitsAtLink {S K E : Type 0} (ends : S → K → DeviceEnds) (ended : K → Option Bool) (old : DeviceAtLink S K) (command : List ℕ) (result : Result (Unit {0}) E) (reply : List ℕ) (new : DeviceAtLink S K) : Type 0 where
   pub fails : IsErr result ↔ IsTrue (has_failed new.fault)
-  pub rests : IsTrue (has_failed old.fault) → Rests old new
+  pub rests : IsTrue (has_failed old.fault) → EndsRest old new
   pub ok : OnOk result (Exchanges (ends old.source old.sink) command reply (ends new.source new.sink))
   pub err : OnErr result (old.fault ≡ causes.Absent → FailsBy new.fault (ends old.source old.sink) command (ends new.source new.sink))
   pub unread : new.fault ≡ causes.Sink → new.source ≡ old.source

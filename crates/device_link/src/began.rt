@@ -5,9 +5,9 @@ use std::marker::Brand;
 /// `Brand` picks it. Where nothing is picked, nothing is known of the link's start.
 pub trait Began {
     ghost use Rattle.std.specs.Prelude.{Option};
-    ghost use Rattle.device_link.specs.Link.{Ends};
+    ghost use Rattle.device_link.specs.Link.{DeviceEnds};
 
-    ghost began: { Option Ends };
+    ghost began: { Option DeviceEnds };
 }
 
 impl Began for Brand {

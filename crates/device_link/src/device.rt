@@ -3,7 +3,7 @@ ghost use Rattle.tab_spec.specs.Frame.{is_frame};
 ghost use Rattle.tab_spec.specs.declared.contexts.TheConstants.{PROFILE_CONTEXTS};
 ghost use Rattle.device_port.specs.Device.{Transmits};
 ghost use Rattle.device_link.specs.Carried.{HasCarried};
-ghost use Rattle.device_link.specs.Link.{Carries, ends_of, new_device, told_by};
+ghost use Rattle.device_link.specs.Link.{TransmitsAtLink, ends_of, new_device, told_by};
 
 use crate::receive::exchange;
 use crate::{Began, LinkFault};
@@ -124,7 +124,7 @@ impl<S: Source, K: Sink, J: Began> Device for LinkDevice<S, K, J> {
     // The trait's clause, and what goes over the two ends.
     fn transmit(&mut self, command: &[u8], reply: &mut Buffer) -> Result<(), DeviceFailed>
         requires { IsTrue (is_frame command.now) }
-        ensures carries { Carries (ends_of S.left S.faults K.written K.faults) K.ended
+        ensures carries { TransmitsAtLink (ends_of S.left S.faults K.written K.faults) K.ended
             self.old command.now result reply.new self.new }
         ensures transmits { Transmits (told_by self.old) command.now result reply.new
             (told_by self.new) }

@@ -3,7 +3,7 @@ ghost use Rattle.tab_spec.specs.declared.contexts.TheConstants.{TPM_CONTEXTS};
 ghost use Rattle.tab_spec.specs.Frame.{is_frame};
 ghost use Rattle.device_port.specs.Device.{Transmits};
 ghost use Rattle.device_link.specs.Carried.{HasCarried};
-ghost use Rattle.device_link.specs.Link.{Carries, ends_of, told_by};
+ghost use Rattle.device_link.specs.Link.{TransmitsAtLink, ends_of, told_by};
 ghost use Rattle.device_link.specs.Watched.{answer_of};
 
 use crate::{Answered, Began, WatchedLink, Watcher};
@@ -73,7 +73,7 @@ impl<S: Source, K: Sink, W: Watcher, J: Began> Device for TpmLink<S, K, W, J> {
     // What the link within does.
     fn transmit(&mut self, command: &[u8], reply: &mut Buffer) -> Result<(), DeviceFailed>
         requires { IsTrue (is_frame command.now) }
-        ensures carries { Carries (ends_of S.left S.faults K.written K.faults) K.ended
+        ensures carries { TransmitsAtLink (ends_of S.left S.faults K.written K.faults) K.ended
             self.old.device command.now result reply.new self.new.device }
         ensures answered { OnOk result
             (self.new.newest ≡ Some (answer_of command.now reply.new)) }

@@ -3,7 +3,7 @@ ghost use Rattle.tab_spec.specs.Frame.{is_frame};
 ghost use Rattle.tab_spec.specs.declared.contexts.TheConstants.{PROFILE_CONTEXTS};
 ghost use Rattle.device_port.specs.Device.{Transmits};
 ghost use Rattle.device_link.specs.Carried.{HasCarried};
-ghost use Rattle.device_link.specs.Link.{Carries, ends_of, has_failed, told_by};
+ghost use Rattle.device_link.specs.Link.{TransmitsAtLink, ends_of, has_failed, told_by};
 ghost use Rattle.device_link.specs.Watched.{answer_of, new_watched};
 
 use crate::{Answered, Began, LinkDevice, LinkFault};
@@ -98,7 +98,7 @@ impl<S: Source, K: Sink, W: Watcher, J: Began> Device for WatchedLink<S, K, W, J
     // The trait's clause, that of the device within, and what is kept of the answer.
     fn transmit(&mut self, command: &[u8], reply: &mut Buffer) -> Result<(), DeviceFailed>
         requires { IsTrue (is_frame command.now) }
-        ensures carries { Carries (ends_of S.left S.faults K.written K.faults) K.ended
+        ensures carries { TransmitsAtLink (ends_of S.left S.faults K.written K.faults) K.ended
             self.old.device command.now result reply.new self.new.device }
         ensures answered { OnOk result
             (self.new.newest ≡ Some (answer_of command.now reply.new)) }

@@ -10,7 +10,7 @@ use Rattle.tab_spec.specs.declared.contexts.TheConstants.{PROFILE_CONTEXTS}
 use Rattle.device_spec.specs.Answers.{IsWrongAnswer, answer_area, fits_handle, has_response_handle, is_context, is_whole, is_word, word_at, is_error_form, is_own, is_success_form, lists_asked, may_refuse, takes, wrong}
 use Rattle.device_spec.specs.Slots.{SlotState, slot_step}
 use Rattle.device_port.specs.Device.{Answered, Transmission, newest_response}
-use Rattle.device_port.specs.Own.{IsAnswered, IsOwn, Succeeds}
+use Rattle.device_port.specs.Own.{IsOwn, IsOwnAnswered, Succeeds}
 
 -- ---- whether a response is taken
 
@@ -85,9 +85,9 @@ wrong_answer contexts command asked last reply code asked_is last_is not_taken c
 }
 
 pub answered : (contexts : ContextLimits) (command asked : List ℕ) (last : Option (List ℕ)) (reply : List ℕ) → IsOwn contexts command → asked ≡ command
-    → last ≡ Some reply → takes contexts true true command reply ≡ true → IsAnswered contexts asked last
+    → last ≡ Some reply → takes contexts true true command reply ≡ true → IsOwnAnswered contexts asked last
 answered contexts command asked last reply own asked_is last_is taken =
-    subst (λ (o : Option (List ℕ)). IsAnswered contexts asked o) (sym last_is) (
+    subst (λ (o : Option (List ℕ)). IsOwnAnswered contexts asked o) (sym last_is) (
       ap (is_own contexts true) asked_is ∙ own.own,
       ap (λ (asked : List ℕ). takes contexts true true asked reply) asked_is ∙ taken,
     )

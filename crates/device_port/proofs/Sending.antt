@@ -5,7 +5,7 @@ use Rattle.std.specs.List.{AllByRecursion}
 use Rattle.std.proofs.lemmas.List.{append_assoc}
 use Rattle.tab_spec.specs.declared.contexts.ContextLimits.{ContextLimits}
 use Rattle.device_port.specs.Device.{Seen, Transmission, asked_of, last_of}
-use Rattle.device_port.specs.Own.{Asks, AsksSome, EndAtNewest, HasCause, IsAnswered, IsOwn, SendsOwn, WasTaken}
+use Rattle.device_port.specs.Own.{Asks, AsksSome, EndAtNewest, HasCause, IsOwn, IsOwnAnswered, SendsOwn, WasTaken}
 use Rattle.device_port.specs.declared.own.SwapError.{SwapError}
 use Rattle.device_port.specs.declared.own.SwapError.TheVariants as errors
 
@@ -43,9 +43,9 @@ unfoldable pub sends_one : {D A : Type 0} (contexts : ContextLimits) (seen : D �
 sends_one contexts seen old new command result asks =
     record { sent = record { command = command; response = last_of (seen new) } ∷ []; trace_is = asks.one; own = (asks.own, tt) }
 
-pub one_taken : (contexts : ContextLimits) (command asked : List ℕ) (last : Option (List ℕ)) → asked ≡ command → IsAnswered contexts asked last
+pub one_taken : (contexts : ContextLimits) (command asked : List ℕ) (last : Option (List ℕ)) → asked ≡ command → IsOwnAnswered contexts asked last
     → AllByRecursion (WasTaken contexts) (record { command = command; response = last } ∷ [])
-one_taken contexts command asked last is answered = (subst (λ (bytes : List ℕ). IsAnswered contexts bytes last) is answered, tt)
+one_taken contexts command asked last is answered = (subst (λ (bytes : List ℕ). IsOwnAnswered contexts bytes last) is answered, tt)
 
 pub asks_some : {D A : Type 0} (contexts : ContextLimits) (seen : D → Seen) (old new : D) (command : List ℕ) (result : Result A SwapError)
     → Asks contexts seen old new command result → AsksSome contexts seen old new result
@@ -87,7 +87,7 @@ pub asks_then : {D A B : Type 0} (contexts : ContextLimits) (seen : D → Seen) 
 unfolding sends_then
 asks_then contexts seen old mid new x (Ok y) first second = record {
   own = sends_then contexts seen old mid new first.own second.own;
-  answered = answered_then (λ device. IsAnswered contexts (asked_of (seen device)) (last_of (seen device))) old mid new first.answered second.answered;
+  answered = answered_then (λ device. IsOwnAnswered contexts (asked_of (seen device)) (last_of (seen device))) old mid new first.answered second.answered;
   all = all_taken contexts second.own.sent first.own.sent second.all first.all;
   before = tt;
   cause = tt;

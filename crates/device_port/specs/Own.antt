@@ -18,8 +18,8 @@ pub record IsOwn (contexts : ContextLimits) (asked : List ℕ) : Type 0 where
   pub starts_none : (code_of asked == CC_START_AUTH_SESSION) ≡ false
 
 -- the last command was the broker's own, it was answered, and the response is taken
-abbrev pub IsAnswered : ContextLimits → List ℕ → Option (List ℕ) → Type 0
-IsAnswered contexts asked last =
+abbrev pub IsOwnAnswered : ContextLimits → List ℕ → Option (List ℕ) → Type 0
+IsOwnAnswered contexts asked last =
     (is_own contexts true asked ≡ true) × IsSomeAnd last (λ response. takes contexts true true asked response ≡ true)
 
 -- a response with which the command succeeded
@@ -42,7 +42,7 @@ pub record SendsOwn {D : Type 0} (contexts : ContextLimits) (seen : D → Seen) 
 
 -- a command of the broker's own that was answered, and the response was taken
 abbrev pub WasTaken : ContextLimits → Transmission → Type 0
-WasTaken contexts one = IsAnswered contexts one.command one.response
+WasTaken contexts one = IsOwnAnswered contexts one.command one.response
 
 -- each of these was but the newest, at which the call ended
 abbrev pub EndAtNewest : ContextLimits → List Transmission → Type 0
@@ -56,7 +56,7 @@ pub record Asks {D A : Type 0} (contexts : ContextLimits) (seen : D → Seen) (o
   pub once : sent_of (seen new) ≡ one_more (sent_of (seen old))
   pub one : (seen new).trace ≡ record { command = command; response = last_of (seen new) } ∷ (seen old).trace
   pub own : IsOwn contexts command
-  pub answered : OnOk result (IsAnswered contexts (asked_of (seen new)) (last_of (seen new)))
+  pub answered : OnOk result (IsOwnAnswered contexts (asked_of (seen new)) (last_of (seen new)))
   pub err : OnErr result ((seen new).state ≡ (seen old).state)
   pub cause : IfErr result (λ e. HasCause contexts seen e old new)
   pub base : (seen new).base ≡ (seen old).base
@@ -65,7 +65,7 @@ pub record Asks {D A : Type 0} (contexts : ContextLimits) (seen : D → Seen) (o
 -- what holds after a call that sends one, several or none of them: after a success the last one was answered
 pub record AsksSome {D A : Type 0} (contexts : ContextLimits) (seen : D → Seen) (old new : D) (result : Result A SwapError) : Type 0 where
   pub own : SendsOwn contexts seen old new
-  pub answered : OnOk result ((new ≡ old) ⊎ IsAnswered contexts (asked_of (seen new)) (last_of (seen new)))
+  pub answered : OnOk result ((new ≡ old) ⊎ IsOwnAnswered contexts (asked_of (seen new)) (last_of (seen new)))
   -- and each before it: the first that isn't ends the call, and isn't tried again
   pub all : OnOk result (AllByRecursion (WasTaken contexts) own.sent)
   pub before : OnErr result (EndAtNewest contexts own.sent)

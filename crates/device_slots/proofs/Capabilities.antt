@@ -6,7 +6,8 @@ use Rattle.tab_spec.specs.Commands.{all_commands}
 use Rattle.tab_spec.specs.Object.{Object}
 use Rattle.tab_spec.specs.Reply.{response}
 use Rattle.tab_spec.specs.declared.TheConstants.{SESSION_NUMBERS, RC_SUCCESS, ST_NO_SESSIONS, TRANSIENT_FIRST}
-use Rattle.effect_spec.specs.Capabilities.{Limits, capability_of, device_limits, transient_from}
+use Rattle.effect_spec.specs.Capabilities.{CapabilityLimits, capability_of, device_limits}
+use Rattle.effect_spec.specs.Capabilities.{transient_from}
 use Rattle.device_spec.specs.Slots.{SlotState, SessionPlace, active_count, listed_from, capability_row, capability_told, Step}
 use Rattle.device_slots.specs.Listed.{MOST_SLOTS, objects_of, sessions_of}
 
@@ -14,13 +15,13 @@ use Rattle.device_slots.specs.Listed.{MOST_SLOTS, objects_of, sessions_of}
 pub all_objects : (slots : SlotState) → length slots.slots ≤ MOST_SLOTS → objects_of slots ≡ transient_from TRANSIENT_FIRST slots.slots
 all_objects slots few = ap (λ (os : List (Option Object)). transient_from TRANSIENT_FIRST os) (take_all MOST_SLOTS slots.slots few)
 
-pub same_row : (slots : SlotState) (limits : Limits) (active : ℕ) (params : List ℕ) → limits ≡ device_limits slots.numbers
+pub same_row : (slots : SlotState) (limits : CapabilityLimits) (active : ℕ) (params : List ℕ) → limits ≡ device_limits slots.numbers
     → active ≡ active_count slots.sessions → length slots.slots ≤ MOST_SLOTS → length slots.sessions ≤ SESSION_NUMBERS
     → capability_row slots params
     ≡ capability_of limits all_commands slots.persist (objects_of slots) (listed_from 0 (sessions_of slots)) active params
 same_row slots limits active params device counted few less =
     sym (
-    ap (λ (l : Limits). capability_of l all_commands slots.persist (objects_of slots) (listed_from 0 (sessions_of slots)) active params) device
+    ap (λ (l : CapabilityLimits). capability_of l all_commands slots.persist (objects_of slots) (listed_from 0 (sessions_of slots)) active params) device
     ∙ ap (λ (os : List (Option Object)). capability_of (device_limits slots.numbers) all_commands slots.persist (transient_from TRANSIENT_FIRST os) (listed_from 0 (sessions_of slots)) active params)
     (take_all MOST_SLOTS slots.slots few)
     ∙ ap (λ (ps : List SessionPlace). capability_of (device_limits slots.numbers) all_commands slots.persist (transient_from TRANSIENT_FIRST slots.slots) (listed_from 0 ps) active params)
@@ -28,7 +29,7 @@ same_row slots limits active params device counted few less =
     ∙ ap (λ (n : ℕ). capability_of (device_limits slots.numbers) all_commands slots.persist (transient_from TRANSIENT_FIRST slots.slots) (listed_from 0 slots.sessions) n params) counted)
 
 -- the same, where the state is seen by its fields
-pub row_seen : (view slots : SlotState) (limits : Limits) (active : ℕ) (params : List ℕ) → view ≡ slots → limits ≡ device_limits view.numbers
+pub row_seen : (view slots : SlotState) (limits : CapabilityLimits) (active : ℕ) (params : List ℕ) → view ≡ slots → limits ≡ device_limits view.numbers
     → active ≡ active_count view.sessions → length view.slots ≤ MOST_SLOTS → length view.sessions ≤ SESSION_NUMBERS
     → capability_row slots params
     ≡ capability_of limits all_commands view.persist (objects_of slots) (listed_from 0 (sessions_of slots)) active params

@@ -12,7 +12,7 @@ use Rattle.device_port.specs.Device.{Answered}
 use Rattle.device_port.specs.Own.{IsOwn}
 use Rattle.device_laws.proofs.Flushing.{first_is_flushed, remains_are_counted}
 use Rattle.device_laws.proofs.Frames.{response_is_frame}
-use Rattle.device_start.specs.Start.{ClearedIf, FindsIf, Holds, HoldsIf, HoldsListed, HoldsNoMoreIf, IsList, LosesFirst, Runs, all_listed, running}
+use Rattle.device_start.specs.Start.{ClearedIf, FindsIf, HoldsHandles, HoldsIf, HoldsListed, HoldsNoMoreIf, IsList, LosesFirst, Runs, all_listed, running}
 use Rattle.device_start.proofs.Found.{some_same}
 use Rattle.device_start.proofs.Reading.{count_read}
 use Rattle.device_port.proofs.Listing.{rest_of}
@@ -32,16 +32,16 @@ handles_counted zero bytes = refl
 handles_counted (suc count) bytes = ap (λ (n : ℕ). suc n) (handles_counted count _)
 
 -- a device that holds these, seen from itself
-from_itself : {first slots : SlotState} {handles : List ℕ} → Holds first handles slots → Holds slots handles slots
+from_itself : {first slots : SlotState} {handles : List ℕ} → HoldsHandles first handles slots → HoldsHandles slots handles slots
 from_itself holds = record { sound = holds.sound; started = holds.started; remains_are = holds.remains_are; same = refl }
 
-with_handles : {first slots : SlotState} {handles others : List ℕ} → handles ≡ others → Holds first handles slots → Holds first others slots
-with_handles {first = first} {slots = slots} is holds = subst (λ (hs : List ℕ). Holds first hs slots) is holds
+with_handles : {first slots : SlotState} {handles others : List ℕ} → handles ≡ others → HoldsHandles first handles slots → HoldsHandles first others slots
+with_handles {first = first} {slots = slots} is holds = subst (λ (hs : List ℕ). HoldsHandles first hs slots) is holds
 
 -- the first ones of what it held are gone: these handles became those
 abbrev pub LeftIf : List ℕ → List ℕ → Option SlotState → Option SlotState → Type 0
 LeftIf handles rest old now =
-    (slots : SlotState) (more : List ℕ) → old ≡ Some slots → Holds slots (handles ++ more) slots → HoldsIf slots (rest ++ more) now
+    (slots : SlotState) (more : List ℕ) → old ≡ Some slots → HoldsHandles slots (handles ++ more) slots → HoldsIf slots (rest ++ more) now
 
 pub left_all : (handles : List ℕ) (old : Option SlotState) → LeftIf handles handles old old
 left_all handles old slots more is holds = (slots, is, holds)
@@ -78,7 +78,7 @@ flush_left handles rest handle old now new reply left answered slots more is hol
 
 -- ---- it holds no more
 
-counted : {first slots : SlotState} {handles : List ℕ} → Holds first handles slots → held slots ≡ length handles
+counted : {first slots : SlotState} {handles : List ℕ} → HoldsHandles first handles slots → held slots ≡ length handles
 counted {slots = slots} holds = remains_are_counted slots ∙ ap length holds.remains_are
 
 pub left_few : (handles rest : List ℕ) (old now : Option SlotState) → HoldsListed handles old → LeftIf handles rest old now → length rest ≤ length handles
@@ -114,7 +114,7 @@ listed_then first second (Some s) mid told there loses t is =
     let (more, holds) = there s refl in
     let (u, u_is, now) = loses s (second ++ more) refl (with_handles (append_assoc first second more) holds) in
     let same : u ≡ t = some_same (sym u_is ∙ is) in
-    (more, from_itself (subst (λ (x : SlotState). Holds s (second ++ more) x) same now))
+    (more, from_itself (subst (λ (x : SlotState). HoldsHandles s (second ++ more) x) same now))
 
 pub loses_then : (first second : List ℕ) (old mid new : Option SlotState) → LosesFirst first old mid → LosesFirst second mid new
     → LosesFirst (first ++ second) old new
@@ -133,7 +133,7 @@ found_listed objects loaded saved (Some s) mid told finds t is =
     let (u, u_is, now) = finds s refl in
     let same : u ≡ t = some_same (sym u_is ∙ is) in
     let handles = all_listed objects loaded saved in
-    ([], with_handles (sym (append-nil handles)) (from_itself (subst (λ (x : SlotState). Holds (running s) handles x) same now)))
+    ([], with_handles (sym (append-nil handles)) (from_itself (subst (λ (x : SlotState). HoldsHandles (running s) handles x) same now)))
 
 pub is_cleared : (objects loaded saved : List ℕ) (old mid new : Option SlotState) → FindsIf objects loaded saved old mid
     → LosesFirst (all_listed objects loaded saved) mid new → ClearedIf old new

@@ -12,13 +12,13 @@ use Rattle.device_spec.specs.ContextCommands.{flush_context_command}
 use Rattle.device_spec.specs.Remains.{handles_command}
 use Rattle.device_laws.proofs.AnswerForms.{takes_more, takes_of_any}
 use Rattle.device_port.specs.Device.{Seen, Transmission, asked_of, last_of, newest_command, newest_response}
-use Rattle.device_port.specs.Own.{Asks, IsAnswered, SendsOwn}
+use Rattle.device_port.specs.Own.{Asks, IsOwnAnswered, SendsOwn}
 use Rattle.device_port.specs.declared.own.SwapError.{SwapError}
 use Rattle.device_port.proofs.Sending.{are_own}
-use Rattle.device_start.specs.Start.{Attempts, Finds, Flushes, HoldsNoMoreIf, Sends, SendsStart, answered}
+use Rattle.device_start.specs.Start.{Attempts, Finds, Flushes, HoldsNoMoreIf, SendsOne, SendsStart, answered}
 
 -- what an answer tells of the command and the response, where the device saves and loads no context
-pub taken_as : (contexts : ContextLimits) (asked : List ℕ) (last : Option (List ℕ)) (command response : List ℕ) → asked ≡ command → last ≡ Some response → IsAnswered contexts asked last
+pub taken_as : (contexts : ContextLimits) (asked : List ℕ) (last : Option (List ℕ)) (command response : List ℕ) → asked ≡ command → last ≡ Some response → IsOwnAnswered contexts asked last
     → (code_of command == CC_CONTEXT_SAVE) ≡ false → (code_of command == CC_CONTEXT_LOAD) ≡ false → profile_takes true true command response ≡ true
 taken_as contexts asked last command response asked_is last_is answered save load =
     sym (takes_of_any contexts true true command response save load)
@@ -71,7 +71,7 @@ sends_more {contexts = contexts} seen old mid new start own = record {
 -- ---- what calls leave
 
 -- Startup alone was sent
-pub startup_attempts : {contexts : ContextLimits} {D A : Type 0} (seen : D → Seen) (old new : D) (result : Result A SwapError) → Sends contexts seen old new startup_command result
+pub startup_attempts : {contexts : ContextLimits} {D A : Type 0} (seen : D → Seen) (old new : D) (result : Result A SwapError) → SendsOne contexts seen old new startup_command result
     → HoldsNoMoreIf (seen old).state (seen new).state → Attempts contexts seen old new
 startup_attempts seen old new result sends few = record {
   few = few;
@@ -96,7 +96,7 @@ err_carried P e result (f, is, same) holds = subst (λ (r : Result _ _). IfErr r
 
 -- ---- the last response
 
-right_answered : (contexts : ContextLimits) (asked : List ℕ) (last : Option (List ℕ)) → IsAnswered contexts asked last → IsRight contexts asked last
+right_answered : (contexts : ContextLimits) (asked : List ℕ) (last : Option (List ℕ)) → IsOwnAnswered contexts asked last → IsRight contexts asked last
 right_answered contexts asked None answered = tt
 right_answered contexts asked (Some last) answered = takes_more contexts true true asked last answered.1
 
@@ -109,7 +109,7 @@ right_found contexts asked last saved asked_is last_is taken =
 
 -- it is that of the last flush, or of the last list where nothing was flushed
 pub right_end : {D : Type 0} (contexts : ContextLimits) (seen : D → Seen) (old : List Transmission) (mid new : D) (objects loaded saved : List ℕ) → Finds old (seen mid).trace objects loaded saved
-    → (new ≡ mid) ⊎ IsAnswered contexts (asked_of (seen new)) (last_of (seen new)) → IsRight contexts (asked_of (seen new)) (last_of (seen new))
+    → (new ≡ mid) ⊎ IsOwnAnswered contexts (asked_of (seen new)) (last_of (seen new)) → IsRight contexts (asked_of (seen new)) (last_of (seen new))
 right_end {D = D} contexts seen old mid new objects loaded saved finds (inl same) =
     subst (λ (device : D). IsRight contexts (asked_of (seen device)) (last_of (seen device))) (sym same)
     (right_found contexts (asked_of (seen mid)) (last_of (seen mid)) saved (ap newest_command finds.trace_is) (ap newest_response finds.trace_is) finds.saved_taken)

@@ -16,11 +16,11 @@ use Rattle.device_port.specs.Own.{Asks, AsksSome}
 use Rattle.device_port.specs.declared.own.SwapError.{SwapError}
 use Rattle.device_port.proofs.Sending.{cause_then, sends_one}
 use Rattle.device_port.proofs.Telling.{own_number}
-use Rattle.device_laws.specs.Remains.{IsTold}
+use Rattle.device_laws.specs.Remains.{IsPropertyTold}
 use Rattle.device_laws.proofs.Telling.{active_told, gap_told, loaded_told, slots_told}
 use Rattle.device_start.specs.declared.starting.StartError.{StartError}
 use Rattle.device_start.specs.declared.starting.StartError.TheVariants as errors
-use Rattle.device_start.specs.Start.{Attempts, HasNumber, HasStartCause, HasValues, MissesNumber, NotStarted, Runs, Sends, TakenIf, Tells, answered, running}
+use Rattle.device_start.specs.Start.{Attempts, HasNumber, HasStartCause, HasValues, MissesNumber, NotStarted, Runs, SendsOne, TakenIf, TellsProperties, answered, running}
 use Rattle.device_start.proofs.Found.{runs_few, runs_now, some_same, stays_few}
 use Rattle.device_start.proofs.Left.{few_then}
 use Rattle.device_start.proofs.Sent.{answered_one, attempts_then, some_of, startup_attempts, taken_as}
@@ -41,7 +41,7 @@ FitIf state = IfSome state (λ slots. FitWords slots.numbers)
 pub record IsToldAt (place : ℕ) : Type 0 where
   pub word : property_at place < 2 ^ 32
   pub within : place < 4
-  pub told : (slots : SlotState) → slots.started ≡ true → FitWords slots.numbers → IsTold slots (property_at place) (number_at place slots.numbers)
+  pub told : (slots : SlotState) → slots.started ≡ true → FitWords slots.numbers → IsPropertyTold slots (property_at place) (number_at place slots.numbers)
 
 pub slots_at : IsToldAt 0
 slots_at = record { word = omega arith; within = omega arith; told = λ slots started fit. slots_told slots started fit.slots }
@@ -133,8 +133,8 @@ range_more before (first ∷ values) value range inside =
     (range_more (before ++ first ∷ []) values value parts.1 later)
 
 tells_more : (properties values : List ℕ) (value : ℕ) (old mid new : List Transmission) (response : List ℕ) → length values < length properties
-    → Tells properties values old mid → takes true true (number_command (get_or properties (length values) 0)) response ≡ true → value_told response ≡ value
-    → new ≡ answered (number_command (get_or properties (length values) 0)) response ∷ mid → Tells properties (values ++ value ∷ []) old new
+    → TellsProperties properties values old mid → takes true true (number_command (get_or properties (length values) 0)) response ≡ true → value_told response ≡ value
+    → new ≡ answered (number_command (get_or properties (length values) 0)) response ∷ mid → TellsProperties properties (values ++ value ∷ []) old new
 tells_more [] values value old mid new response less told taken is trace = absurd (omega (arith, less))
 tells_more (property ∷ properties) [] value old mid new response less same taken is trace =
     (response, taken, is, trace ∙ ap (λ (t : List Transmission). answered (number_command property) response ∷ t) same)
@@ -148,7 +148,7 @@ none_own None = tt
 none_own (Some s) = refl
 
 -- Startup came first
-pub no_values : {contexts : ContextLimits} {D : Type 0} (seen : D → Seen) (old new : D) (reply : List ℕ) → Sends {A = Unit {0}} contexts seen old new startup_command (Ok tt)
+pub no_values : {contexts : ContextLimits} {D : Type 0} (seen : D → Seen) (old new : D) (reply : List ℕ) → SendsOne {A = Unit {0}} contexts seen old new startup_command (Ok tt)
     → Answered (seen old).state startup_command (seen new).state reply → HasValues contexts seen old new []
 no_values seen old new reply sends answered =
     let (startup, startup_is, taken) = some_of (last_of (seen new)) sends.taken in
@@ -322,7 +322,7 @@ number_misses {contexts = contexts} seen old mid new values least most (errors.N
     (number_stops seen old mid new values value law fit has number (outside value word out))
 
 -- nothing but Startup was sent
-pub startup_fails : {contexts : ContextLimits} {D : Type 0} (seen : D → Seen) (old new : D) (e : SwapError) → Sends {A = Unit {0}} contexts seen old new startup_command (Err e)
+pub startup_fails : {contexts : ContextLimits} {D : Type 0} (seen : D → Seen) (old new : D) (e : SwapError) → SendsOne {A = Unit {0}} contexts seen old new startup_command (Err e)
     → NotStarted contexts seen old new (errors.Unanswered e)
 startup_fails seen old new e sends = record {
   attempts = startup_attempts {A = Unit {0}} seen old new (Err e) sends (stays_few _ _ sends.err);

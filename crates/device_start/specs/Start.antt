@@ -33,12 +33,13 @@ Flushes (handle ∷ handles) old new =
 
 -- These properties were asked for, one after the other, as many as there are values, each response was taken and has its value:
 -- from the one trace to the other
-abbrev pub Tells : (properties values : List ℕ) → List Transmission → List Transmission → Type 0
-Tells properties [] old new = new ≡ old
-Tells [] (value ∷ values) old new = ⊥
-Tells (property ∷ properties) (value ∷ values) old new =
+abbrev pub TellsProperties : (properties values : List ℕ) → List Transmission → List Transmission
+    → Type 0
+TellsProperties properties [] old new = new ≡ old
+TellsProperties [] (value ∷ values) old new = ⊥
+TellsProperties (property ∷ properties) (value ∷ values) old new =
     (response : List ℕ) × (takes true true (number_command property) response ≡ true) × (value_told response ≡ value)
-    × Tells properties values (answered (number_command property) response ∷ old) new
+    × TellsProperties properties values (answered (number_command property) response ∷ old) new
 
 -- Startup was sent, the device was asked for its numbers and for its three lists, and then each handle that these have was
 -- flushed. All responses were taken.
@@ -50,7 +51,7 @@ pub record IsStarted (old new : List Transmission) (numbers : Numbers) : Type 0 
   pub loaded : List ℕ
   pub saved : List ℕ
   pub startup_taken : takes true true startup_command startup ≡ true
-  pub told : Tells number_properties (values_of numbers) (answered startup_command startup ∷ old) asked
+  pub told : TellsProperties number_properties (values_of numbers) (answered startup_command startup ∷ old) asked
   pub objects_taken : takes true true (handles_command 0x80000000) objects ≡ true
   pub loaded_taken : takes true true (handles_command 0x02000000) loaded ≡ true
   pub saved_taken : takes true true (handles_command 0x03000000) saved ≡ true
@@ -66,7 +67,7 @@ pub record SendsStart (contexts : ContextLimits) (old new : List Transmission) :
   pub own : AllByRecursion (λ one. IsOwn contexts one.command) later
 
 -- what holds after a call that sends one command: after an error the device is in its state
-pub record Sends {D A : Type 0} (contexts : ContextLimits) (seen : D → Seen) (old new : D) (command : List ℕ) (result : Result A SwapError) : Type 0 where
+pub record SendsOne {D A : Type 0} (contexts : ContextLimits) (seen : D → Seen) (old new : D) (command : List ℕ) (result : Result A SwapError) : Type 0 where
   pub one : (seen new).trace ≡ record { command = command; response = last_of (seen new) } ∷ (seen old).trace
   pub taken : OnOk result (IsSomeAnd (last_of (seen new)) (λ response. takes true true command response ≡ true))
   pub err : OnErr result ((seen new).state ≡ (seen old).state)
@@ -77,7 +78,7 @@ pub record Sends {D A : Type 0} (contexts : ContextLimits) (seen : D → Seen) (
 -- ---- what the device holds
 
 -- a started device that holds what has these handles, in the order in which it lists them, and is otherwise as the first one
-pub record Holds (first : SlotState) (handles : List ℕ) (slots : SlotState) : Type 0 where
+pub record HoldsHandles (first : SlotState) (handles : List ℕ) (slots : SlotState) : Type 0 where
   pub sound : IsSlots slots
   pub started : slots.started ≡ true
   pub remains_are : remains slots ≡ handles
@@ -85,7 +86,8 @@ pub record Holds (first : SlotState) (handles : List ℕ) (slots : SlotState) : 
 
 -- the same, where the device tells its state
 abbrev pub HoldsIf : SlotState → List ℕ → Option SlotState → Type 0
-HoldsIf first handles state = (slots : SlotState) × (state ≡ Some slots) × Holds first handles slots
+HoldsIf first handles state =
+    (slots : SlotState) × (state ≡ Some slots) × HoldsHandles first handles slots
 
 -- a list that fills its response
 pub record IsList (list : List ℕ) : Type 0 where
@@ -140,11 +142,11 @@ pub record StopsAtNumber (old new : List Transmission) (property value : ℕ) : 
   pub startup : List ℕ
   pub startup_taken : takes true true startup_command startup ≡ true
   pub out : IsOutOfRange property value
-  pub told : Tells number_properties (out.before ++ value ∷ []) (answered startup_command startup ∷ old) new
+  pub told : TellsProperties number_properties (out.before ++ value ∷ []) (answered startup_command startup ∷ old) new
 
 -- behind these values one command was sent: it asks for the next number
-abbrev pub AsksNext : List ℕ → List Transmission → Type 0
-AsksNext values later =
+abbrev pub AsksNextNumber : List ℕ → List Transmission → Type 0
+AsksNextNumber values later =
     (length values < 4)
     × ((response : Option (List ℕ))
     × (later ≡ record { command = number_command (get_or number_properties (length values) 0); response = response } ∷ []))
@@ -162,10 +164,10 @@ pub record StopsLater (contexts : ContextLimits) (old new : List Transmission) :
   pub asked : List Transmission
   pub later : List Transmission
   pub startup_taken : takes true true startup_command startup ≡ true
-  pub told : Tells number_properties values (answered startup_command startup ∷ old) asked
+  pub told : TellsProperties number_properties values (answered startup_command startup ∷ old) asked
   pub range : are_in [] values ≡ true
   pub trace_is : new ≡ later ++ asked
-  pub next : AsksNext values later ⊎ AsksLater contexts values later
+  pub next : AsksNextNumber values later ⊎ AsksLater contexts values later
 
 -- how far a start came that ended at a command which wasn't answered: this was Startup, and nothing else was sent, or it came later
 abbrev pub StopsUnanswered : ContextLimits → List Transmission → List Transmission → Type 0
@@ -207,7 +209,7 @@ MissesNumber contexts seen old new property least most (errors.Numbers asked val
 pub record HasValues {D : Type 0} (contexts : ContextLimits) (seen : D → Seen) (old new : D) (values : List ℕ) : Type 0 where
   pub startup : List ℕ
   pub startup_taken : takes true true startup_command startup ≡ true
-  pub told : Tells number_properties values (answered startup_command startup ∷ (seen old).trace) (seen new).trace
+  pub told : TellsProperties number_properties values (answered startup_command startup ∷ (seen old).trace) (seen new).trace
   pub range : are_in [] values ≡ true
   pub own : IfSome (seen old).state (λ slots. take (length values) (values_of slots.numbers) ≡ values)
   pub runs : Runs (seen old).state (seen new).state
@@ -242,9 +244,9 @@ FindsIf objects loaded saved old new =
 
 -- where the device tells its state, it holds what a list has, and more behind it
 abbrev pub HoldsListed : List ℕ → Option SlotState → Type 0
-HoldsListed handles state = (slots : SlotState) → state ≡ Some slots → (more : List ℕ) × Holds slots (handles ++ more) slots
+HoldsListed handles state = (slots : SlotState) → state ≡ Some slots → (more : List ℕ) × HoldsHandles slots (handles ++ more) slots
 
 -- where it held these and more behind them, it holds what was behind them
 abbrev pub LosesFirst : List ℕ → Option SlotState → Option SlotState → Type 0
 LosesFirst handles old new =
-    (slots : SlotState) (more : List ℕ) → old ≡ Some slots → Holds slots (handles ++ more) slots → HoldsIf slots more new
+    (slots : SlotState) (more : List ℕ) → old ≡ Some slots → HoldsHandles slots (handles ++ more) slots → HoldsIf slots more new

@@ -9,7 +9,7 @@ ghost use Rattle.device_start.specs.Start.{Attempts, ClearedIf, Finds, FindsIf, 
 ghost use Rattle.device_start.specs.Start.{HasNumber, HasStartCause, HasValues, HoldsListed};
 ghost use Rattle.device_start.specs.Start.{HoldsNoMoreIf, IsList, IsRunning, IsStartable};
 ghost use Rattle.device_start.specs.Start.{IsStarted, LosesFirst, MissesNumber, NotStarted};
-ghost use Rattle.device_start.specs.Start.{Sends, TakenIf, all_listed};
+ghost use Rattle.device_start.specs.Start.{SendsOne, TakenIf, all_listed};
 
 use crate::lists::Lists;
 use device_port::{Device, DeviceFailed, SwapError, ask, command_of, takes, value_told, word_at};
@@ -84,7 +84,7 @@ fn is_started(response: &[u8]) -> bool
 
 // Sends Startup.
 fn start_up<D: Device>(device: &mut D, scratch: &mut Buffer) -> Result<(), SwapError>
-    ensures sends { Sends D.CONTEXTS D.seen device.old device.new startup_command result }
+    ensures sends { SendsOne D.CONTEXTS D.seen device.old device.new startup_command result }
     ensures ok { OnOk result
         (Answered (D.seen device.old).state startup_command (D.seen device.new).state scratch.new) }
 {

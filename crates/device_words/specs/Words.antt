@@ -27,7 +27,7 @@ abbrev pub decimal : List ℕ → ℕ
 decimal word = digits_value 10 (without_leading_plus word)
 
 -- the list has these numbers, in decimal digits: slots, places, sessions and the gap, with a mark between each two
-pub record AreNamed (mark : ℕ) (list : List ℕ) (numbers : Numbers) : Type 0 where
+pub record NumbersAreNamed (mark : ℕ) (list : List ℕ) (numbers : Numbers) : Type 0 where
   pub slots : numbers.slots ≡ decimal (before mark list)
   pub loaded : numbers.loaded ≡ decimal (before mark (behind mark list))
   pub active : numbers.active ≡ decimal (before mark (behind mark (behind mark list)))

@@ -1,6 +1,6 @@
 ghost use Rattle.std.specs.Prelude.{◌≡◌, ◌<◌, IfOk, Ok};
 ghost use Rattle.hex.specs.Hex.{decode_of};
-ghost use Rattle.device_words.specs.Words.{AreNamed, before, behind, decimal};
+ghost use Rattle.device_words.specs.Words.{NumbersAreNamed, before, behind, decimal};
 
 use anyhow::Context;
 use tab_spec::Numbers;
@@ -19,7 +19,7 @@ pub fn seed_of(digits: &str) -> anyhow::Result<[u8; 32]>
 /// errors; whether they are in range isn't looked at.
 pub fn numbers_of(list: &str, mark: char) -> anyhow::Result<Numbers>
     requires { mark < 128 }
-    ensures { IfOk result (λ numbers. AreNamed mark list.now numbers) }
+    ensures { IfOk result (λ numbers. NumbersAreNamed mark list.now numbers) }
 {
     let (slots, others) = first_of(list, mark)?;
     let (loaded, others) = first_of(others, mark)?;

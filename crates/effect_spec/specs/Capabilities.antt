@@ -20,7 +20,7 @@ pub record Listed : Type 0 where
   pub in_use : Bool
 
 -- of whom it is asked: how many objects and sessions there may be, and how far context numbers may be apart
-pub record Limits : Type 0 where
+pub record CapabilityLimits : Type 0 where
   pub objects : ℕ
   pub loaded : ℕ
   pub active : ℕ
@@ -29,11 +29,11 @@ pub record Limits : Type 0 where
   pub counts_active : Bool
 
 -- what a client sees, where so many sessions may be active over all clients
-abbrev pub client_limits : ℕ → Limits
+abbrev pub client_limits : ℕ → CapabilityLimits
 client_limits most = record { objects = 4096; loaded = most; active = most; gap = 0xffffffff; counts_active = true }
 
 -- what a device of these numbers has
-abbrev pub device_limits : Numbers → Limits
+abbrev pub device_limits : Numbers → CapabilityLimits
 device_limits numbers = record {
   objects = numbers.slots;
   loaded = numbers.loaded;
@@ -133,10 +133,10 @@ command_items rows least = map (λ (row : CommandRow). to_be_bytes w32 (command_
 abbrev pub pcr_list : ℕ → List ℕ
 pcr_list capability = 0 ∷ to_be_bytes w32 capability ++ to_be_bytes w32 1 ++ to_be_bytes w16 ALG_SHA256 ++ 3 ∷ 0xff ∷ 0xff ∷ 0xff ∷ []
 
-abbrev pub loaded_by : Limits → ℕ → ℕ → ℕ
+abbrev pub loaded_by : CapabilityLimits → ℕ → ℕ → ℕ
 loaded_by limits active in_use = if limits.counts_active then active else in_use
 
-abbrev pub property_pairs : Limits → List ℕ → List Listed → ℕ → List (ℕ × ℕ)
+abbrev pub property_pairs : CapabilityLimits → List ℕ → List Listed → ℕ → List (ℕ × ℕ)
 property_pairs limits objects sessions active =
     let in_use = count_by (λ (s : Listed). s.in_use) sessions in
     (0x10e, limits.objects) ∷ (0x110, limits.loaded) ∷ (0x111, limits.active) ∷ (0x112, PCRS) ∷ (0x114, limits.gap) ∷ (0x11e, MOST_BYTES) ∷ (0x11f, MOST_BYTES)
@@ -150,7 +150,7 @@ property_items pairs least =
 -- ---- the whole
 
 -- the list of a capability
-abbrev pub list_of : Limits → List CommandRow → Persist → List ℕ → List Listed → ℕ → Asked → Result (List ℕ) ℕ
+abbrev pub list_of : CapabilityLimits → List CommandRow → Persist → List ℕ → List Listed → ℕ → Asked → Result (List ℕ) ℕ
 list_of limits rows persist objects sessions active asked =
     if asked.capability == 1 then handles_listed asked (handle_items persist objects sessions asked.property)
     else if asked.capability == 2 then Ok (listed asked (command_items rows asked.property))
@@ -175,6 +175,6 @@ is_of_device params = asks_another (when_read (asked_of params) (λ asked. Ok as
 
 -- the response parameters, by what there is: the commands, the transient handles upwards, the sessions by their numbers, and how many sessions are
 -- active over all clients
-abbrev pub capability_of : Limits → List CommandRow → Persist → List ℕ → List Listed → ℕ → List ℕ → Result (List ℕ) ℕ
+abbrev pub capability_of : CapabilityLimits → List CommandRow → Persist → List ℕ → List Listed → ℕ → List ℕ → Result (List ℕ) ℕ
 capability_of limits rows persist objects sessions active params =
     when_read (asked_of params) (list_of limits rows persist objects sessions active)

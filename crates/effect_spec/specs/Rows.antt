@@ -3,8 +3,8 @@ use Rattle.std.specs.Prelude.{◌≡◌, ◌≤◌, ℕ, ◌+◌, List, ◌++◌
 use Rattle.effect_spec.specs.declared.TheConstants.{MOST_BYTES_BEFORE_AUTH}
 
 -- after what is there, there is room for the parameters of any response
-abbrev pub HasRoom : List ℕ → Type 0
-HasRoom reply = length reply + MOST_BYTES_BEFORE_AUTH ≤ 4096
+abbrev pub HasResponseRoom : List ℕ → Type 0
+HasResponseRoom reply = length reply + MOST_BYTES_BEFORE_AUTH ≤ 4096
 
 -- appends the parameters that the row gives; where the row is an error, that is the error, and nothing is appended
 abbrev pub Appends : {A : Type 0} → Result A ℕ → Result (List ℕ) ℕ → List ℕ → List ℕ → Type 0
@@ -13,8 +13,8 @@ Appends result row reply reply_new = MatchResult result
     (λ code. (row ≡ Err code) × (reply_new ≡ reply))
 
 -- the same of a row that makes a value, which is seen as the call's
-abbrev pub Makes : {A B : Type 0} → Result A ℕ → (A → B) → Result (B × List ℕ) ℕ → List ℕ → List ℕ → Type 0
-Makes result seen row reply reply_new = MatchResult result
+abbrev pub MakesValue : {A B : Type 0} → Result A ℕ → (A → B) → Result (B × List ℕ) ℕ → List ℕ → List ℕ → Type 0
+MakesValue result seen row reply reply_new = MatchResult result
     (λ made. (params : List ℕ) × (row ≡ Ok (seen made, params)) × (reply_new ≡ reply ++ params))
     (λ code. (row ≡ Err code) × (reply_new ≡ reply))
 

@@ -2,7 +2,7 @@ ghost use Rattle.std.specs.Prelude.{◌≡◌, ◌↔◌, [], length, IfOk, IfSo
 ghost use Rattle.std.specs.Prelude.{MatchOption};
 ghost use Rattle.hex.specs.Hex.{decode_of};
 ghost use Rattle.device_words.specs.Words.{first_word, other_words};
-ghost use Rattle.fault_runs.specs.Lines.{AreListed, HasNumbers, HasNoMark, behind_mark};
+ghost use Rattle.fault_runs.specs.Lines.{NumbersAreListed, HasNumbers, HasNoMark, behind_mark};
 
 use anyhow::{Context, ensure};
 use device_words::{numbers_of, seed_of};
@@ -73,7 +73,7 @@ fn read_words(alloc: Global, words: &str) -> anyhow::Result<(Numbers, Vec<u64>)>
 // The numbers of a device, where a word names them.
 fn read_numbers(word: &str) -> anyhow::Result<Option<Numbers>>
     ensures { IfOk result (λ found. MatchOption found (HasNoMark word.now)
-        (λ numbers. AreListed (behind_mark word.now) numbers)) }
+        (λ numbers. NumbersAreListed (behind_mark word.now) numbers)) }
 {
     let Some((name, list)) = word.split_once('=') else {
         return Ok(None);

@@ -7,7 +7,7 @@ use Rattle.tab_spec.specs.Parameters.{when_read}
 use Rattle.tab_spec.specs.Persist.{Persist}
 use Rattle.tab_spec.specs.Shape.{is_session_octet, octet_of}
 use Rattle.tab_spec.specs.Values.{Reading}
-use Rattle.effect_spec.specs.Capabilities.{Asked, Limits, Listed, asked_of, capability_of, handle_items, handles_listed, is_own_list, is_of_device, asks_another, list_of}
+use Rattle.effect_spec.specs.Capabilities.{Asked, CapabilityLimits, Listed, asked_of, capability_of, handle_items, handles_listed, is_own_list, is_of_device, asks_another, list_of}
 
 -- ---- what was read
 
@@ -53,7 +53,7 @@ list_by : {X : Type 0} (handles own commands pcrs properties : Bool) (a b c d e 
 list_by true own commands pcrs properties a b c d e others other_pairs none same = same none
 list_by false own commands pcrs properties a b c d e others other_pairs none same = rw none refl
 
-pub other_lists : (limits others_limits : Limits) (rows : List CommandRow) (persist : Persist) (objects others : List ℕ) (sessions other_sessions : List Listed)
+pub other_lists : (limits others_limits : CapabilityLimits) (rows : List CommandRow) (persist : Persist) (objects others : List ℕ) (sessions other_sessions : List Listed)
     (active others_active : ℕ) (asked : Asked) → is_own_list asked ≡ false
     → list_of limits rows persist objects sessions active asked ≡ list_of others_limits rows persist others other_sessions others_active asked
 other_lists limits others_limits rows persist objects others sessions other_sessions active others_active asked none =
@@ -77,7 +77,7 @@ told_read (Err code) next other same is = absurd cc
 told_read (Ok read) next other same is = told_by (length read.1 == 0) read.0 next other (same read.0) is
 
 -- the device's own answer is any client's
-pub told_alike : (params : List ℕ) (rows : List CommandRow) (persist : Persist) (limits others_limits : Limits) (objects others : List ℕ)
+pub told_alike : (params : List ℕ) (rows : List CommandRow) (persist : Persist) (limits others_limits : CapabilityLimits) (objects others : List ℕ)
     (sessions other_sessions : List Listed) (active others_active : ℕ) → is_of_device params ≡ true
     → capability_of limits rows persist objects sessions active params ≡ capability_of others_limits rows persist others other_sessions others_active params
 told_alike params rows persist limits others_limits objects others sessions other_sessions active others_active is =

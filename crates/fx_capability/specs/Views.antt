@@ -4,7 +4,7 @@ use Rattle.fx_capability.specs.declared.limits.Limits.{Limits}
 use Rattle.fx_capability.specs.declared.holdings.HeldSession.{HeldSession}
 use Rattle.fx_capability.specs.declared.asked.Asked.{Asked}
 
-abbrev pub limits_of : Limits → capabilities.Limits
+abbrev pub limits_of : Limits → capabilities.CapabilityLimits
 limits_of l = record { objects = l.objects; loaded = l.loaded; active = l.active; gap = l.gap; counts_active = l.counts_active }
 
 abbrev pub listed_of : HeldSession → capabilities.Listed

@@ -4,7 +4,7 @@ ghost use Rattle.effect_spec.specs.declared.TheConstants.{MOST_PARAMETER_BYTES};
 ghost use Rattle.tab_spec.specs.Numbers.{profile_numbers};
 ghost use Rattle.effect_spec.specs.Capabilities.{capability_of, client_limits, device_limits};
 ghost use Rattle.effect_spec.specs.Capabilities.{is_own_list, is_of_device, list_of, pcr_list};
-ghost use Rattle.effect_spec.specs.Rows.{HasRoom, Appends};
+ghost use Rattle.effect_spec.specs.Rows.{HasResponseRoom, Appends};
 ghost use Rattle.fx_capability.specs.declared.viewed.Viewed.TheVariants.{Device};
 ghost use Rattle.fx_capability.specs.Views.{asked_of, limits_of};
 ghost use Rattle.fx_capability.specs.Viewed.{AppendsWhere, IsViewed};
@@ -44,7 +44,7 @@ pub fn capability<H: Holdings>(
     params: &[u8],
     reply: &mut Buffer,
 ) -> Result<(), u32>
-    requires room { HasRoom reply.old }
+    requires room { HasResponseRoom reply.old }
     ensures row { Appends result
         (capability_of (limits_of limits.now) all_commands p.now
         (H.objects held.now) (H.sessions held.now) active params.now)
@@ -68,7 +68,7 @@ pub fn client_capability<H: Holdings>(
     params: &[u8],
     reply: &mut Buffer,
 ) -> Viewed
-    requires room { HasRoom reply.old }
+    requires room { HasResponseRoom reply.old }
     ensures told { IsViewed result
         (λ persist. capability_of (client_limits most) all_commands persist
         (H.objects held.now) (H.sessions held.now) active params.now)
@@ -94,7 +94,7 @@ fn put_own<H: Holdings>(
     asked: &Asked,
     reply: &mut Buffer,
 ) -> bool
-    requires room { HasRoom reply.old }
+    requires room { HasResponseRoom reply.old }
     ensures own { result ≡ is_own_list (asked_of asked.now) }
     ensures row { AppendsWhere result
         (λ persist. list_of (limits_of limits.now) all_commands persist
@@ -119,7 +119,7 @@ fn put_own<H: Holdings>(
 
 // Appends a list that is the same for all who ask.
 fn put_other(p: &Persist, asked: &Asked, reply: &mut Buffer) -> Result<(), u32>
-    requires room { HasRoom reply.old }
+    requires room { HasResponseRoom reply.old }
     requires other { is_own_list (asked_of asked.now) ≡ false }
     ensures row { Appends result
         (list_of (device_limits profile_numbers) all_commands p.now [] [] 0 (asked_of asked.now))
@@ -137,7 +137,7 @@ fn put_other(p: &Persist, asked: &Asked, reply: &mut Buffer) -> Result<(), u32>
 
 // Appends the one bank of PCRs, with all of them (Part 2, "TPML_PCR_SELECTION").
 fn put_pcrs(reply: &mut Buffer)
-    requires room { HasRoom reply.old }
+    requires room { HasResponseRoom reply.old }
     ensures put { reply.new ≡ reply.old ++ pcr_list 5 }
     ensures most { length reply.new ≤ length reply.old + 15 }
 {

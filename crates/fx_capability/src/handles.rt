@@ -8,7 +8,7 @@ ghost use Rattle.tab_spec.specs.declared.TheConstants.{SESSION_NUMBERS, HT_TRANS
 ghost use Rattle.tab_spec.specs.declared.TheConstants.{RH_OWNER, RH_NULL, RS_PW};
 ghost use Rattle.effect_spec.specs.Capabilities.{from_number, upwards, listed_sessions};
 ghost use Rattle.effect_spec.specs.Capabilities.{handle_items, handles_listed};
-ghost use Rattle.effect_spec.specs.Rows.{HasRoom, Appends};
+ghost use Rattle.effect_spec.specs.Rows.{HasResponseRoom, Appends};
 ghost use Rattle.fx_capability.specs.Lists.{number_from, lesser};
 ghost use Rattle.fx_capability.specs.Viewed.{AppendsWhere};
 ghost use Rattle.fx_capability.specs.Views.{asked_of};
@@ -32,7 +32,7 @@ const HT_PERMANENT: u32 = 0x40;
 /// property on (Part 2, "TPM_CAP"): octet 0x02 the sessions in use and 0x03 the saved ones, both by
 /// their numbers, and 0x80 the objects. Whether it does.
 pub(crate) fn put_own_handles<H: Holdings>(asked: &Asked, held: &H, reply: &mut Buffer) -> bool
-    requires room { HasRoom reply.old }
+    requires room { HasResponseRoom reply.old }
     ensures own { let octet = octet_of asked.now.property in
         result ≡ (octet == HT_TRANSIENT || is_session_octet octet) }
     ensures row { AppendsWhere result
@@ -60,7 +60,7 @@ pub(crate) fn put_own_handles<H: Holdings>(asked: &Asked, held: &H, reply: &mut 
 /// Appends the handles of the other kinds, from the property on. The error is HANDLE of parameter 2
 /// if there is no such kind, and appends nothing.
 pub(crate) fn put_other_handles(asked: &Asked, p: &Persist, reply: &mut Buffer) -> Result<(), u32>
-    requires room { HasRoom reply.old }
+    requires room { HasResponseRoom reply.old }
     requires other { let octet = octet_of asked.now.property in
         (octet == HT_TRANSIENT || is_session_octet octet) ≡ false }
     ensures row { Appends result

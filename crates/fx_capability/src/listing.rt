@@ -3,7 +3,7 @@ ghost use Rattle.std.specs.Prelude.{nat_lt, nat_le, MatchOption};
 ghost use Rattle.std.specs.List.{find};
 ghost use Rattle.std.specs.Option.{option_map};
 ghost use Rattle.effect_spec.specs.Capabilities.{joined_items, listed};
-ghost use Rattle.effect_spec.specs.Rows.{HasRoom};
+ghost use Rattle.effect_spec.specs.Rows.{HasResponseRoom};
 ghost use Rattle.fx_capability.specs.Views.{asked_of};
 
 use crate::asked::Asked;
@@ -37,7 +37,7 @@ pub(crate) trait Listing {
 /// Appends a list: moreData, the capability, the count, and the items from `least` on, at most as
 /// many as were asked for and at most 254. moreData is 1 where an item is left over.
 pub(crate) fn put_list<L: Listing>(asked: &Asked, list: &L, least: u32, reply: &mut Buffer)
-    requires room { HasRoom reply.old }
+    requires room { HasResponseRoom reply.old }
     ensures put { reply.new ≡ reply.old ++ listed (asked_of asked.now) (L.items list.now least) }
     ensures most { length reply.new ≤ length reply.old + MOST_LIST_BYTES }
 {

@@ -2,7 +2,7 @@ ghost use Rattle.std.specs.Prelude.{◌≡◌, ◌+◌, ◌≤◌, ◌++◌, len
 ghost use Rattle.tab_spec.specs.Hash.{name_of};
 ghost use Rattle.effect_spec.specs.declared.TheConstants.{MOST_PARAMETER_BYTES};
 ghost use Rattle.effect_spec.specs.Nv.{nv_read_public_row, nv_read_row};
-ghost use Rattle.effect_spec.specs.Rows.{HasRoom, Appends};
+ghost use Rattle.effect_spec.specs.Rows.{HasResponseRoom, Appends};
 ghost use Rattle.tab_spec.specs.Values.{sized_bytes};
 
 use crate::access::{find_index, indexes_are_there, is_undefined, may_read};
@@ -14,7 +14,7 @@ use tab_values::{Parameters, Persist, in_handle, nv_public_octets, put_sized};
 /// NV_ReadPublic (Part 3, "TPM2_NV_ReadPublic"): appends the public area and the Name of an index,
 /// each a TPM2B. An error is the response code of the first fault, and appends nothing.
 pub fn nv_read_public(p: &Persist, index: u32, params: &[u8], reply: &mut Buffer) -> Result<(), u32>
-    requires room { HasRoom reply.old }
+    requires room { HasResponseRoom reply.old }
     ensures row { Appends result (nv_read_public_row p.now index params.now) reply.old reply.new }
     ensures most { OnOk result (length reply.new ≤ length reply.old + MOST_PARAMETER_BYTES) }
 {
@@ -30,7 +30,7 @@ pub fn nv_read_public(p: &Persist, index: u32, params: &[u8], reply: &mut Buffer
 // A public area and its Name, each a TPM2B.
 fn put_area_and_name(area: &[u8], reply: &mut Buffer)
     requires size { length area.now ≤ 46 }
-    requires room { HasRoom reply.old }
+    requires room { HasResponseRoom reply.old }
     ensures put { reply.new
         ≡ reply.old ++ (sized_bytes area.now ++ sized_bytes (name_of area.now)) }
     ensures most { length reply.new ≤ length reply.old + 84 }
@@ -49,7 +49,7 @@ pub fn nv_read(
     params: &[u8],
     reply: &mut Buffer,
 ) -> Result<(), u32>
-    requires room { HasRoom reply.old }
+    requires room { HasResponseRoom reply.old }
     ensures row { Appends result (nv_read_row p.now by index params.now) reply.old reply.new }
     ensures most { OnOk result (length reply.new ≤ length reply.old + MOST_PARAMETER_BYTES) }
 {

@@ -35,8 +35,8 @@ loaded_object parent public private = record {
 }
 
 -- gives the object that the row makes, whose parameter is the object's Name
-abbrev pub Loads : Result Object ℕ → Result (object.Object × List ℕ) ℕ → Type 0
-Loads result row = MatchResult result
+abbrev pub LoadsObject : Result Object ℕ → Result (object.Object × List ℕ) ℕ → Type 0
+LoadsObject result row = MatchResult result
     (λ o. row ≡ Ok (object_of o, sized_bytes (objects.object_name (object_of o).public)))
     (λ code. row ≡ Err code)
 

@@ -1,7 +1,7 @@
 ghost use Rattle.std.specs.Prelude.{◌+◌, ◌≤◌, length, OnOk};
 ghost use Rattle.effect_spec.specs.declared.TheConstants.{MOST_PARAMETER_BYTES};
 ghost use Rattle.effect_spec.specs.Objects.{create_primary_row, create_row};
-ghost use Rattle.effect_spec.specs.Rows.{HasRoom, Makes, ChangesAndAppends};
+ghost use Rattle.effect_spec.specs.Rows.{HasResponseRoom, MakesValue, ChangesAndAppends};
 ghost use Rattle.tab_values.specs.Views.{object_of};
 
 use crate::creation_data::{object_parentage, owner_parentage, put_creation};
@@ -18,8 +18,9 @@ use tab_values::{Object, Parameters, Persist, in_handle, in_parameter, put_sized
 /// hash, the creation ticket and its Name. An error is the response code of the first fault of the
 /// parameters, and appends nothing.
 pub fn create_primary(p: &Persist, params: &[u8], reply: &mut Buffer) -> Result<Object, u32>
-    requires room { HasRoom reply.old }
-    ensures row { Makes result object_of (create_primary_row p.now params.now) reply.old reply.new }
+    requires room { HasResponseRoom reply.old }
+    ensures row { MakesValue result object_of (create_primary_row p.now params.now) reply.old
+        reply.new }
     ensures most { OnOk result (length reply.new ≤ length reply.old + MOST_PARAMETER_BYTES) }
 {
     let mut given = Parameters::new(params);
@@ -44,7 +45,7 @@ pub fn create(
     params: &[u8],
     reply: &mut Buffer,
 ) -> Result<(), u32>
-    requires room { HasRoom reply.old }
+    requires room { HasResponseRoom reply.old }
     ensures row { ChangesAndAppends result (create_row p.old (object_of parent.now) params.now)
         p.old p.new reply.old reply.new }
     ensures most { OnOk result (length reply.new ≤ length reply.old + MOST_PARAMETER_BYTES) }

@@ -2,11 +2,11 @@ ghost use Rattle.std.specs.Prelude.{◌≡◌, ◌+◌, ◌≤◌, length, OnOk}
 ghost use Rattle.effect_spec.specs.declared.TheConstants.{MOST_PARAMETER_BYTES};
 ghost use Rattle.effect_spec.specs.Objects as objects;
 ghost use Rattle.effect_spec.specs.Objects.{load_row, loaded_by, loaded_with};
-ghost use Rattle.effect_spec.specs.Rows.{HasRoom, Makes};
+ghost use Rattle.effect_spec.specs.Rows.{HasResponseRoom, MakesValue};
 ghost use Rattle.tab_spec.specs.Values.{sized};
 ghost use Rattle.tab_spec.specs.declared.TheConstants.{RC_SIZE};
 ghost use Rattle.tab_values.specs.Views.{TookValue, object_of, public_of};
-ghost use Rattle.fx_objects.specs.Views.{Loads, loaded_object, private_part_of};
+ghost use Rattle.fx_objects.specs.Views.{LoadsObject, loaded_object, private_part_of};
 
 use crate::private_area::{MOST_PRIVATE, authenticates, mask_private};
 use crate::public_area::{is_parent, object_name, qualified_name};
@@ -33,8 +33,8 @@ struct PrivatePart {
 /// parent where it is none, that of the parameters, or INTEGRITY of the private area where the
 /// parent doesn't authenticate it under the public area; and appends nothing.
 pub fn load(parent: &Object, params: &[u8], reply: &mut Buffer) -> Result<Object, u32>
-    requires room { HasRoom reply.old }
-    ensures row { Makes result object_of (load_row (object_of parent.now) params.now)
+    requires room { HasResponseRoom reply.old }
+    ensures row { MakesValue result object_of (load_row (object_of parent.now) params.now)
         reply.old reply.new }
     ensures most { OnOk result (length reply.new ≤ length reply.old + MOST_PARAMETER_BYTES) }
 {
@@ -53,7 +53,7 @@ pub fn load(parent: &Object, params: &[u8], reply: &mut Buffer) -> Result<Object
 // The object of a private area, where its parent authenticates it under the public area.
 fn open_private(parent: &Object, public: Public, private: &[u8]) -> Result<Object, u32>
     requires { length private.now ≤ 512 }
-    ensures { Loads result
+    ensures { LoadsObject result
         (loaded_by (object_of parent.now) (public_of public) (sized RC_SIZE private.now)) }
 {
     let mut reader = Reader::new(private);
@@ -72,7 +72,7 @@ fn open_private(parent: &Object, public: Public, private: &[u8]) -> Result<Objec
 fn unmask_object(parent: &Object, public: Public, name: &[u8], bytes: &[u8]) -> Result<Object, u32>
     requires most { length bytes.now ≤ 512 }
     requires name { name.now ≡ objects.object_name (public_of public) }
-    ensures { Loads result (loaded_with
+    ensures { LoadsObject result (loaded_with
         (objects.plain_of (objects.encrypted (object_of parent.now) name.now bytes.now))
         (loaded_object (object_of parent.now) (public_of public))) }
 {

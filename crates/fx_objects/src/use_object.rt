@@ -2,7 +2,7 @@ ghost use Rattle.std.specs.Prelude.{◌≡◌, ◌+◌, ◌≤◌, length, OnOk}
 ghost use Rattle.tab_spec.specs.Hash.{hmac};
 ghost use Rattle.effect_spec.specs.declared.TheConstants.{MOST_PARAMETER_BYTES};
 ghost use Rattle.effect_spec.specs.Objects.{unseal_row, hmac_row, read_public_row};
-ghost use Rattle.effect_spec.specs.Rows.{HasRoom, Appends};
+ghost use Rattle.effect_spec.specs.Rows.{HasResponseRoom, Appends};
 ghost use Rattle.tab_values.specs.Views.{object_of};
 
 use crate::public_area::{is_parent, object_name, put_public};
@@ -18,7 +18,7 @@ const MOST_MESSAGE: usize = 1024;
 /// of the first fault: TYPE of the object where it is a storage parent, ATTRIBUTES where it is a
 /// key, or that of the parameters; and appends nothing.
 pub fn unseal(item: &Object, params: &[u8], reply: &mut Buffer) -> Result<(), u32>
-    requires room { HasRoom reply.old }
+    requires room { HasResponseRoom reply.old }
     ensures row { Appends result (unseal_row (object_of item.now) params.now) reply.old reply.new }
     ensures most { OnOk result (length reply.new ≤ length reply.old + MOST_PARAMETER_BYTES) }
 {
@@ -37,7 +37,7 @@ pub fn unseal(item: &Object, params: &[u8], reply: &mut Buffer) -> Result<(), u3
 /// An error is the response code of the first fault: TYPE of the object where it is a storage
 /// parent, KEY where it is no key, or that of the parameters; and appends nothing.
 pub fn hmac_of(item: &Object, params: &[u8], reply: &mut Buffer) -> Result<(), u32>
-    requires room { HasRoom reply.old }
+    requires room { HasResponseRoom reply.old }
     ensures row { Appends result (hmac_row (object_of item.now) params.now) reply.old reply.new }
     ensures most { OnOk result (length reply.new ≤ length reply.old + MOST_PARAMETER_BYTES) }
 {
@@ -70,7 +70,7 @@ fn hmac(key: &[u8], message: &[u8]) -> [u8; 32]
 /// ReadPublic (Part 3, "TPM2_ReadPublic"): appends the public area, the Name and the qualified Name
 /// of an object, each a TPM2B. The error is SIZE where there are parameters, and appends nothing.
 pub fn read_public_of(item: &Object, params: &[u8], reply: &mut Buffer) -> Result<(), u32>
-    requires room { HasRoom reply.old }
+    requires room { HasResponseRoom reply.old }
     ensures row { Appends result (read_public_row (object_of item.now) params.now)
         reply.old reply.new }
     ensures most { OnOk result (length reply.new ≤ length reply.old + MOST_PARAMETER_BYTES) }

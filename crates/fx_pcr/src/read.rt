@@ -2,7 +2,7 @@ ghost use Rattle.std.specs.Prelude.{◌≡◌, ◌+◌, ◌*◌, ◌<◌, ◌≤
 ghost use Rattle.std.specs.List.{All};
 ghost use Rattle.effect_spec.specs.Pcr as pcr_specs;
 ghost use Rattle.effect_spec.specs.Pcr.{selecting, digests, pcr_values, pcr_read_row};
-ghost use Rattle.effect_spec.specs.Rows.{HasRoom, Appends};
+ghost use Rattle.effect_spec.specs.Rows.{HasResponseRoom, Appends};
 ghost use Rattle.tab_values.specs.Views.{selection_of};
 
 use tab_bytes::Buffer;
@@ -15,7 +15,7 @@ use tab_values::{
 /// PCRs as a selection, and their values. An error is the response code of the first fault of the
 /// parameters, and appends nothing.
 pub fn pcr_read(p: &Persist, params: &[u8], reply: &mut Buffer) -> Result<(), u32>
-    requires room { HasRoom reply.old }
+    requires room { HasResponseRoom reply.old }
     ensures row { Appends result (pcr_read_row p.now params.now) reply.old reply.new }
     ensures most { OnOk result (length reply.new ≤ length reply.old + 2000) }
 {
@@ -28,7 +28,7 @@ pub fn pcr_read(p: &Persist, params: &[u8], reply: &mut Buffer) -> Result<(), u3
 
 // The update count, the selection of the PCRs that are read, and their values.
 fn put_values(p: &Persist, selection: PcrSelection, reply: &mut Buffer)
-    requires { HasRoom reply.old }
+    requires { HasResponseRoom reply.old }
     ensures put { reply.new ≡ reply.old ++ pcr_values p.now (selection_of selection) }
     ensures most { length reply.new ≤ length reply.old + 2000 }
 {

@@ -2,7 +2,7 @@ ghost use Rattle.std.specs.Prelude.{◌≡◌, ◌+◌, ◌≤◌, ◌++◌, len
 ghost use Rattle.effect_spec.specs.declared.TheConstants.{MOST_PARAMETER_BYTES};
 ghost use Rattle.effect_spec.specs.Policies.{policy_secret_row, secret_policy_of, secret_fault};
 ghost use Rattle.effect_spec.specs.Policies.{secret_answer};
-ghost use Rattle.effect_spec.specs.Rows.{HasRoom, ChangesAndAppends};
+ghost use Rattle.effect_spec.specs.Rows.{HasResponseRoom, ChangesAndAppends};
 ghost use Rattle.tab_values.specs.Views.{TookValue, session_of};
 ghost use Rattle.fx_policy.specs.Views.{parameters_of};
 
@@ -34,7 +34,7 @@ pub fn policy_secret(
     params: &[u8],
     reply: &mut Buffer,
 ) -> Result<(), u32>
-    requires room { HasRoom reply.old }
+    requires room { HasResponseRoom reply.old }
     ensures row { ChangesAndAppends result
         (policy_secret_row (session_of s.old) name.now params.now)
         (session_of s.old) (session_of s.new) reply.old reply.new }

@@ -2,7 +2,7 @@ ghost use Rattle.std.specs.Prelude.{◌≡◌, ◌+◌, ◌≤◌, length, OnOk}
 ghost use Rattle.effect_spec.specs.declared.TheConstants.{MOST_PARAMETER_BYTES};
 ghost use Rattle.effect_spec.specs.Policies.{policy_restart_row, policy_get_digest_row};
 ghost use Rattle.effect_spec.specs.Policies.{policy_needs_row, policy_command_code_row};
-ghost use Rattle.effect_spec.specs.Rows.{HasRoom, Appends, Changes};
+ghost use Rattle.effect_spec.specs.Rows.{HasResponseRoom, Appends, Changes};
 ghost use Rattle.tab_spec.specs.declared.AuthNeeded.TheVariants.{AuthValue, Password};
 ghost use Rattle.tab_values.specs.Views.{session_of};
 
@@ -25,7 +25,7 @@ pub fn policy_restart(s: &mut Session, params: &[u8]) -> Result<(), u32>
 /// PolicyGetDigest (Part 3, "TPM2_PolicyGetDigest"): appends the digest as a TPM2B. The error is
 /// SIZE where there are parameters, and appends nothing.
 pub fn policy_get_digest(s: &Session, params: &[u8], reply: &mut Buffer) -> Result<(), u32>
-    requires room { HasRoom reply.old }
+    requires room { HasResponseRoom reply.old }
     ensures row { Appends result (policy_get_digest_row (session_of s.now) params.now)
         reply.old reply.new }
     ensures most { OnOk result (length reply.new ≤ length reply.old + MOST_PARAMETER_BYTES) }

@@ -2,7 +2,7 @@ ghost use Rattle.std.specs.Prelude.{◌≡◌, ◌≤◌, ◌+◌, ◌++◌, nat
 ghost use Rattle.std.specs.Prelude.{MatchResult};
 ghost use Rattle.tab_spec.specs.Parameters.{in_parameter, when_read};
 ghost use Rattle.effect_spec.specs.declared.TheConstants.{MOST_PARAMETER_BYTES};
-ghost use Rattle.effect_spec.specs.Rows.{HasRoom, IsRefusedAs};
+ghost use Rattle.effect_spec.specs.Rows.{HasResponseRoom, IsRefusedAs};
 ghost use Rattle.effect_spec.specs.Sessions.{start_parameters_of, start_parameters_fault};
 ghost use Rattle.effect_spec.specs.Sessions.{start_check, start_session_row};
 ghost use Rattle.tab_spec.specs.Persist.{drawn};
@@ -60,7 +60,7 @@ pub fn can_start(p: &Persist, params: &[u8]) -> bool
 /// nonceTPM, of as many bytes as the nonceCaller, and appends it as a TPM2B. An error is the
 /// response code of [`check_start`] or of the draw, `TPM_RC_FAILURE`, and changes nothing.
 pub fn start_session(p: &mut Persist, params: &[u8], reply: &mut Buffer) -> Result<Session, u32>
-    requires room { HasRoom reply.old }
+    requires room { HasResponseRoom reply.old }
     ensures row { Starts result p.old p.new params.now reply.old reply.new }
     ensures most { OnOk result (length reply.new ≤ length reply.old + MOST_PARAMETER_BYTES) }
 {

@@ -16,7 +16,7 @@ use Rattle.effect_spec.specs.SessionAuths.{ResponseAuth, operand_name, response_
 use Rattle.effect_spec.specs.Effect.{RowOutcome, effect_failed, effect_in, effect_row, making_nothing, object_row, other_row, policy_row, silent}
 use Rattle.fx_sessions.specs.Views.{AuthorizesResponse}
 use Rattle.fx_table.specs.Kept.{can_draw_nonce, changes_kept}
-use Rattle.fx_table.specs.Views.{AuthorizedOutcome, FailsBy, FaultOrFailure}
+use Rattle.fx_table.specs.Views.{AuthorizedOutcome, FaultOrFailure, RowFails}
 use Rattle.fx_table.specs.declared.operands.RowOutcome.{RowOutcome as CallOutcome}
 use Rattle.fx_table.proofs.Ends.{can_authorize, cannot_authorize, response_auth_fails, row_fails}
 use Rattle.fx_table.proofs.Keeping.{place_left, rest_left}
@@ -150,7 +150,7 @@ pub kept_authorizes : (result : Result CallOutcome ℕ) (persist : Persist) (nam
     → shape.tag ≡ ST_SESSIONS → changes_kept shape.row.code ≡ true → can_draw_nonce persist named ≡ true
     → (let row = effect_row shape.row.code persist named.handles (drop auths.params bytes) in
     MatchResult result (λ done. AuthorizedOutcome persist named shape auths bytes row done persist_new named_new reply)
-    (λ code. FailsBy persist named shape auths bytes row code persist_new × (named_new ≡ named)))
+    (λ code. RowFails persist named shape auths bytes row code persist_new × (named_new ≡ named)))
     → (let row = effect_row shape.row.code persist named.handles (drop auths.params bytes) in
     MatchResult result (λ done. AuthorizedOutcome persist named shape auths bytes row done persist_new named_new reply)
     (λ code. (effect_in persist named shape auths bytes row ≡ effect_failed persist named code) × (persist_new ≡ persist) × (named_new ≡ named)))
@@ -164,7 +164,7 @@ kept_authorizes (Err code) persist named shape auths bytes persist_new named_new
 -- another row is taken back
 pub taken_back : (persist : Persist) (named : Operands) (shape : Shape) (auths : Auths) (bytes : List ℕ) (code : ℕ) (persist_new rewound : Persist) (place : ℕ)
     → changes_kept shape.row.code ≡ false → place ≡ persist.place → rewound ≡ record persist_new { place = place }
-    → FailsBy persist named shape auths bytes (effect_row shape.row.code persist named.handles (drop auths.params bytes)) code persist_new
+    → RowFails persist named shape auths bytes (effect_row shape.row.code persist named.handles (drop auths.params bytes)) code persist_new
     → (effect_in persist named shape auths bytes (effect_row shape.row.code persist named.handles (drop auths.params bytes)) ≡ effect_failed persist named code)
     × (rewound ≡ persist)
 taken_back persist named shape auths bytes code persist_new rewound place other place_is is (inl fails) = (

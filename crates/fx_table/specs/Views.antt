@@ -74,8 +74,8 @@ pub record AuthorizedOutcome (persist : Persist) (named : operands.Operands) (sh
   pub reply_is : reply ≡ begun_response shape (response_body shape.tag outcome.params authorized.answer)
 
 -- how a row, or the authorization of its response, failed with a code, and what is kept then
-abbrev pub FailsBy : Persist → operands.Operands → shapes.Shape → Auths → List ℕ → Result RowOutcome ℕ → ℕ → Persist → Type 0
-FailsBy persist named shape auths bytes row code persist_new =
+abbrev pub RowFails : Persist → operands.Operands → shapes.Shape → Auths → List ℕ → Result RowOutcome ℕ → ℕ → Persist → Type 0
+RowFails persist named shape auths bytes row code persist_new =
     ((row ≡ Err code) × (persist_new ≡ persist))
     ⊎ ((outcome : RowOutcome) × (row ≡ Ok outcome) × (response_auth_of persist named shape auths bytes outcome ≡ Err code)
     × (persist_new ≡ outcome.persist))
@@ -86,9 +86,9 @@ FaultOrFailure row code = (row ≡ Err code) ⊎ ((is_ok row ≡ true) × (code 
 
 -- leaves what the effect leaves, and its response but for its size; or where the effect fails, that is the error, and
 -- nothing is changed
-abbrev pub EndsAs : Result CommandOutcome ℕ → shapes.Shape → Effect → Persist → Persist → operands.Operands → operands.Operands
+abbrev pub LeavesEffect : Result CommandOutcome ℕ → shapes.Shape → Effect → Persist → Persist → operands.Operands → operands.Operands
     → List ℕ → Type 0
-EndsAs result shape effect persist persist_new named named_new reply_new = MatchResult result
+LeavesEffect result shape effect persist persist_new named named_new reply_new = MatchResult result
     (λ outcome. (body : List ℕ) × (reply_new ≡ response shape.tag RC_SUCCESS [] ++ body)
     × (effect ≡ record {
       persist = persist_new;
@@ -102,9 +102,9 @@ EndsAs result shape effect persist persist_new named named_new reply_new = Match
 abbrev pub effect_alone : Persist → operands.Operands → List ℕ → Effect
 effect_alone persist named reply = record { persist = persist; operands = named; outcome = operands.nothing_created; reply = reply }
 
--- the same as `EndsAs`, of such an effect
-abbrev pub EndsAlone : {A : Type 0} → Result A ℕ → shapes.Shape → Effect → Persist → Persist → operands.Operands → List ℕ → Type 0
-EndsAlone result shape effect persist persist_new named reply_new = MatchResult result
+-- the same as `LeavesEffect`, of such an effect
+abbrev pub LeavesEffectAlone : {A : Type 0} → Result A ℕ → shapes.Shape → Effect → Persist → Persist → operands.Operands → List ℕ → Type 0
+LeavesEffectAlone result shape effect persist persist_new named reply_new = MatchResult result
     (λ done. (body : List ℕ) × (reply_new ≡ response shape.tag RC_SUCCESS [] ++ body)
     × (effect ≡ effect_alone persist_new named (response shape.tag RC_SUCCESS body)))
     (λ code. (effect ≡ effect_failed persist named code) × (persist_new ≡ persist))

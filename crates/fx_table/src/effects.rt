@@ -3,7 +3,7 @@ ghost use Rattle.tab_spec.specs.Auths.{IsAuthWithin};
 ghost use Rattle.effect_spec.specs.Effect.{effect_in, effect_of, effect_row, handle_area};
 ghost use Rattle.effect_spec.specs.Operands.{StandFor, command_auth};
 ghost use Rattle.tab_spec.specs.Shape.{IsShape};
-ghost use Rattle.fx_table.specs.Views.{EndsAs, begun_response, effect_left, operands_of};
+ghost use Rattle.fx_table.specs.Views.{LeavesEffect, begun_response, effect_left, operands_of};
 
 use crate::authorization::check_authorization;
 use crate::operands::{CommandOutcome, Created, Operands};
@@ -70,7 +70,7 @@ fn run(
     requires operands { StandFor shape.now (operands_of ops.old) }
     requires params { auths.now.params ≤ length bytes.now }
     requires within { IsAuthWithin (length bytes.now) (command_auth auths.now) }
-    ensures { EndsAs result shape.now
+    ensures { LeavesEffect result shape.now
         (effect_of persist.old (operands_of ops.old) shape.now auths.now bytes.now)
         persist.old persist.new (operands_of ops.old) (operands_of ops.new) reply.new }
 {
@@ -98,7 +98,7 @@ fn run_without_sessions(
     requires params { auths.now.params ≤ length bytes.now }
     requires tag { shape.now.tag ≢ ST_SESSIONS }
     requires begun { reply.old ≡ begun_response shape.now [] }
-    ensures { EndsAs result shape.now
+    ensures { LeavesEffect result shape.now
         (effect_in persist.old (operands_of ops.old) shape.now auths.now bytes.now
         (effect_row shape.now.row.code persist.old (operands_of ops.old).handles
         (drop auths.now.params bytes.now)))
@@ -127,7 +127,7 @@ fn run_with_sessions(
     requires within { IsAuthWithin (length bytes.now) (command_auth auths.now) }
     requires tag { shape.now.tag ≡ ST_SESSIONS }
     requires begun { reply.old ≡ begun_response shape.now [] }
-    ensures { EndsAs result shape.now
+    ensures { LeavesEffect result shape.now
         (effect_in persist.old (operands_of ops.old) shape.now auths.now bytes.now
         (effect_row shape.now.row.code persist.old (operands_of ops.old).handles
         (drop auths.now.params bytes.now)))

@@ -1,7 +1,7 @@
 ghost use Rattle.std.specs.Prelude.{◌+◌, ◌≤◌, length, OnOk};
 ghost use Rattle.effect_spec.specs.declared.TheConstants.{MOST_PARAMETER_BYTES};
 ghost use Rattle.effect_spec.specs.Effect.{item_row, object_row};
-ghost use Rattle.effect_spec.specs.Rows.{HasRoom, ChangesAndAppends};
+ghost use Rattle.effect_spec.specs.Rows.{HasResponseRoom, ChangesAndAppends};
 ghost use Rattle.tab_values.specs.Views.{object_of};
 ghost use Rattle.fx_table.specs.Views.{LeavesOutcome};
 
@@ -21,7 +21,7 @@ pub(crate) fn object_row(
     params: &[u8],
     reply: &mut Buffer,
 ) -> Result<RowOutcome, u32>
-    requires room { HasRoom reply.old }
+    requires room { HasResponseRoom reply.old }
     ensures row { LeavesOutcome result (object_row code persist.old (object_of item.now) params.now)
         persist.old persist.new reply.old reply.new }
     ensures most { OnOk result (length reply.new ≤ length reply.old + MOST_PARAMETER_BYTES) }
@@ -42,7 +42,7 @@ fn item_row(
     params: &[u8],
     reply: &mut Buffer,
 ) -> Result<(), u32>
-    requires room { HasRoom reply.old }
+    requires room { HasResponseRoom reply.old }
     ensures row { ChangesAndAppends result
         (item_row code persist.old (object_of item.now) params.now)
         persist.old persist.new reply.old reply.new }

@@ -1,7 +1,7 @@
 ghost use Rattle.std.specs.Prelude.{◌+◌, ◌≤◌, length, OnOk};
 ghost use Rattle.effect_spec.specs.declared.TheConstants.{MOST_PARAMETER_BYTES};
 ghost use Rattle.effect_spec.specs.Effect.{policy_row};
-ghost use Rattle.effect_spec.specs.Rows.{HasRoom, ChangesAndAppends};
+ghost use Rattle.effect_spec.specs.Rows.{HasResponseRoom, ChangesAndAppends};
 ghost use Rattle.tab_values.specs.Views.{session_of};
 
 use fx_policy::{
@@ -26,7 +26,7 @@ pub(crate) fn policy_row(
     params: &[u8],
     reply: &mut Buffer,
 ) -> Result<(), u32>
-    requires room { HasRoom reply.old }
+    requires room { HasResponseRoom reply.old }
     ensures row { ChangesAndAppends result
         (policy_row code persist.now (session_of s.old) name.now params.now)
         (session_of s.old) (session_of s.new) reply.old reply.new }

@@ -10,7 +10,7 @@ ghost use Rattle.effect_spec.specs.Rows.{IsRefusedAs};
 ghost use Rattle.effect_spec.specs.SessionAuths.{ResponseAuth, response_auth, rp_hash};
 ghost use Rattle.fx_sessions.specs.Views.{entity_of};
 ghost use Rattle.fx_table.specs.Kept.{can_draw_nonce, changes_kept};
-ghost use Rattle.fx_table.specs.Views.{AuthorizedOutcome, FailsBy, FaultOrFailure, begun_response};
+ghost use Rattle.fx_table.specs.Views.{AuthorizedOutcome, FaultOrFailure, RowFails, begun_response};
 ghost use Rattle.fx_table.specs.Views.{left_by, operands_of};
 
 use crate::authorization::entity_of;
@@ -90,7 +90,7 @@ fn row_and_response_auth(
         (drop auths.now.params bytes.now) in
         MatchResult result (λ done. AuthorizedOutcome persist.old (operands_of ops.old) shape.now
         auths.now bytes.now row done persist.new (operands_of ops.new) reply.new)
-        (λ code. FailsBy persist.old (operands_of ops.old) shape.now auths.now bytes.now row code
+        (λ code. RowFails persist.old (operands_of ops.old) shape.now auths.now bytes.now row code
         persist.new × (operands_of ops.new ≡ operands_of ops.old)) }
 {
     let entity = entity_of(persist, &ops.first);

@@ -5,7 +5,7 @@ ghost use Rattle.effect_spec.specs.Effect.{effect_row, changing_policy, policy_r
 ghost use Rattle.tab_values.specs.Views.{session_of};
 ghost use Rattle.tab_spec.specs.declared.TheConstants.{CC_PCR_EXTEND, PCRS};
 ghost use Rattle.effect_spec.specs.Operands.{StandFor};
-ghost use Rattle.effect_spec.specs.Rows.{HasRoom, ChangesAndAppends};
+ghost use Rattle.effect_spec.specs.Rows.{HasResponseRoom, ChangesAndAppends};
 ghost use Rattle.tab_spec.specs.Shape.{IsShape};
 ghost use Rattle.fx_table.specs.Views.{LeavesOutcome, operands_of};
 
@@ -33,7 +33,7 @@ pub(crate) fn get_random(
     params: &[u8],
     reply: &mut Buffer,
 ) -> Result<(), u32>
-    requires room { HasRoom reply.old }
+    requires room { HasResponseRoom reply.old }
     ensures row { ChangesAndAppends result (random_row persist.old params.now)
         persist.old persist.new reply.old reply.new }
     ensures most { OnOk result (length reply.new ≤ length reply.old + 2000) }
@@ -76,7 +76,7 @@ pub(crate) fn row(
 ) -> Result<RowOutcome, u32>
     requires shape { IsShape shape.now }
     requires operands { StandFor shape.now (operands_of ops.now) }
-    requires room { HasRoom reply.old }
+    requires room { HasResponseRoom reply.old }
     ensures row { LeavesOutcome result
         (effect_row shape.now.row.code persist.old (operands_of ops.now).handles params.now)
         persist.old persist.new reply.old reply.new }
@@ -106,7 +106,7 @@ fn changed_policy(
     params: &[u8],
     reply: &mut Buffer,
 ) -> Result<RowOutcome, u32>
-    requires room { HasRoom reply.old }
+    requires room { HasResponseRoom reply.old }
     ensures row { LeavesOutcome result
         (changing_policy persist.now
         (policy_row code persist.now (session_of session.now) name.now params.now))
@@ -131,7 +131,7 @@ fn other_row(
     reply: &mut Buffer,
 ) -> Result<RowOutcome, u32>
     requires pcr { code ≡ CC_PCR_EXTEND → first < PCRS }
-    requires room { HasRoom reply.old }
+    requires room { HasResponseRoom reply.old }
     ensures row { LeavesOutcome result (other_row code persist.old first second params.now)
         persist.old persist.new reply.old reply.new }
     ensures most { OnOk result (length reply.new ≤ length reply.old + MOST_PARAMETER_BYTES) }
@@ -158,7 +158,7 @@ pub(crate) fn row_with(
     reply: &mut Buffer,
 ) -> Result<(), u32>
     requires pcr { code ≡ CC_PCR_EXTEND → first < PCRS }
-    requires room { HasRoom reply.old }
+    requires room { HasResponseRoom reply.old }
     ensures row { ChangesAndAppends result (row_with code persist.old first second params.now)
         persist.old persist.new reply.old reply.new }
     ensures most { OnOk result (length reply.new ≤ length reply.old + MOST_PARAMETER_BYTES) }

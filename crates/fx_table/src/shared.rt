@@ -10,7 +10,7 @@ ghost use Rattle.effect_spec.specs.Effect as effects;
 ghost use Rattle.effect_spec.specs.Effect.{authorization_fault, effect_of};
 ghost use Rattle.effect_spec.specs.Operands.{command_auth, plain_operands};
 ghost use Rattle.effect_spec.specs.Rows.{PassesUnless};
-ghost use Rattle.fx_table.specs.Views.{EndsAlone, begun_response, creates, effect_alone};
+ghost use Rattle.fx_table.specs.Views.{LeavesEffectAlone, begun_response, creates, effect_alone};
 ghost use Rattle.fx_table.specs.Views.{plain_handle, shared_row};
 
 use crate::authorization::auth_value;
@@ -72,7 +72,7 @@ fn run(
     requires creates { creates shape.now.row.code ≡ false }
     requires params { auths.now.params ≤ length bytes.now }
     requires within { IsAuthWithin (length bytes.now) (command_auth auths.now) }
-    ensures { EndsAlone result shape.now
+    ensures { LeavesEffectAlone result shape.now
         (effect_of persist.old (plain_operands shape.now) shape.now auths.now bytes.now)
         persist.old persist.new (plain_operands shape.now) reply.new }
 {
@@ -134,7 +134,7 @@ fn run_without_password(
     requires params { auths.now.params ≤ length bytes.now }
     requires tag { shape.now.tag ≢ ST_SESSIONS }
     requires begun { reply.old ≡ begun_response shape.now [] }
-    ensures { EndsAlone result shape.now
+    ensures { LeavesEffectAlone result shape.now
         (shared_row persist.old shape.now auths.now bytes.now first second)
         persist.old persist.new (plain_operands shape.now) reply.new }
 {
@@ -156,7 +156,7 @@ fn run_with_password(
     requires params { auths.now.params ≤ length bytes.now }
     requires tag { shape.now.tag ≡ ST_SESSIONS }
     requires begun { reply.old ≡ begun_response shape.now [] }
-    ensures { EndsAlone result shape.now
+    ensures { LeavesEffectAlone result shape.now
         (shared_row persist.old shape.now auths.now bytes.now first second)
         persist.old persist.new (plain_operands shape.now) reply.new }
 {

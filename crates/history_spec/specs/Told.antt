@@ -37,14 +37,14 @@ ToldBy (Some e) limit before command reply = IsEntryOf command reply e
 ToldBy None limit before command reply = IsToldMemory limit.contexts command reply ⊎ IsToldFull limit.bytes before command reply
 
 -- within these limits the client may get this reply to its command of this number
-abbrev pub Told : List Entry → Limits → ℕ → ℕ → List ℕ → List ℕ → Type 0
-Told history limit client number command reply =
+abbrev pub MayBeTold : List Entry → Limits → ℕ → ℕ → List ℕ → List ℕ → Type 0
+MayBeTold history limit client number command reply =
     ToldBy (entry_of history client number) limit (part_before client number history) command reply
 
 abbrev pub AnswersFrom : List Entry → Limits → ℕ → ℕ → List (List ℕ) → List ℕ → Type 0
 AnswersFrom history limit client number [] bytes = bytes ≡ []
 AnswersFrom history limit client number (command ∷ commands) bytes =
-    (reply : List ℕ) × (more : List ℕ) × (bytes ≡ reply ++ more) × Told history limit client number command reply
+    (reply : List ℕ) × (more : List ℕ) × (bytes ≡ reply ++ more) × MayBeTold history limit client number command reply
     × AnswersFrom history limit client (number + 1) commands more
 
 -- the bytes are one such reply for each command, one after another

@@ -7,7 +7,7 @@ ghost use Rattle.history_spec.specs.Entry.{Entry, HasRoom, HasRoomForClient, cli
 ghost use Rattle.history_spec.specs.Entry.{close_entry, command_entry};
 ghost use Rattle.history_spec.specs.Entry.{kept, open_entry, own, part_before, reserved};
 ghost use Rattle.history_spec.specs.AuditText.{audit_line, audit_text};
-ghost use Rattle.history_spec.specs.Told.{Answers, Told};
+ghost use Rattle.history_spec.specs.Told.{Answers, MayBeTold};
 ghost use Rattle.history_spec.specs.Examples.{canceled_before, eight_reply, failed_entry};
 ghost use Rattle.history_spec.specs.Examples.{four_reply, full_reply, get_random, load_object};
 ghost use Rattle.history_spec.specs.Examples.{memory_reply};
@@ -25,8 +25,8 @@ fn a_history_has_entries_and_bytes()
 
 // A client is told the replies of its entries, in their order.
 fn a_client_is_told_its_entry()
-    ensures entry { Told two_clients (limit_of 538) 0 2 (get_random 4) four_reply }
-    ensures other { Told two_clients (limit_of 538) 0 2 (get_random 4) memory_reply → ⊥ }
+    ensures entry { MayBeTold two_clients (limit_of 538) 0 2 (get_random 4) four_reply }
+    ensures other { MayBeTold two_clients (limit_of 538) 0 2 (get_random 4) memory_reply → ⊥ }
     ensures in_order { Answers two_clients (limit_of 538) 0 (get_random 8 ∷ get_random 4 ∷ [])
         (eight_reply ++ four_reply) }
 {}
@@ -34,18 +34,18 @@ fn a_client_is_told_its_entry()
 // Only a command without an entry is told that memory lacked, and that only where it makes an
 // object.
 fn memory_lacks_for_objects_alone()
-    ensures no_entry { Told two_clients (limit_of 538) 0 3 load_object memory_reply }
-    ensures makes_none { Told two_clients (limit_of 538) 0 3 (get_random 4) memory_reply → ⊥ }
+    ensures no_entry { MayBeTold two_clients (limit_of 538) 0 3 load_object memory_reply }
+    ensures makes_none { MayBeTold two_clients (limit_of 538) 0 3 (get_random 4) memory_reply → ⊥ }
     // A context with the handle 0x80000002 makes an object on other TPMs alone.
-    ensures no_object { Told two_clients (limit_of 538) 0 3 load_st_clear memory_reply → ⊥ }
-    ensures tpm { Told two_clients (tpm_limit_of 538) 0 3 load_st_clear memory_reply }
+    ensures no_object { MayBeTold two_clients (limit_of 538) 0 3 load_st_clear memory_reply → ⊥ }
+    ensures tpm { MayBeTold two_clients (tpm_limit_of 538) 0 3 load_st_clear memory_reply }
 {}
 
 // Only a command without an entry is told that the journal lacks room: that was told after the
 // history up to the client's next entry.
 fn a_journal_is_told_to_be_full()
-    ensures full { Told two_clients (limit_of 4709) 0 3 (get_random 4) full_reply }
-    ensures not_full { Told two_clients (limit_of 4710) 0 3 (get_random 4) full_reply → ⊥ }
+    ensures full { MayBeTold two_clients (limit_of 4709) 0 3 (get_random 4) full_reply }
+    ensures not_full { MayBeTold two_clients (limit_of 4710) 0 3 (get_random 4) full_reply → ⊥ }
     ensures full_before { part_before 0 1 two_clients ≡ take 4 two_clients }
 {}
 

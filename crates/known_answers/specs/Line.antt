@@ -5,7 +5,7 @@ use Rattle.hex.specs.Hex.{decode_of}
 use Rattle.tab_spec.specs.declared.numbers.Numbers.{Numbers}
 use Rattle.tab_spec.specs.Persist.{fresh_persist}
 use Rattle.tab_spec.specs.Numbers.{profile_numbers}
-use Rattle.device_words.specs.Words.{AreNamed, first_word, is_mark, other_words}
+use Rattle.device_words.specs.Words.{NumbersAreNamed, first_word, is_mark, other_words}
 use Rattle.device_spec.specs.Slots.{SlotState, new_slots, slot_step}
 use Rattle.tab_spec.specs.Commands.{startup_command}
 
@@ -27,10 +27,11 @@ started_state numbers seed = (slot_step (new_slots numbers (fresh_persist seed))
 
 -- the line names a seed, and after it the device is a new one of the profile with that seed; or it names numbers, and the device
 -- is a new one of these with the seed that was named last. It is started
-pub record Begins (line seed new_seed : List ℕ) (after : SlotState) (agrees : Bool) : Type 0 where
+pub record BeginsDevice (line seed new_seed : List ℕ) (after : SlotState) (agrees : Bool)
+    : Type 0 where
   pub numbers : Numbers
   pub named : MatchBool (is_seed line) ((decode_of (other_words line) ≡ Ok new_seed) × (numbers ≡ profile_numbers))
-      (AreNamed 32 (other_words line) numbers × (new_seed ≡ seed))
+      (NumbersAreNamed 32 (other_words line) numbers × (new_seed ≡ seed))
   pub state_is : after ≡ started_state numbers new_seed
   pub agrees_is : agrees ≡ true
 
@@ -44,6 +45,6 @@ pub record Compares (line : List ℕ) (before after : SlotState) (agrees : Bool)
   pub agrees_is : agrees ≡ bytes_eq (slot_step before command).1 known
 
 -- a line was played on a device; these are the seeds that were named last, before and after it
-pub record IsPlayed (line seed new_seed : List ℕ) (before after : SlotState) (agrees : Bool) : Type 0 where
+pub record IsPlayedOnDevice (line seed new_seed : List ℕ) (before after : SlotState) (agrees : Bool) : Type 0 where
   pub words : HasTwoWords line
-  pub done : MatchBool (is_pair line) (Compares line before after agrees × (new_seed ≡ seed)) (Begins line seed new_seed after agrees)
+  pub done : MatchBool (is_pair line) (Compares line before after agrees × (new_seed ≡ seed)) (BeginsDevice line seed new_seed after agrees)

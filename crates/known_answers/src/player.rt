@@ -4,7 +4,7 @@ ghost use Rattle.tab_spec.specs.Count.{one_more};
 ghost use Rattle.tab_spec.specs.Frame.{is_frame};
 ghost use Rattle.tab_spec.specs.Numbers.{profile_numbers};
 ghost use Rattle.device_spec.specs.Slots.{slot_step};
-ghost use Rattle.known_answers.specs.Line.{IsPlayed, is_pair, started_state};
+ghost use Rattle.known_answers.specs.Line.{IsPlayedOnDevice, is_pair, started_state};
 
 use anyhow::{Context, ensure};
 use device_memory::MemoryDevice;
@@ -76,7 +76,7 @@ impl Player {
     pub fn play(&mut self, line: &str) -> anyhow::Result<bool>
         // Whether the reply is the known one, and the device's state after it.
         ensures played { IfOk result (λ agrees.
-            IsPlayed line.now self.old.seed self.new.seed
+            IsPlayedOnDevice line.now self.old.seed self.new.seed
             self.old.device.state self.new.device.state agrees) }
 
         // The line is counted, and a pair among those that agree or among those that differ.

@@ -6,8 +6,8 @@ use Rattle.accept_loop.specs.Connections.{AreFirst}
 use Rattle.accept_loop.proofs.Linking.{first_same, none_left}
 use Rattle.link_pool.specs.declared.turn.Stage.{Stage}
 use Rattle.link_pool.specs.declared.turn.Stage.TheVariants as stages
-use Rattle.link_pool.specs.Starts.{Start, start_of}
-use Rattle.link_pool.specs.Turns.{HasCome, Keeps, is_over}
+use Rattle.link_pool.specs.Starts.{PoolStart, start_of}
+use Rattle.link_pool.specs.Turns.{AcceptedSince, HasCome, is_over}
 
 -- ---- what an acceptor hands out
 
@@ -34,7 +34,7 @@ none_taken (Some (next ∷ links)) coming_new is = absurd (let some : None ≡ S
 
 -- ---- the turn
 
-module _ {L : Type 0} (start : Start L) where
+module _ {L : Type 0} (start : PoolStart L) where
   going : (stage : Stage) (faults left : ℕ) (coming : Option (List L)) → is_over stage ≡ false → HasCome stage start.faults faults left coming → faults ≡ start.faults
   going stages.Going faults left coming not_over come = come
   going stages.Over faults left coming not_over come = absurd (true≢false not_over)
@@ -46,8 +46,9 @@ module _ {L : Type 0} (start : Start L) where
   still_going stages.Failed faults left coming not_over same = absurd (true≢false not_over)
 
   -- as many were accepted as were asked for
-  pub keeps_enough : (name faults : ℕ) (coming : Option (List L)) (left : ℕ) (stage : Stage) (accepted : List L) → Keeps start name faults coming left stage accepted
-      → is_over stage ≡ false → left ≡ 0 → Keeps start name faults coming left stages.Over accepted
+  pub keeps_enough : (name faults : ℕ) (coming : Option (List L)) (left : ℕ) (stage : Stage) (accepted : List L) → AcceptedSince start name faults coming left stage accepted
+      → is_over stage ≡ false → left ≡ 0
+      → AcceptedSince start name faults coming left stages.Over accepted
   keeps_enough name faults coming left stage accepted k not_over enough = record {
     same = k.same;
     first = k.first;
@@ -57,8 +58,8 @@ module _ {L : Type 0} (start : Start L) where
 
   -- one more was accepted
   pub keeps_more : (name name_new faults faults_new : ℕ) (coming coming_new : Option (List L)) (left left_new : ℕ) (stage : Stage) (accepted accepted_new : List L) (found : Option L) (link : L)
-      → Keeps start name faults coming left stage accepted → is_over stage ≡ false → (left ≡ 0 → ⊥) → found ≡ Some link → Accepted coming coming_new found → faults_new ≡ faults → name_new ≡ name
-      → accepted_new ≡ accepted ++ link ∷ [] → left_new ≡ left - 1 → Keeps start name_new faults_new coming_new left_new stage accepted_new
+      → AcceptedSince start name faults coming left stage accepted → is_over stage ≡ false → (left ≡ 0 → ⊥) → found ≡ Some link → Accepted coming coming_new found → faults_new ≡ faults → name_new ≡ name
+      → accepted_new ≡ accepted ++ link ∷ [] → left_new ≡ left - 1 → AcceptedSince start name_new faults_new coming_new left_new stage accepted_new
   keeps_more name name_new faults faults_new coming coming_new left left_new stage accepted accepted_new found link k not_over some is handed quiet named more fewer = record {
     same = named ∙ k.same;
     first = subst (AreFirst start.coming coming_new) (sym more) (first_push start.coming coming coming_new accepted link k.first (subst (Accepted coming coming_new) is handed));
@@ -70,8 +71,8 @@ module _ {L : Type 0} (start : Start L) where
 
   -- none is left
   pub keeps_last : (name name_new faults faults_new : ℕ) (coming coming_new : Option (List L)) (left : ℕ) (stage : Stage) (accepted : List L) (found : Option L)
-      → Keeps start name faults coming left stage accepted → is_over stage ≡ false → found ≡ None → Accepted coming coming_new found → faults_new ≡ faults → name_new ≡ name
-      → Keeps start name_new faults_new coming_new left stages.Over accepted
+      → AcceptedSince start name faults coming left stage accepted → is_over stage ≡ false → found ≡ None → Accepted coming coming_new found → faults_new ≡ faults → name_new ≡ name
+      → AcceptedSince start name_new faults_new coming_new left stages.Over accepted
   keeps_last name name_new faults faults_new coming coming_new left stage accepted found k not_over is handed quiet named =
       let none = subst (Accepted coming coming_new) is handed in record {
         same = named ∙ k.same;
@@ -82,8 +83,8 @@ module _ {L : Type 0} (start : Start L) where
 
   -- the acceptor failed
   pub keeps_failed : (name name_new faults faults_new : ℕ) (coming coming_new : Option (List L)) (left : ℕ) (stage : Stage) (accepted : List L)
-      → Keeps start name faults coming left stage accepted → is_over stage ≡ false → coming_new ≡ coming → Rose faults faults_new → name_new ≡ name
-      → Keeps start name_new faults_new coming_new left stages.Failed accepted
+      → AcceptedSince start name faults coming left stage accepted → is_over stage ≡ false → coming_new ≡ coming → Rose faults faults_new → name_new ≡ name
+      → AcceptedSince start name_new faults_new coming_new left stages.Failed accepted
   keeps_failed name name_new faults faults_new coming coming_new left stage accepted k not_over same rose named = record {
     same = named ∙ k.same;
     first = subst (λ (c : Option (List L)). AreFirst start.coming c accepted) (sym same) k.first;
@@ -92,11 +93,12 @@ module _ {L : Type 0} (start : Start L) where
   }
 
 -- nobody was accepted yet
-pub keeps_first : {L : Type 0} (start : Start L) (coming : Option (List L)) (faults name most : ℕ) (accepted : List L) → start ≡ start_of coming faults name most → accepted ≡ []
-    → Keeps start name faults coming most stages.Going accepted
+pub keeps_first : {L : Type 0} (start : PoolStart L) (coming : Option (List L)) (faults name most : ℕ) (accepted : List L) → start ≡ start_of coming faults name most → accepted ≡ []
+    → AcceptedSince start name faults coming most stages.Going accepted
 keeps_first {L} start coming faults name most accepted begun none =
-    subst (λ (s : Start L). Keeps s name faults coming most stages.Going accepted) (sym begun)
-    (subst (λ (l : List L). Keeps (start_of coming faults name most) name faults coming most stages.Going l) (sym none) (record {
+    subst (λ (s : PoolStart L). AcceptedSince s name faults coming most stages.Going accepted)
+    (sym begun)
+    (subst (λ (l : List L). AcceptedSince (start_of coming faults name most) name faults coming most stages.Going l) (sym none) (record {
       same = refl;
       first = first_same coming coming refl;
       count = omega arith;
@@ -104,6 +106,6 @@ keeps_first {L} start coming faults name most accepted begun none =
     }))
 
 -- what is left is no more than what was asked for
-pub left_within : {L : Type 0} (start : Start L) (coming coming_old : Option (List L)) (faults faults_old name name_old most left : ℕ) (stage : Stage) (accepted : List L) → start ≡ start_of coming_old faults_old name_old most
-    → Keeps start name faults coming left stage accepted → left ≤ most
-left_within {L} start coming coming_old faults faults_old name name_old most left stage accepted begun k = omega (arith, k.count, ap (λ (s : Start L). s.most) begun)
+pub left_within : {L : Type 0} (start : PoolStart L) (coming coming_old : Option (List L)) (faults faults_old name name_old most left : ℕ) (stage : Stage) (accepted : List L) → start ≡ start_of coming_old faults_old name_old most
+    → AcceptedSince start name faults coming left stage accepted → left ≤ most
+left_within {L} start coming coming_old faults faults_old name name_old most left stage accepted begun k = omega (arith, k.count, ap (λ (s : PoolStart L). s.most) begun)

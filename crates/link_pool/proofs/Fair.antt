@@ -9,7 +9,7 @@ use lib.ListN.{get_elem?}
 use Rattle.atomic_table.proofs.Lists.{at_set, at_snoc}
 use Rattle.broker_lock.proofs.Beginnings.{drop_front, sum_at, sum_at_set}
 use Rattle.crossbeam_channel.specs.Fifo.{Pushes, Pops, Forks, Merges}
-use Rattle.link_pool.specs.Hands.{AreIdle, HandView, IsFair, Rests, Takes, both_of, first_view, handed_on, kept_back, spent_view, with_turn, without_turn}
+use Rattle.link_pool.specs.Hands.{AreIdle, HandView, HasNoTurn, IsFair, Takes, both_of, first_view, handed_on, kept_back, spent_view, with_turn, without_turn}
 
 -- ---- sums over lists that are read by number
 
@@ -87,7 +87,7 @@ module _ {T L : Type 0} (accepted_of : T → List L) (kept : T → Type 0) where
   )
 
   -- the turn is taken
-  pub takes_fair : (p : ℕ) (v : HandView L) → Rests v → Pops Fair p v (Takes accepted_of kept v)
+  pub takes_fair : (p : ℕ) (v : HandView L) → HasNoTurn v → Pops Fair p v (Takes accepted_of kept v)
   takes_fair p v rests x items views r at = let w = with_turn v (accepted_of x) in
       let held : (h : L → ℕ) → sum_by h v.held ≡ 0 = λ h. ap (sum_by h) rests.none in (
         w,
@@ -155,8 +155,8 @@ module _ {T L : Type 0} (accepted_of : T → List L) (kept : T → Type 0) where
       (subst (λ (u : HandView L). IsPrefix u.held (accepted_of x)) (sym same) (subst (λ (y : T). IsPrefix v_old.held (accepted_of y)) (sym turn) more))
       (subst kept (sym turn) x_kept)
 
-  pub takes_same : (p : ℕ) (v v_old : HandView L) → v ≡ v_old → Rests v_old → Pops Fair p v (Takes accepted_of kept v)
-  takes_same p v v_old same rests = takes_fair p v (subst Rests (sym same) rests)
+  pub takes_same : (p : ℕ) (v v_old : HandView L) → v ≡ v_old → HasNoTurn v_old → Pops Fair p v (Takes accepted_of kept v)
+  takes_same p v v_old same rests = takes_fair p v (subst HasNoTurn (sym same) rests)
 
   pub took_same : (v v_old : HandView L) (x : T) (w : HandView L) → v ≡ v_old → Takes accepted_of kept v x w → Takes accepted_of kept v_old x w
   took_same v v_old x w same took = subst (λ (u : HandView L). Takes accepted_of kept u x w) same took

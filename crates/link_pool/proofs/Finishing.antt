@@ -8,13 +8,14 @@ use Rattle.tab_spec.specs.Count.{Rose}
 use Rattle.history_spec.specs.Entry.{Entry, clients_of, own}
 use Rattle.broker_lock.specs.Known.{Fixed, IsLegalOver, Origin, knows}
 use Rattle.broker_lock.specs.Pass.{PassView}
-use Rattle.broker_lock.specs.Pass.{Ends as EndsLock}
+use Rattle.broker_lock.specs.Pass.{PassEnds as EndsLock}
 use Rattle.broker_lock.proofs.Knowing.{own_none}
 use Rattle.cancel_words.specs.View.{WordView}
 use Rattle.connection_core.specs.declared.ends.Ending.{Ending}
 use Rattle.accept_loop.specs.declared.serving.AcceptError.{AcceptError}
 use Rattle.accept_loop.specs.declared.serving.AcceptError.TheVariants as errors
-use Rattle.accept_loop.specs.Connections.{Ends, HasPerhapsClient, ends_of, is_of, links_of}
+use Rattle.accept_loop.specs.Connections.{ConnectionEnds, HasPerhapsClient, ends_of, is_of}
+use Rattle.accept_loop.specs.Connections.{links_of}
 use Rattle.accept_loop.proofs.Closing.{client_left, is_this}
 use Rattle.accept_loop.proofs.Linking.{as_count, first_same, link_stays, links-cons}
 use Rattle.accept_loop.proofs.Present.{nobody_left, times_after, times_of}
@@ -23,10 +24,10 @@ use Rattle.link_pool.specs.declared.turn.Stage.TheVariants as stages
 use Rattle.link_pool.specs.Hands.{HandView, WeighAlike, with_turn, without_turn}
 use Rattle.link_pool.specs.Outcomes.{outcome_of}
 use Rattle.link_pool.specs.declared.done.Service.{Service}
-use Rattle.link_pool.specs.Servers.{HasEnded, IsServer, Leaves, ServesAll}
+use Rattle.link_pool.specs.Servers.{HasEnded, HasParts, IsServer, PoolServesAll}
 use Rattle.link_pool.specs.Services.{IsEnough, IsServed, client_of, given_of, is_lacking}
-use Rattle.link_pool.specs.Starts.{Start, start_of}
-use Rattle.link_pool.specs.Turns.{HasCome, IsAll, Keeps, is_over}
+use Rattle.link_pool.specs.Starts.{PoolStart, start_of}
+use Rattle.link_pool.specs.Turns.{AcceptedSince, HasCome, IsAll, is_over}
 
 -- what accepting comes to
 abbrev Outcome : Type 0
@@ -81,10 +82,10 @@ module _ {S K : Type 0} (legal : Origin → List Entry → Type 0) (left : S →
   abbrev Done : Type 0
   Done = Service S K
 
-  abbrev before : Done → Ends
+  abbrev before : Done → ConnectionEnds
   before s = ends_of left written source_faults sink_faults s.given.value.0 s.given.value.1
 
-  abbrev after : Done → Ends
+  abbrev after : Done → ConnectionEnds
   after s = ends_of left written source_faults sink_faults s.link.source s.link.sink
 
   abbrev done_of : Done → ℕ
@@ -106,7 +107,7 @@ module _ {S K : Type 0} (legal : Origin → List Entry → Type 0) (left : S →
   -- ---- the turn is taken at the end
 
   -- nobody more is accepted
-  pub has_ended : (hand : HandView Link) (first pass : PassView) (accepted : List Link) (served : List Done) (lacked : Bool) (first_hand : HandView Link) → Is hand pass served lacked [] → Leaves first_hand hand first pass 0
+  pub has_ended : (hand : HandView Link) (first pass : PassView) (accepted : List Link) (served : List Done) (lacked : Bool) (first_hand : HandView Link) → Is hand pass served lacked [] → HasParts first_hand hand first pass 0
       → WeighAlike hand.mine accepted → HasEnded legal is_link_of given_of client_of is_lacking first pass accepted served lacked
   has_ended hand first pass accepted served lacked first_hand s leaves alike = record {
     lock_is = leaves.lock_is;
@@ -167,10 +168,10 @@ module _ {S K : Type 0} (legal : Origin → List Entry → Type 0) (left : S →
 
   -- ---- all that came were served
 
-  ended_all : (start : Start Link) (name faults : ℕ) (coming : Option (List Link)) (most : ℕ) (fixed : Fixed) (wrong : Bool) (history : List Entry) (left_over count : ℕ) (stage : Stage) (accepted : List Link) (served : List Done) (lacked : Bool)
-      → Keeps start name faults coming left_over stage accepted → start.most ≡ most → is_over stage ≡ true → IsLegalOver legal fixed.base history → All (is_link_of fixed wrong history) served
+  ended_all : (start : PoolStart Link) (name faults : ℕ) (coming : Option (List Link)) (most : ℕ) (fixed : Fixed) (wrong : Bool) (history : List Entry) (left_over count : ℕ) (stage : Stage) (accepted : List Link) (served : List Done) (lacked : Bool)
+      → AcceptedSince start name faults coming left_over stage accepted → start.most ≡ most → is_over stage ≡ true → IsLegalOver legal fixed.base history → All (is_link_of fixed wrong history) served
       → ((client : ℕ) → links_of client_of client served ≡ cond (knows history client) 1 0) → WeighAlike (map given_of served) accepted → lacked ≡ list_any is_lacking served → count ≡ most - left_over
-      → ServesAll legal is_link_of given_of client_of is_lacking fixed fixed wrong history start.coming coming start.faults faults most (outcome_of stage) count lacked served
+      → PoolServesAll legal is_link_of given_of client_of is_lacking fixed fixed wrong history start.coming coming start.faults faults most (outcome_of stage) count lacked served
   ended_all start name faults coming most fixed wrong history left_over count stage accepted served lacked k most_is over was each clients once lacks is = record {
     fixed_is = refl;
     is_legal = was;
@@ -193,30 +194,30 @@ module _ {S K : Type 0} (legal : Origin → List Entry → Type 0) (left : S →
   }
 
   -- the same where the lock was closed, and the calls tell the rest
-  pub serves_all : (start : Start Link) (name faults : ℕ) (coming coming_old : Option (List Link)) (faults_old name_old most : ℕ) (first pass : PassView) (fixed fixed_new : Fixed) (wrong : Bool) (history : List Entry) (left_over count : ℕ) (stage : Stage)
+  pub serves_all : (start : PoolStart Link) (name faults : ℕ) (coming coming_old : Option (List Link)) (faults_old name_old most : ℕ) (first pass : PassView) (fixed fixed_new : Fixed) (wrong : Bool) (history : List Entry) (left_over count : ℕ) (stage : Stage)
       (accepted : List Link) (served : List Done) (lacked : Bool) (result : Outcome)
-      → start ≡ start_of coming_old faults_old name_old most → Keeps start name faults coming left_over stage accepted → is_over stage ≡ true
+      → start ≡ start_of coming_old faults_old name_old most → AcceptedSince start name faults coming left_over stage accepted → is_over stage ≡ true
       → HasEnded legal is_link_of given_of client_of is_lacking first pass accepted served lacked → first.fixed ≡ fixed → EndsLock pass history fixed_new wrong → count ≡ most - left_over → result ≡ outcome_of stage
-      → ServesAll legal is_link_of given_of client_of is_lacking fixed fixed_new wrong history coming_old coming faults_old faults most result count lacked served
+      → PoolServesAll legal is_link_of given_of client_of is_lacking fixed fixed_new wrong history coming_old coming faults_old faults most result count lacked served
   serves_all start name faults coming coming_old faults_old name_old most first pass fixed fixed_new wrong history left_over count stage accepted served lacked result begun k over ended same ends is told =
       let pass_fixed : pass.fixed ≡ fixed = ended.fixed_is ∙ same in
       let was : IsLegalOver legal fixed.base history = subst (λ (f : Fixed). IsLegalOver legal f.base history) pass_fixed (subst (λ (l : List Entry). IsLegalOver legal pass.fixed.base l) (sym ends.front) ended.known.is_legal) in
       let each : All (is_link_of fixed wrong history) served = all_rise fixed pass.wrong wrong history served ends.told
       (subst (λ (f : Fixed). All (is_link_of f pass.wrong history) served) pass_fixed (subst (λ (l : List Entry). All (is_link_of pass.fixed pass.wrong l) served) (sym ends.front) ended.known.each)) in
       let clients : (client : ℕ) → links_of client_of client served ≡ cond (knows history client) 1 0 = λ client. ended.known.clients client ∙ ap (λ (l : List Entry). as_count (knows l client)) (sym ends.known) in
-      let kept : Keeps (start_of coming_old faults_old name_old most) name faults coming left_over stage accepted = subst (λ (s : Start Link). Keeps s name faults coming left_over stage accepted) begun k in
-      subst (λ (r : Outcome). ServesAll legal is_link_of given_of client_of is_lacking fixed fixed_new wrong history coming_old coming faults_old faults most r count lacked served) (sym told)
-      (subst (λ (f : Fixed). ServesAll legal is_link_of given_of client_of is_lacking fixed f wrong history coming_old coming faults_old faults most (outcome_of stage) count lacked served) (sym (ends.fixed_is ∙ pass_fixed))
+      let kept : AcceptedSince (start_of coming_old faults_old name_old most) name faults coming left_over stage accepted = subst (λ (s : PoolStart Link). AcceptedSince s name faults coming left_over stage accepted) begun k in
+      subst (λ (r : Outcome). PoolServesAll legal is_link_of given_of client_of is_lacking fixed fixed_new wrong history coming_old coming faults_old faults most r count lacked served) (sym told)
+      (subst (λ (f : Fixed). PoolServesAll legal is_link_of given_of client_of is_lacking fixed f wrong history coming_old coming faults_old faults most (outcome_of stage) count lacked served) (sym (ends.fixed_is ∙ pass_fixed))
       (ended_all (start_of coming_old faults_old name_old most) name faults coming most fixed wrong history left_over count stage accepted served lacked kept refl over was each clients ended.once ended.lacked_is is))
 
   -- nobody was served, for want of memory
   pub serves_nobody : (fixed fixed_new : Fixed) (wrong : Bool) (history given : List Entry) (coming : Option (List Link)) (faults most : ℕ) (result : Outcome) (count : ℕ) (lacked : Bool) (served : List Done)
       → fixed_new ≡ fixed → history ≡ given → given ≡ [] → IsLegalOver legal fixed.base given → result ≡ Err errors.Memory → count ≡ 0 → lacked ≡ false → served ≡ []
-      → ServesAll legal is_link_of given_of client_of is_lacking fixed fixed_new wrong history coming coming faults faults most result count lacked served
+      → PoolServesAll legal is_link_of given_of client_of is_lacking fixed fixed_new wrong history coming coming faults faults most result count lacked served
   serves_nobody fixed fixed_new wrong history given coming faults most result count lacked served same is empty was memory nobody not_lacked none =
       let nothing : history ≡ [] = is ∙ empty in
-      subst (λ (l : List Done). ServesAll legal is_link_of given_of client_of is_lacking fixed fixed_new wrong history coming coming faults faults most result count lacked l) (sym none)
-      (subst (λ (r : Outcome). ServesAll legal is_link_of given_of client_of is_lacking fixed fixed_new wrong history coming coming faults faults most r count lacked []) (sym memory) (record {
+      subst (λ (l : List Done). PoolServesAll legal is_link_of given_of client_of is_lacking fixed fixed_new wrong history coming coming faults faults most result count lacked l) (sym none)
+      (subst (λ (r : Outcome). PoolServesAll legal is_link_of given_of client_of is_lacking fixed fixed_new wrong history coming coming faults faults most r count lacked []) (sym memory) (record {
         fixed_is = same;
         is_legal = subst (λ (l : List Entry). IsLegalOver legal fixed.base l) (sym is) was;
         served_is = record {
@@ -238,12 +239,12 @@ module _ {S K : Type 0} (legal : Origin → List Entry → Type 0) (left : S →
   -- the same of a value and an acceptor that calls tell in other words
   pub serves_as : (fixed fixed_new fixed_told : Fixed) (fixed_given : Fixed) (wrong wrong_told : Bool) (history told : List Entry) (coming coming_new coming_told : Option (List Link)) (faults faults_new faults_told most : ℕ) (result : Outcome) (count : ℕ) (lacked : Bool) (served : List Done)
       → fixed ≡ fixed_given → fixed_new ≡ fixed_told → wrong ≡ wrong_told → history ≡ told → coming_new ≡ coming_told → faults_new ≡ faults_told
-      → ServesAll legal is_link_of given_of client_of is_lacking fixed fixed_new wrong history coming coming_new faults faults_new most result count lacked served
-      → ServesAll legal is_link_of given_of client_of is_lacking fixed_given fixed_told wrong_told told coming coming_told faults faults_told most result count lacked served
+      → PoolServesAll legal is_link_of given_of client_of is_lacking fixed fixed_new wrong history coming coming_new faults faults_new most result count lacked served
+      → PoolServesAll legal is_link_of given_of client_of is_lacking fixed_given fixed_told wrong_told told coming coming_told faults faults_told most result count lacked served
   serves_as fixed fixed_new fixed_told fixed_given wrong wrong_told history told coming coming_new coming_told faults faults_new faults_told most result count lacked served f n w h c q all =
-      subst (λ (x : Fixed). ServesAll legal is_link_of given_of client_of is_lacking x fixed_told wrong_told told coming coming_told faults faults_told most result count lacked served) f
-      (subst (λ (x : Fixed). ServesAll legal is_link_of given_of client_of is_lacking fixed x wrong_told told coming coming_told faults faults_told most result count lacked served) n
-      (subst (λ (x : Bool). ServesAll legal is_link_of given_of client_of is_lacking fixed fixed_new x told coming coming_told faults faults_told most result count lacked served) w
-      (subst (λ (x : List Entry). ServesAll legal is_link_of given_of client_of is_lacking fixed fixed_new wrong x coming coming_told faults faults_told most result count lacked served) h
-      (subst (λ (x : Option (List Link)). ServesAll legal is_link_of given_of client_of is_lacking fixed fixed_new wrong history coming x faults faults_told most result count lacked served) c
-      (subst (λ (x : ℕ). ServesAll legal is_link_of given_of client_of is_lacking fixed fixed_new wrong history coming coming_new faults x most result count lacked served) q all)))))
+      subst (λ (x : Fixed). PoolServesAll legal is_link_of given_of client_of is_lacking x fixed_told wrong_told told coming coming_told faults faults_told most result count lacked served) f
+      (subst (λ (x : Fixed). PoolServesAll legal is_link_of given_of client_of is_lacking fixed x wrong_told told coming coming_told faults faults_told most result count lacked served) n
+      (subst (λ (x : Bool). PoolServesAll legal is_link_of given_of client_of is_lacking fixed fixed_new x told coming coming_told faults faults_told most result count lacked served) w
+      (subst (λ (x : List Entry). PoolServesAll legal is_link_of given_of client_of is_lacking fixed fixed_new wrong x coming coming_told faults faults_told most result count lacked served) h
+      (subst (λ (x : Option (List Link)). PoolServesAll legal is_link_of given_of client_of is_lacking fixed fixed_new wrong history coming x faults faults_told most result count lacked served) c
+      (subst (λ (x : ℕ). PoolServesAll legal is_link_of given_of client_of is_lacking fixed fixed_new wrong history coming coming_new faults x most result count lacked served) q all)))))

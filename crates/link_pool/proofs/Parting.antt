@@ -12,11 +12,11 @@ use Rattle.broker_lock.specs.Pass.{Joins, PassView}
 use Rattle.cancel_words.specs.View.{WordView}
 use Rattle.connection_core.specs.declared.ends.Ending.{Ending}
 use Rattle.connection_core.specs.Turns.{GoesOn}
-use Rattle.accept_loop.specs.Connections.{Ends, ends_of}
+use Rattle.accept_loop.specs.Connections.{ConnectionEnds, ends_of}
 use Rattle.accept_loop.specs.Passes.{Comes}
-use Rattle.link_pool.specs.Hands.{HandView, Rests, both_of, first_view, handed_on, kept_back, with_more, without_turn}
+use Rattle.link_pool.specs.Hands.{HandView, HasNoTurn, both_of, first_view, handed_on, kept_back, with_more, without_turn}
 use Rattle.link_pool.specs.declared.done.Service.{Service}
-use Rattle.link_pool.specs.Servers.{IsServer, Leaves, one_part}
+use Rattle.link_pool.specs.Servers.{HasParts, IsServer, one_part}
 use Rattle.link_pool.specs.Services.{IsServed, client_of, given_of, is_lacking}
 use Rattle.link_pool.proofs.Together.{knows_both, knows_nobody, knows_one, knows_still}
 
@@ -27,10 +27,10 @@ module _ {S K : Type 0} (legal : Origin → List Entry → Type 0) (left : S →
   abbrev Done : Type 0
   Done = Service S K
 
-  abbrev before : Done → Ends
+  abbrev before : Done → ConnectionEnds
   before s = ends_of left written source_faults sink_faults s.given.value.0 s.given.value.1
 
-  abbrev after : Done → Ends
+  abbrev after : Done → ConnectionEnds
   after s = ends_of left written source_faults sink_faults s.link.source s.link.sink
 
   abbrev done_of : Done → ℕ
@@ -47,7 +47,7 @@ module _ {S K : Type 0} (legal : Origin → List Entry → Type 0) (left : S →
       is_lacking
 
   -- nobody was served yet
-  pub server_begins : (hand : HandView Link) (pass : PassView) → Rests hand → hand.mine ≡ [] → pass.known ≡ [] → IsLegalOver legal pass.fixed.base pass.front → Is hand pass [] false []
+  pub server_begins : (hand : HandView Link) (pass : PassView) → HasNoTurn hand → hand.mine ≡ [] → pass.known ≡ [] → IsLegalOver legal pass.fixed.base pass.front → Is hand pass [] false []
   server_begins hand pass rests none nobody was = record {
     rests = rests;
     mine = none;
@@ -169,7 +169,7 @@ module _ {S K : Type 0} (legal : Origin → List Entry → Type 0) (left : S →
 -- ---- parts
 
 pub leaves_waits : {L : Type 0} (hand hand_new : HandView L) (pass pass_new : PassView) (found : Option L) → pass_new ≡ pass → IfSome found (λ link. hand_new ≡ with_more hand link) → IfNone found (hand_new ≡ hand)
-    → Leaves hand hand_new pass pass_new 0
+    → HasParts hand hand_new pass pass_new 0
 leaves_waits {L} hand hand_new pass pass_new found same more none = record {
   hand_parts = parts_by found more none;
   parts = omega (arith, ap (λ (p : PassView). p.parts) same);
@@ -182,7 +182,7 @@ leaves_waits {L} hand hand_new pass pass_new found same more none = record {
     parts_by None more none = ap (λ (v : HandView L). v.parts) none
 
 pub leaves_serves : {L : Type 0} (legal : Origin → List Entry → Type 0) (hand hand_new : HandView L) (pass own ended pass_new : PassView) → hand_new ≡ hand → own ≡ one_part pass → GoesOn legal own ended → Joins pass ended pass_new
-    → Leaves hand hand_new pass pass_new 1
+    → HasParts hand hand_new pass pass_new 1
 leaves_serves {L} legal hand hand_new pass own ended pass_new same beside on joins = record {
   hand_parts = ap (λ (v : HandView L). v.parts) same;
   parts = omega (arith, joins.parts, on.parts, ap (λ (p : PassView). p.parts) beside);
@@ -194,7 +194,7 @@ leaves_serves {L} legal hand hand_new pass own ended pass_new same beside on joi
 pub beside_split : (pass pass_new own : PassView) (parts : ℕ) → pass_new ≡ record pass { parts = parts } → own ≡ one_part pass → own ≡ one_part pass_new
 beside_split pass pass_new own parts is given = given ∙ ap one_part (sym is)
 
-pub leaves_next : {L : Type 0} (hand hand_new : HandView L) (pass split pass_new : PassView) → split ≡ record pass { parts = pass.parts - 1 } → 1 < pass.parts → Leaves hand hand_new split pass_new 1 → Leaves hand hand_new pass pass_new 0
+pub leaves_next : {L : Type 0} (hand hand_new : HandView L) (pass split pass_new : PassView) → split ≡ record pass { parts = pass.parts - 1 } → 1 < pass.parts → HasParts hand hand_new split pass_new 1 → HasParts hand hand_new pass pass_new 0
 leaves_next hand hand_new pass split pass_new is some l = record {
   hand_parts = l.hand_parts;
   parts = omega (arith, l.parts, some, ap (λ (p : PassView). p.parts) is);
@@ -202,10 +202,11 @@ leaves_next hand hand_new pass split pass_new is some l = record {
   fixed_is = l.fixed_is ∙ ap (λ (p : PassView). p.fixed) is;
 }
 
-pub leaves_none : {L : Type 0} (hand : HandView L) (pass : PassView) → Leaves hand hand pass pass 0
+pub leaves_none : {L : Type 0} (hand : HandView L) (pass : PassView)
+    → HasParts hand hand pass pass 0
 leaves_none hand pass = record { hand_parts = refl; parts = omega arith; lock_is = refl; fixed_is = refl }
 
-pub leaves_then : {L : Type 0} (hand between hand_new : HandView L) (pass mid pass_new : PassView) (one more : ℕ) → Leaves hand between pass mid one → Leaves between hand_new mid pass_new more → Leaves hand hand_new pass pass_new (one + more)
+pub leaves_then : {L : Type 0} (hand between hand_new : HandView L) (pass mid pass_new : PassView) (one more : ℕ) → HasParts hand between pass mid one → HasParts between hand_new mid pass_new more → HasParts hand hand_new pass pass_new (one + more)
 leaves_then hand between hand_new pass mid pass_new one more a b = record {
   hand_parts = b.hand_parts ∙ a.hand_parts;
   parts = omega (arith, a.parts, b.parts);
@@ -214,7 +215,7 @@ leaves_then hand between hand_new pass mid pass_new one more a b = record {
 }
 
 -- one turn of a loop
-pub leaves_turn : {L : Type 0} (first between hand hand_new : HandView L) (pass mid last pass_new : PassView) → Leaves first between pass mid 0 → Leaves between hand mid last 0 → Leaves hand hand_new last pass_new 0 → Leaves first hand_new pass pass_new 0
+pub leaves_turn : {L : Type 0} (first between hand hand_new : HandView L) (pass mid last pass_new : PassView) → HasParts first between pass mid 0 → HasParts between hand mid last 0 → HasParts hand hand_new last pass_new 0 → HasParts first hand_new pass pass_new 0
 leaves_turn first between hand hand_new pass mid last pass_new a b c = record {
   hand_parts = c.hand_parts ∙ b.hand_parts ∙ a.hand_parts;
   parts = omega (arith, a.parts, b.parts, c.parts);
@@ -224,9 +225,9 @@ leaves_turn first between hand hand_new pass mid last pass_new a b c = record {
 
 -- the same server with another for a connection of its own
 pub leaves_both : {L : Type 0} (hand accepted rest rest_new first first_new hand_new : HandView L) (pass mid rest_pass rest_end first_pass first_end pass_new : PassView)
-    → Leaves hand accepted pass mid 0 → rest.parts + 1 ≡ accepted.parts → rest_pass.parts + 2 ≡ mid.parts → rest_pass.fixed ≡ mid.fixed → rest_pass.lock ≡ mid.lock
-    → first.parts ≡ 1 → first_pass.parts ≡ 1 → Leaves rest rest_new rest_pass rest_end 0 → Leaves first first_new first_pass first_end 1
-    → hand_new.parts ≡ rest_new.parts + first_new.parts → pass_new.parts ≡ rest_end.parts + first_end.parts → pass_new.fixed ≡ rest_end.fixed → pass_new.lock ≡ rest_end.lock → Leaves hand hand_new pass pass_new 0
+    → HasParts hand accepted pass mid 0 → rest.parts + 1 ≡ accepted.parts → rest_pass.parts + 2 ≡ mid.parts → rest_pass.fixed ≡ mid.fixed → rest_pass.lock ≡ mid.lock
+    → first.parts ≡ 1 → first_pass.parts ≡ 1 → HasParts rest rest_new rest_pass rest_end 0 → HasParts first first_new first_pass first_end 1
+    → hand_new.parts ≡ rest_new.parts + first_new.parts → pass_new.parts ≡ rest_end.parts + first_end.parts → pass_new.fixed ≡ rest_end.fixed → pass_new.lock ≡ rest_end.lock → HasParts hand hand_new pass pass_new 0
 leaves_both hand accepted rest rest_new first first_new hand_new pass mid rest_pass rest_end first_pass first_end pass_new a rest_is rest_parts rest_fixed rest_lock first_is first_parts b c hands parts fixed lock = record {
   hand_parts = omega (arith, hands, b.hand_parts, c.hand_parts, first_is, rest_is, a.hand_parts);
   parts = omega (arith, parts, b.parts, c.parts, first_parts, rest_parts, a.parts);

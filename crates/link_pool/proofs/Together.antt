@@ -11,12 +11,12 @@ use Rattle.broker_lock.specs.Pass.{Joins, PassView}
 use Rattle.broker_lock.proofs.Knowing.{knows_same, own_rest}
 use Rattle.cancel_words.specs.View.{WordView}
 use Rattle.connection_core.specs.declared.ends.Ending.{Ending}
-use Rattle.accept_loop.specs.Connections.{Ends, IsLink, is_of, links_of}
+use Rattle.accept_loop.specs.Connections.{ConnectionEnds, IsLink, is_of, links_of}
 use Rattle.accept_loop.specs.Passes.{Comes}
 use Rattle.accept_loop.proofs.Linking.{as_count, ended_by, joined_known, knows_link, link_stays, links-cons, longer_legal, of_itself, or_left, or_right, own_link, prefix_one, prefix_other, some_count}
 use Rattle.link_pool.specs.Servers.{Knows}
 
-module _ {M : Type 0} (given left : M → Ends) (client_of : M → Option ℕ) (done_of : M → ℕ) (ending_of : M → Ending) (word_of : M → Option WordView) where
+module _ {M : Type 0} (given left : M → ConnectionEnds) (client_of : M → Option ℕ) (done_of : M → ℕ) (ending_of : M → Ending) (word_of : M → Option WordView) where
   abbrev pub is_link : Fixed → (wrong : Bool) → List Entry → M → Type 0
   is_link fixed wrong journal s = IsLink fixed wrong journal (given s) (left s) (client_of s) (done_of s) (ending_of s) (word_of s)
 

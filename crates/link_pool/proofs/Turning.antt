@@ -4,11 +4,11 @@ use Rattle.std.specs.Prelude.{IfSome, IfNone}
 use mathlib.Core.List.{IsPrefix}
 use Rattle.broker_lock.proofs.Beginnings.{drop_front}
 use Rattle.broker_lock.specs.Pass.{PassView}
-use Rattle.link_pool.specs.Hands.{HandView, Rests, first_view, hand, with_more, with_turn, without_turn}
-use Rattle.link_pool.specs.Servers.{Leaves}
+use Rattle.link_pool.specs.Hands.{HandView, HasNoTurn, first_view, hand, with_more, with_turn, without_turn}
+use Rattle.link_pool.specs.Servers.{HasParts}
 
 module _ {L : Type 0} where
-  pub has_parts : (v taken : HandView L) (accepted : List L) → taken ≡ with_turn v accepted → Rests v → 0 < taken.parts
+  pub has_parts : (v taken : HandView L) (accepted : List L) → taken ≡ with_turn v accepted → HasNoTurn v → 0 < taken.parts
   has_parts v taken accepted is rests = omega (arith, rests.some_part, ap (λ (u : HandView L). u.parts) is)
 
   -- what had been accepted is still
@@ -18,7 +18,7 @@ module _ {L : Type 0} where
   still_accepted P v taken accepted accepted_new None is more none = ([], append-nil taken.held ∙ ap (λ (u : HandView L). u.held) is ∙ sym none.0)
 
   -- the hand accepted one more
-  pub accepted_one : (v taken given : HandView L) (accepted accepted_new : List L) (found : Option L) → Rests v → taken ≡ with_turn v accepted → given ≡ without_turn taken accepted_new
+  pub accepted_one : (v taken given : HandView L) (accepted accepted_new : List L) (found : Option L) → HasNoTurn v → taken ≡ with_turn v accepted → given ≡ without_turn taken accepted_new
       → IfSome found (λ l. accepted_new ≡ accepted ++ l ∷ []) → IfSome found (λ l. given ≡ with_more v l)
   accepted_one v taken given accepted accepted_new None rests is back more = tt
   accepted_one v taken given accepted accepted_new (Some l) rests is back more =
@@ -26,7 +26,7 @@ module _ {L : Type 0} where
       back ∙ ap (λ (u : HandView L). without_turn u accepted_new) is ∙ (λ i. hand v.parts (sym rests.no_turn i) (v.mine ++ new i) (sym rests.none i))
 
   -- or none
-  pub accepted_none : (P : Type 0) (v taken given : HandView L) (accepted accepted_new : List L) (found : Option L) → Rests v → taken ≡ with_turn v accepted → given ≡ without_turn taken accepted_new
+  pub accepted_none : (P : Type 0) (v taken given : HandView L) (accepted accepted_new : List L) (found : Option L) → HasNoTurn v → taken ≡ with_turn v accepted → given ≡ without_turn taken accepted_new
       → IfNone found ((accepted_new ≡ accepted) × P) → IfNone found (given ≡ v)
   accepted_none P v taken given accepted accepted_new (Some l) rests is back none = tt
   accepted_none P v taken given accepted accepted_new None rests is back none =
@@ -37,7 +37,7 @@ module _ {L : Type 0} where
   pub held_whole : (v taken : HandView L) (accepted : List L) → taken ≡ with_turn v accepted → IsPrefix taken.held accepted
   held_whole v taken accepted is = ([], append-nil taken.held ∙ ap (λ (u : HandView L). u.held) is)
 
-  pub leaves_back : (v taken given : HandView L) (accepted : List L) (pass : PassView) → taken ≡ with_turn v accepted → given ≡ without_turn taken accepted → Leaves v given pass pass 0
+  pub leaves_back : (v taken given : HandView L) (accepted : List L) (pass : PassView) → taken ≡ with_turn v accepted → given ≡ without_turn taken accepted → HasParts v given pass pass 0
   leaves_back v taken given accepted pass is back = record {
     hand_parts = ap (λ (u : HandView L). u.parts) back ∙ ap (λ (u : HandView L). u.parts) is;
     parts = omega arith;

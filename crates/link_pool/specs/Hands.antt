@@ -48,7 +48,7 @@ abbrev pub with_more : {L : Type 0} → HandView L → L → HandView L
 with_more v link = hand v.parts v.turns (v.mine ++ link ∷ []) v.held
 
 -- it hasn't the turn
-pub record Rests {L : Type 0} (v : HandView L) : Type 0 where
+pub record HasNoTurn {L : Type 0} (v : HandView L) : Type 0 where
   pub some_part : 0 < v.parts
   pub no_turn : v.turns ≡ 0
   pub none : v.held ≡ []

@@ -7,7 +7,7 @@ use Rattle.crossbeam_channel.specs.Claims.{IsSeatAt, view}
 use Rattle.crossbeam_channel.specs.Ends.{sends_on}
 use Rattle.tab_spec.specs.Count.{Rose}
 use Rattle.history_spec.specs.Entry.{Entry, clients_of}
-use Rattle.broker_lock.specs.Known.{Fixed, IsLegalOver, IsOwn, Origin, knows}
+use Rattle.broker_lock.specs.Known.{Fixed, HasJustKnown, IsLegalOver, Origin, knows}
 use Rattle.broker_lock.specs.Pass.{PassView}
 use Rattle.accept_loop.specs.Connections.{links_of}
 use Rattle.accept_loop.specs.declared.serving.AcceptError.{AcceptError}
@@ -15,7 +15,7 @@ use Rattle.accept_loop.specs.declared.serving.AcceptError.TheVariants as errors
 use Rattle.link_pool.specs.declared.server.Server.{Server}
 use Rattle.link_pool.specs.declared.serving.ServedAll.{ServedAll}
 use Rattle.link_pool.specs.declared.way.Way.{Way}
-use Rattle.link_pool.specs.Hands.{HandView, Rests, WeighAlike}
+use Rattle.link_pool.specs.Hands.{HandView, HasNoTurn, WeighAlike}
 use Rattle.link_pool.specs.Services.{AreServedOnce, IsEnough, IsServed, client_of, given_of, is_lacking}
 
 -- a pass that knows nobody, beside this one
@@ -25,23 +25,23 @@ one_part pass = record pass { known = []; parts = 1 }
 -- what a pass knows of the connections that were served with it
 pub record Knows {M : Type 0} (legal : Origin → List Entry → Type 0) (is_link : Fixed → Bool → List Entry → M → Type 0) (client_of : M → Option ℕ) (pass : PassView) (served : List M) : Type 0 where
   pub is_legal : IsLegalOver legal pass.fixed.base pass.front
-  pub own_is : IsOwn pass.known pass.front
+  pub own_is : HasJustKnown pass.known pass.front
   pub each : All (is_link pass.fixed pass.wrong pass.front) served
   pub clients : (client : ℕ) → links_of client_of client served ≡ cond (knows pass.known client) 1 0
 
 -- a server that has not the turn, with those that it served. `waiting` are those that it accepted and hasn't served
 pub record IsServer {L M : Type 0} (legal : Origin → List Entry → Type 0) (is_link : Fixed → Bool → List Entry → M → Type 0) (given_of : M → L) (client_of : M → Option ℕ) (is_lacking : M → Bool)
     (hand : HandView L) (pass : PassView) (served : List M) (lacked : Bool) (waiting : List L) : Type 0 where
-  pub rests : Rests hand
+  pub rests : HasNoTurn hand
   pub mine : hand.mine ≡ map given_of served ++ waiting
   pub known : Knows legal is_link client_of pass served
   pub lacked_is : lacked ≡ list_any is_lacking served
 
 -- the same of connections of these sources and sinks
-abbrev pub Stands : {B A S K : Type 0} → (legal : Origin → List Entry → Type 0)
+abbrev pub IsServerOfLinks : {B A S K : Type 0} → (legal : Origin → List Entry → Type 0)
     → (left : S → Option (List ℕ)) → (written : K → Option (List ℕ)) → (source_faults : S → ℕ)
     → (sink_faults : K → ℕ) → Server B A S K → List (S × K) → Type 0
-Stands legal left written source_faults sink_faults server =
+IsServerOfLinks legal left written source_faults sink_faults server =
     IsServer legal (IsServed left written source_faults sink_faults) given_of client_of is_lacking
     (view server.hand) server.pass server.served.value server.lacked
 
@@ -51,10 +51,10 @@ pub record IsOn {B A J S K : Type 0} (legal : Origin → List Entry → Type 0)
     (sink_faults : K → ℕ) (way : Way A J S K) (server : Server B A S K)
     (waiting : List (S × K)) : Type 0 where
   pub hand : IsSeatAt (sends_on way.sender) server.hand
-  pub stands : Stands legal left written source_faults sink_faults server waiting
+  pub stands : IsServerOfLinks legal left written source_faults sink_faults server waiting
 
 -- a server has the parts that it had, and some more of the lock's
-pub record Leaves {L : Type 0} (hand hand_new : HandView L) (pass pass_new : PassView) (more : ℕ) : Type 0 where
+pub record HasParts {L : Type 0} (hand hand_new : HandView L) (pass pass_new : PassView) (more : ℕ) : Type 0 where
   pub hand_parts : hand_new.parts ≡ hand.parts
   pub parts : pass_new.parts ≡ pass.parts + more
   pub lock_is : pass_new.lock ≡ pass.lock
@@ -62,7 +62,7 @@ pub record Leaves {L : Type 0} (hand hand_new : HandView L) (pass pass_new : Pas
 
 abbrev pub KeepsParts : {B A S K : Type 0} → (server server_new : Server B A S K) → (more : ℕ)
     → Type 0
-KeepsParts server server_new = Leaves (view server.hand) (view server_new.hand) server.pass
+KeepsParts server server_new = HasParts (view server.hand) (view server_new.hand) server.pass
     server_new.pass
 
 -- a server that has served all that it accepted
@@ -74,7 +74,7 @@ pub record ServesOn {B A J S K : Type 0} (legal : Origin → List Entry → Type
   pub leaves : KeepsParts server server_new more
 
 -- a server that accepted this connection, and a pass for it beside the server's
-pub record MayServe {B A J S K : Type 0} (legal : Origin → List Entry → Type 0)
+pub record MayServePool {B A J S K : Type 0} (legal : Origin → List Entry → Type 0)
     (left : S → Option (List ℕ)) (written : K → Option (List ℕ)) (source_faults : S → ℕ)
     (sink_faults : K → ℕ) (way : Way A J S K) (lock : TableId) (server : Server B A S K)
     (beside : PassView) (link : S × K) : Type 0 where
@@ -128,7 +128,7 @@ pub record HasEnded {L M : Type 0} (legal : Origin → List Entry → Type 0) (i
   pub lacked_is : lacked ≡ list_any is_lacking served
 
 -- what serving all that come leaves. `wrong` is whether the device gave a wrong answer
-pub record ServesAll {L M : Type 0} (legal : Origin → List Entry → Type 0) (is_link : Fixed → Bool → List Entry → M → Type 0) (given_of : M → L) (client_of : M → Option ℕ) (is_lacking : M → Bool)
+pub record PoolServesAll {L M : Type 0} (legal : Origin → List Entry → Type 0) (is_link : Fixed → Bool → List Entry → M → Type 0) (given_of : M → L) (client_of : M → Option ℕ) (is_lacking : M → Bool)
     (fixed fixed_new : Fixed) (wrong : Bool) (history : List Entry) (coming coming_new : Option (List L)) (faults faults_new most : ℕ) (accepted : Result (Unit {0}) AcceptError) (count : ℕ) (lacked : Bool) (served : List M) : Type 0 where
   pub fixed_is : fixed_new ≡ fixed
   pub is_legal : IsLegalOver legal fixed.base history
@@ -150,12 +150,14 @@ pub record MayServeAll (legal : Origin → List Entry → Type 0) (fixed : Fixed
 
 -- what serving all that come leaves, over a value that keeps a history. Where memory lacked, nobody
 -- was accepted
-pub record ServesLinks {A B S K : Type 0} (legal : Origin → List Entry → Type 0) (fixed : B → Fixed)
+pub record PoolServesLinks {A B S K : Type 0} (legal : Origin → List Entry → Type 0)
+    (fixed : B → Fixed)
     (wrong : B → Bool) (history : B → List Entry) (coming : A → Option (List (S × K)))
     (faults : A → ℕ) (left : S → Option (List ℕ)) (written : K → Option (List ℕ))
     (source_faults : S → ℕ) (sink_faults : K → ℕ) (most : ℕ) (value : B)
     (acceptor acceptor_new : A) (all : ServedAll B S K) : Type 0 where
-  pub served : ServesAll legal (IsServed left written source_faults sink_faults) given_of client_of
+  pub served : PoolServesAll legal (IsServed left written source_faults sink_faults) given_of
+      client_of
       is_lacking (fixed value) (fixed all.value) (wrong all.value) (history all.value)
       (coming acceptor) (coming acceptor_new) (faults acceptor) (faults acceptor_new) most
       all.accepted all.count all.lacked all.served.value

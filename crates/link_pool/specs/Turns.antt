@@ -5,7 +5,7 @@ use Rattle.accept_loop.specs.Connections.{AreFirst}
 use Rattle.link_pool.specs.declared.turn.Stage.{Stage}
 use Rattle.link_pool.specs.declared.turn.Stage.TheVariants as stages
 use Rattle.link_pool.specs.declared.turn.Turn.{Turn}
-use Rattle.link_pool.specs.Starts.{Start}
+use Rattle.link_pool.specs.Starts.{PoolStart}
 
 abbrev pub accepted_of : {A S K : Type 0} → Turn A S K → List (S × K)
 accepted_of turn = turn.accepted.value
@@ -27,12 +27,12 @@ is_over stages.Over = true
 is_over stages.Failed = true
 
 -- the first connections that came were accepted: by which acceptor it is, what it tells, and how far accepting has come
-pub record Keeps {L : Type 0} (start : Start L) (name faults : ℕ) (coming : Option (List L)) (left : ℕ) (stage : Stage) (accepted : List L) : Type 0 where
+pub record AcceptedSince {L : Type 0} (start : PoolStart L) (name faults : ℕ) (coming : Option (List L)) (left : ℕ) (stage : Stage) (accepted : List L) : Type 0 where
   pub same : name ≡ start.name
   pub first : AreFirst start.coming coming accepted
   pub count : length accepted + left ≡ start.most
   pub come : HasCome stage start.faults faults left coming
 
-abbrev pub IsKept : {A S K : Type 0} → (coming : A → Option (List (S × K))) → (faults name : A → ℕ) → Start (S × K) → Turn A S K → Type 0
-IsKept coming faults name start turn =
-    Keeps start (name turn.acceptor) (faults turn.acceptor) (coming turn.acceptor) turn.left turn.stage turn.accepted.value
+abbrev pub TurnAcceptedSince : {A S K : Type 0} → (coming : A → Option (List (S × K))) → (faults name : A → ℕ) → PoolStart (S × K) → Turn A S K → Type 0
+TurnAcceptedSince coming faults name start turn =
+    AcceptedSince start (name turn.acceptor) (faults turn.acceptor) (coming turn.acceptor) turn.left turn.stage turn.accepted.value

@@ -2,7 +2,9 @@
 ghost use Rattle.std.specs.Prelude.{◌≡◌, ◌<◌, ◌+◌, ◌∷◌, ◌||◌, []};
 ghost use Rattle.std.specs.Option.{option_to_list};
 ghost use Rattle.link_pool.specs.Endings.{lacks_memory};
-ghost use Rattle.link_pool.specs.Servers.{IsOn, KeepsParts, MayServe, ServesOn, Stands, one_part};
+ghost use Rattle.link_pool.specs.Servers.{IsOn, IsServerOfLinks, KeepsParts, MayServePool};
+ghost use Rattle.link_pool.specs.Servers.{ServesOn};
+ghost use Rattle.link_pool.specs.Servers.{one_part};
 
 use crate::done::{Service, Services, lacks_memory};
 use crate::idle::Fork;
@@ -74,9 +76,9 @@ fn serve_one<B: Serves + Send, A: Passed, G: Gate, R: Threads + Wait + Sync>(
 )
     requires lock { server.old.pass.lock ≡ shared.now }
     requires beside { pass ≡ one_part server.old.pass }
-    requires server { Stands B.legal A.In.left A.Out.written A.In.faults A.Out.faults
+    requires server { IsServerOfLinks B.legal A.In.left A.Out.written A.In.faults A.Out.faults
         server.old (ends ∷ []) }
-    ensures server { Stands B.legal A.In.left A.Out.written A.In.faults A.Out.faults
+    ensures server { IsServerOfLinks B.legal A.In.left A.Out.written A.In.faults A.Out.faults
         server.new [] }
     ensures leaves { KeepsParts server.old server.new 1 }
     ensures hand { server.new.hand ≡ server.old.hand }
@@ -100,9 +102,9 @@ fn serve_next<B: Serves + Send, A: Passed, G: Gate, R: Threads + Wait + Sync>(
 )
     requires lock { server.old.pass.lock ≡ shared.now }
     requires parts { 1 < server.old.pass.parts }
-    requires server { Stands B.legal A.In.left A.Out.written A.In.faults A.Out.faults
+    requires server { IsServerOfLinks B.legal A.In.left A.Out.written A.In.faults A.Out.faults
         server.old (ends ∷ []) }
-    ensures server { Stands B.legal A.In.left A.Out.written A.In.faults A.Out.faults
+    ensures server { IsServerOfLinks B.legal A.In.left A.Out.written A.In.faults A.Out.faults
         server.new [] }
     ensures leaves { KeepsParts server.old server.new 0 }
     ensures hand { server.new.hand ≡ server.old.hand }
@@ -167,7 +169,7 @@ pub(crate) fn serve_from<
     pass: Pass<B>,
     ends: (A::In, A::Out),
 ) -> Server<B, A, A::In, A::Out>
-    requires { MayServe B.legal A.In.left A.Out.written A.In.faults A.Out.faults
+    requires { MayServePool B.legal A.In.left A.Out.written A.In.faults A.Out.faults
         way.now shared.now server pass ends }
     ensures { ServesOn B.legal A.In.left A.Out.written A.In.faults A.Out.faults
         way.now server result 1 }

@@ -3,7 +3,7 @@ ghost use Rattle.std.specs.Prelude.{◌≡◌, ◌<◌, ◌+◌, ◌*◌, ◌∷
 ghost use Rattle.std.specs.Thread.{IsSync};
 ghost use denote.Param.Send.{IsSend};
 ghost use Rattle.crossbeam_channel.specs.Claims.{view};
-ghost use Rattle.link_pool.specs.Servers.{HasBoth, IsOn, IsParted, MayGrow, MayServe, ServesOn};
+ghost use Rattle.link_pool.specs.Servers.{HasBoth, IsOn, IsParted, MayGrow, MayServePool, ServesOn};
 
 use crate::done::Services;
 use crate::idle::Fork;
@@ -142,7 +142,7 @@ pub(crate) fn serve_as_needed<
                 way.entry.now server result 0 }
         { serve_as_needed(rt, alloc, shared, gate, way, fork, rest, server) },
         move || -> Server<B, A, A::In, A::Out>
-            requires { MayServe B.legal A.In.left A.Out.written A.In.faults A.Out.faults
+            requires { MayServePool B.legal A.In.left A.Out.written A.In.faults A.Out.faults
                 way.now shared.now first pass ends }
             ensures { ServesOn B.legal A.In.left A.Out.written A.In.faults A.Out.faults
                 way.entry.now first result 1 }

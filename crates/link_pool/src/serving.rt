@@ -1,11 +1,11 @@
 ghost use Rattle.std.specs.Prelude.{◌≡◌, ◌≤◌, ◌<◌, [], false, true, Err};
 ghost use Rattle.crossbeam_channel.specs.Claims.{view};
 ghost use Rattle.accept_loop.specs.declared.serving.AcceptError.TheVariants as errors;
-ghost use Rattle.link_pool.specs.Servers.{HasEnded, IsOn, MayServeAll, ServesLinks};
+ghost use Rattle.link_pool.specs.Servers.{HasEnded, IsOn, MayServeAll, PoolServesLinks};
 ghost use Rattle.link_pool.specs.Services.{IsServed, client_of, given_of, is_lacking};
 ghost use Rattle.link_pool.specs.Starts.{start_of};
 ghost use Rattle.link_pool.specs.Outcomes.{outcome_of};
-ghost use Rattle.link_pool.specs.Turns.{IsKept, is_over};
+ghost use Rattle.link_pool.specs.Turns.{TurnAcceptedSince, is_over};
 
 use crate::done::Services;
 use crate::idle::Fork;
@@ -94,7 +94,7 @@ fn end_all<
     requires lock { server.pass.lock ≡ shared.now }
     requires hand { (view server.hand).parts ≡ 1024 }
     requires parts { 1 < server.pass.parts }
-    ensures kept { IsKept A.coming A.faults A.name J.begun result.turn }
+    ensures kept { TurnAcceptedSince A.coming A.faults A.name J.begun result.turn }
     ensures over { is_over result.turn.stage ≡ true }
     ensures ended { HasEnded B.legal
         (IsServed A.In.left A.Out.written A.In.faults A.Out.faults) given_of client_of is_lacking
@@ -143,7 +143,7 @@ fn serve_passed<
         connections }
     requires may_serve { MayServeAll B.legal (B.fixed value) (B.history value) servers }
     ensures name { A.name result.0 ≡ A.name acceptor }
-    ensures serves { ServesLinks B.legal B.fixed B.wrong B.history A.coming A.faults
+    ensures serves { PoolServesLinks B.legal B.fixed B.wrong B.history A.coming A.faults
         A.In.left A.Out.written A.In.faults A.Out.faults connections
         value acceptor result.0 result.1 }
 {
@@ -208,7 +208,7 @@ fn serve_under_lock<B: Serves + Send, A: Acceptor + Send, G: Gate, R: Threads + 
     servers: u32,
 ) -> ServedAll<B, A::In, A::Out>
     requires may_serve { MayServeAll B.legal (B.fixed value) (B.history value) servers }
-    ensures { ServesLinks B.legal B.fixed B.wrong B.history A.coming A.faults
+    ensures { PoolServesLinks B.legal B.fixed B.wrong B.history A.coming A.faults
         A.In.left A.Out.written A.In.faults A.Out.faults connections
         value acceptor.old acceptor.new result }
 {
@@ -238,7 +238,7 @@ fn serve_legal<B: Serves + Send, A: Acceptor + Send, G: Gate, R: Threads + Wait 
     servers: u32,
 ) -> ServedAll<B, A::In, A::Out>
     requires may_serve { MayServeAll B.legal (B.fixed value) (B.history value) servers }
-    ensures { ServesLinks B.legal B.fixed B.wrong B.history A.coming A.faults
+    ensures { PoolServesLinks B.legal B.fixed B.wrong B.history A.coming A.faults
         A.In.left A.Out.written A.In.faults A.Out.faults connections
         value acceptor.old acceptor.new result }
 {
@@ -284,7 +284,7 @@ pub fn serve_all<B: Serves + Send, A: Acceptor + Send, G: Gate, R: Threads + Wai
     // The history is legal, if it is known what it begins from. Each connection that was accepted
     // was served once, and has its commands in the history, once and in order; the replies to them
     // were written to it. The history has no other client, and all clients are closed.
-    ensures { ServesLinks B.legal B.fixed B.wrong B.history A.coming A.faults
+    ensures { PoolServesLinks B.legal B.fixed B.wrong B.history A.coming A.faults
         A.In.left A.Out.written A.In.faults A.Out.faults connections
         value acceptor.old acceptor.new result }
 {

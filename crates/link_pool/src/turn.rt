@@ -1,6 +1,6 @@
 //! The turn at an acceptor: only the server that has it may accept the next connection.
 ghost use Rattle.std.specs.Prelude.{◌≡◌, ◌++◌, ◌∷◌, [], false, true, IfSome, IfNone};
-ghost use Rattle.link_pool.specs.Turns.{IsKept, is_over};
+ghost use Rattle.link_pool.specs.Turns.{TurnAcceptedSince, is_over};
 
 use accept_loop::Passed;
 use ghost_lists::{Grows, grow};
@@ -9,9 +9,9 @@ use std::snapshot::Snapshot;
 
 /// With what accepting begins. Each call picks it.
 pub(crate) trait Begins<S, K> {
-    ghost use Rattle.link_pool.specs.Starts.{Start};
+    ghost use Rattle.link_pool.specs.Starts.{PoolStart};
 
-    ghost begun: { Start (S × K) };
+    ghost begun: { PoolStart (S × K) };
 }
 
 impl<S, K> Begins<S, K> for Brand {
@@ -87,8 +87,8 @@ pub(crate) struct Turn<A, S, K> {
 pub(crate) fn accept_next<A: Passed, J: Begins<A::In, A::Out>>(
     turn: &mut Turn<A, A::In, A::Out>,
 ) -> Option<(A::In, A::Out)>
-    requires kept { IsKept A.coming A.faults A.name J.begun turn.old }
-    ensures kept { IsKept A.coming A.faults A.name J.begun turn.new }
+    requires kept { TurnAcceptedSince A.coming A.faults A.name J.begun turn.old }
+    ensures kept { TurnAcceptedSince A.coming A.faults A.name J.begun turn.new }
     ensures some { IfSome result
         (λ ends. turn.new.accepted.value ≡ turn.old.accepted.value ++ ends ∷ []) }
     ensures going { IfSome result (λ _. is_over turn.new.stage ≡ false) }

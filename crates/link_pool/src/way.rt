@@ -3,9 +3,9 @@ ghost use Rattle.std.specs.Prelude.{◌≡◌, ◌<◌, IfOk, IfSome, IfNone};
 ghost use mathlib.Core.List.{IsPrefix};
 ghost use Rattle.crossbeam_channel.specs.Claims.{view, IsSeatAt};
 ghost use Rattle.crossbeam_channel.specs.Ends.{sends_on, receives_on};
-ghost use Rattle.link_pool.specs.Hands.{Rests, WeighAlike, both_of, first_view, handed_on};
+ghost use Rattle.link_pool.specs.Hands.{HasNoTurn, WeighAlike, both_of, first_view, handed_on};
 ghost use Rattle.link_pool.specs.Hands.{kept_back, with_more, with_turn, without_turn};
-ghost use Rattle.link_pool.specs.Turns.{IsKept};
+ghost use Rattle.link_pool.specs.Turns.{TurnAcceptedSince};
 
 use crate::idle::Idle;
 use crate::turn::{Begins, Turn, accept_next};
@@ -37,9 +37,9 @@ pub(crate) struct Fair<J> {
 impl<A: Passed, J: Begins<A::In, A::Out>> Protocol<Turn<A, A::In, A::Out>, Accepting<A::In, A::Out>>
     for Fair<J> {
     ghost use Rattle.link_pool.specs.Hands.{IsFair, first_view};
-    ghost use Rattle.link_pool.specs.Turns.{IsKept, accepted_of};
+    ghost use Rattle.link_pool.specs.Turns.{TurnAcceptedSince, accepted_of};
 
-    ghost holds = { IsFair accepted_of (IsKept A.coming A.faults A.name J.begun) };
+    ghost holds = { IsFair accepted_of (TurnAcceptedSince A.coming A.faults A.name J.begun) };
 
     ghost first = { first_view };
 }
@@ -48,9 +48,9 @@ impl<A: Passed, J: Begins<A::In, A::Out>> Protocol<Turn<A, A::In, A::Out>, Accep
 impl<A: Passed, J: Begins<A::In, A::Out>> Outcome<Turn<A, A::In, A::Out>, Accepting<A::In, A::Out>>
     for Fair<J> {
     ghost use Rattle.link_pool.specs.Hands.{Takes};
-    ghost use Rattle.link_pool.specs.Turns.{IsKept, accepted_of};
+    ghost use Rattle.link_pool.specs.Turns.{TurnAcceptedSince, accepted_of};
 
-    ghost then = { Takes accepted_of (IsKept A.coming A.faults A.name J.begun) };
+    ghost then = { Takes accepted_of (TurnAcceptedSince A.coming A.faults A.name J.begun) };
 }
 
 impl<A: Passed, J: Begins<A::In, A::Out>> Lesson<Turn<A, A::In, A::Out>, Accepting<A::In, A::Out>>
@@ -163,7 +163,7 @@ impl<A: Passed, J: Begins<A::In, A::Out>> Way<A, J> {
         requires parts { 0 < (view hand.old).parts }
         requires has { (view hand.old).turns ≡ 1 }
         requires more { IsPrefix (view hand.old).held turn.accepted.value }
-        requires kept { IsKept A.coming A.faults A.name J.begun turn }
+        requires kept { TurnAcceptedSince A.coming A.faults A.name J.begun turn }
         ensures way { IsSeatAt (sends_on self.now.sender) hand.new }
         ensures given { view hand.new ≡ without_turn (view hand.old) turn.accepted.value }
     {
@@ -181,9 +181,9 @@ impl<A: Passed, J: Begins<A::In, A::Out>> Way<A, J> {
     // what was accepted.
     pub fn take<R: Wait>(&self, rt: &R, hand: &mut Hand<A, A::In, A::Out>) -> Turn<A, A::In, A::Out>
         requires way { IsSeatAt (sends_on self.now.sender) hand.old }
-        requires rests { Rests (view hand.old) }
+        requires rests { HasNoTurn (view hand.old) }
         ensures way { IsSeatAt (sends_on self.now.sender) hand.new }
-        ensures kept { IsKept A.coming A.faults A.name J.begun result }
+        ensures kept { TurnAcceptedSince A.coming A.faults A.name J.begun result }
         ensures turn { view hand.new ≡ with_turn (view hand.old) result.accepted.value }
         ensures all { (view hand.old).parts ≡ 1024
             → WeighAlike (view hand.old).mine result.accepted.value }
@@ -204,7 +204,7 @@ impl<A: Passed, J: Begins<A::In, A::Out>> Way<A, J> {
         hand: &mut Hand<A, A::In, A::Out>,
     ) -> Option<(A::In, A::Out)>
         requires way { IsSeatAt (sends_on self.now.sender) hand.old }
-        requires rests { Rests (view hand.old) }
+        requires rests { HasNoTurn (view hand.old) }
         ensures way { IsSeatAt (sends_on self.now.sender) hand.new }
         ensures some { IfSome result (λ ends. view hand.new ≡ with_more (view hand.old) ends) }
         ensures none { IfNone result (view hand.new ≡ view hand.old) }

@@ -9,7 +9,7 @@ use Rattle.device_port.specs.Use.{all_used, first_unneeded, is_among, without_fi
 use Rattle.device_port.specs.declared.own.SwapError.{SwapError}
 use Rattle.object_swap.specs.declared.record.Record.{Record}
 use Rattle.object_swap.specs.Items.{AreResident, Item, KeepsContexts, KeepsObjects, MakesRoom, counter_of, evictions, is_resident, is_unsaved, is_vacant, item_at, missing, no_item, pending_of, residents, rest_of, unsaved, unsaved_of}
-use Rattle.object_swap.specs.Moves.{Evicts, Fills, Keeps}
+use Rattle.object_swap.specs.Moves.{Evicts, Fills, KeepsStanding}
 use Rattle.object_swap.specs.Records.{ListsFlags, NoMore, items_of, number, residency, view_of}
 use Rattle.object_swap.proofs.Costs.{none_if_failed, on_err_all}
 use Rattle.object_swap.proofs.Counts.{count_cons, number_most}
@@ -126,7 +126,7 @@ pub record Leaves (needed : List ℕ) (slots new_slots left : ℕ) (items : List
 pub room_made : {D : Type 0} (seen : D → Seen) (a b c : D) (needed : List ℕ) (slots new_slots left : ℕ) (xs ys zs : List Record) (loaded mid new : List ℕ)
     (result : Result (Unit {0}) SwapError) → Leaves needed slots new_slots left (items_of xs) → Evicts seen a b xs ys loaded mid needed left (Ok tt)
     → Fills seen b c ys zs mid new needed result → KeepsObjects (seen b).state (seen c).state (items_of ys) (items_of zs)
-    → Keeps (seen a).state (seen c).state (items_of xs) (items_of zs) [] → ListsFlags (residency zs) new
+    → KeepsStanding (seen a).state (seen c).state (items_of xs) (items_of zs) [] → ListsFlags (residency zs) new
     → MakesRoom seen a c needed new_slots (view_of xs loaded slots) (view_of zs new slots) result
 room_made seen a b c needed slots new_slots left xs ys zs loaded mid new result leaves cleared filled objects keeps lists =
     let lost_is = missing_same needed (items_of xs) (items_of ys) cleared.stay in
@@ -178,7 +178,7 @@ room_made seen a b c needed slots new_slots left xs ys zs loaded mid new result 
 -- where not all of them left that had to
 pub room_failed : {D : Type 0} (seen : D → Seen) (a b : D) (needed : List ℕ) (slots new_slots left : ℕ) (xs ys : List Record) (loaded mid : List ℕ)
     (result : Result (Unit {0}) SwapError) (e : SwapError) → Leaves needed slots new_slots left (items_of xs)
-    → Evicts seen a b xs ys loaded mid needed left (Err e) → Keeps (seen a).state (seen b).state (items_of xs) (items_of ys) [] → ListsFlags (residency ys) mid
+    → Evicts seen a b xs ys loaded mid needed left (Err e) → KeepsStanding (seen a).state (seen b).state (items_of xs) (items_of ys) [] → ListsFlags (residency ys) mid
     → result ≡ Err e → MakesRoom seen a b needed new_slots (view_of xs loaded slots) (view_of ys mid slots) result
 room_failed seen a b needed slots new_slots left xs ys loaded mid result e leaves cleared keeps lists failed =
     let out = evictions needed new_slots (view_of xs loaded slots) in

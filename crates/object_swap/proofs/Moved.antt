@@ -10,7 +10,7 @@ use Rattle.tab_spec.specs.declared.TheConstants.{CONTEXT_LIMIT}
 use Rattle.device_spec.specs.Slots.{SlotState, IsSlots, free_slot, is_free, in_slot, object_at, slot_of, with_slot}
 use Rattle.device_laws.proofs.FreshContexts.{object_at_is}
 use Rattle.object_swap.specs.Items.{Item, IsOwned, ItemStands, KeepsContexts, ObjectsStand, Stand, counter_of, is_named, is_unsaved, is_vacant, item_at, item_object, naming, new_item, no_item, objects_of, pending_of, rest_of, taken, without_object}
-use Rattle.object_swap.specs.Moves.{Keeps, counted, emptied, filled}
+use Rattle.object_swap.specs.Moves.{KeepsStanding, counted, emptied, filled}
 use Rattle.object_swap.specs.Records.{number}
 use Rattle.object_swap.proofs.Counts.{all_but, count_cons, count_one, count_set, is_true, map_same, number_false, number_most, number_true}
 use Rattle.object_swap.proofs.Standing.{Moves, elsewhere_free, elsewhere_named, naming_set, objects_moved, stands_moved}
@@ -207,7 +207,7 @@ unsaved_set items index old item inside is =
 saved_told : (slots : SlotState) (items : List Item) (others : List ℕ) (index : ℕ) (client : Option ℕ) (slot : ℕ) (context : List ℕ) → ObjectsStand slots items others
     → index < length items → item_at items index ≡ item_in client slot → slots.object_counter + count_by is_unsaved items ≤ CONTEXT_LIMIT
     → object_at slots None (Some context) ≡ get_or slots.slots slot None
-    → Keeps (Some slots) (Some (counted_slots slots)) items (set items index (item_both client slot context)) others
+    → KeepsStanding (Some slots) (Some (counted_slots slots)) items (set items index (item_both client slot context)) others
 saved_told slots items others index client slot context stand inside was below same =
     let item = item_both client slot context in
     let own = own slots items others index slot stand.owned inside (ap (λ (i : Item). i.slot) was) in
@@ -258,7 +258,7 @@ item_stands slots items others index stand inside = All-from_recursion (λ (item
 
 flushed_told : (slots : SlotState) (items : List Item) (others : List ℕ) (index : ℕ) (client : Option ℕ) (slot : ℕ) (context : List ℕ) → ObjectsStand slots items others
     → index < length items → item_at items index ≡ item_both client slot context
-    → Keeps (Some slots) (Some (with_slot slots slot None)) items (set items index (item_out client context)) others
+    → KeepsStanding (Some slots) (Some (with_slot slots slot None)) items (set items index (item_out client context)) others
 flushed_told slots items others index client slot context stand inside was =
     let item = item_out client context in
     let own = own slots items others index slot stand.owned inside (ap (λ (i : Item). i.slot) was) in
@@ -287,7 +287,7 @@ flushed_told slots items others index client slot context stand inside was =
 loaded_told : (slots : SlotState) (items : List Item) (others : List ℕ) (index : ℕ) (client : Option ℕ) (context : List ℕ) → ObjectsStand slots items others
     → index < length items → item_at items index ≡ item_out client context → list_any is_free slots.slots ≡ true
     → let held = object_at slots None (Some context) in
-    Keeps (Some slots) (Some (with_slot slots (free_slot slots.slots) held)) items (set items index (item_both client (free_slot slots.slots) context)) others
+    KeepsStanding (Some slots) (Some (with_slot slots (free_slot slots.slots) held)) items (set items index (item_both client (free_slot slots.slots) context)) others
 loaded_told slots items others index client context stand inside was room =
     let slot = free_slot slots.slots in
     let held = object_at slots None (Some context) in
@@ -323,7 +323,7 @@ loaded_told slots items others index client context stand inside was room =
 untold_kept : (items : List Item) (others : List ℕ) (index : ℕ) (item : Item) → index < length items
     → item.client ≡ (item_at items index).client → is_vacant item ≡ is_vacant (item_at items index)
     → ((context : List ℕ) → (item_at items index).blob ≡ Some context → item.blob ≡ Some context)
-    → Keeps None None items (set items index item) others
+    → KeepsStanding None None items (set items index item) others
 untold_kept items others index item inside client vacant kept = record {
   rest = refl;
   objects = record {
@@ -339,7 +339,7 @@ untold_kept items others index item inside client vacant kept = record {
 pub saved_keeps : (state : Option SlotState) (items : List Item) (others : List ℕ) (index : ℕ) (client : Option ℕ) (handle : ℕ) (context : List ℕ) → Stand state items others
     → index < length items → item_at items index ≡ item_in client (slot_of handle) → pending_of state items ≤ CONTEXT_LIMIT
     → IfSome state (λ slots. object_at slots None (Some context) ≡ in_slot slots handle)
-    → Keeps state (counted state) items (set items index (item_both client (slot_of handle) context)) others
+    → KeepsStanding state (counted state) items (set items index (item_both client (slot_of handle) context)) others
 saved_keeps None items others index client handle context stand inside was below same =
     untold_kept items others index (item_both client (slot_of handle) context) inside (sym (ap (λ (i : Item). i.client) was)) (sym (ap is_vacant was))
     (λ context is. absurd (let none = sym (ap (λ (i : Item). i.blob) was) ∙ is in cc))
@@ -348,7 +348,8 @@ saved_keeps (Some slots) items others index client handle context stand inside w
 
 pub flushed_keeps : (state : Option SlotState) (items : List Item) (others : List ℕ) (index : ℕ) (client : Option ℕ) (handle : ℕ) (context : List ℕ) → Stand state items others
     → index < length items → item_at items index ≡ item_both client (slot_of handle) context
-    → Keeps state (emptied handle state) items (set items index (item_out client context)) others
+    → KeepsStanding state (emptied handle state) items (set items index (item_out client context))
+    others
 flushed_keeps None items others index client handle context stand inside was =
     untold_kept items others index (item_out client context) inside (sym (ap (λ (i : Item). i.client) was)) (sym (ap is_vacant was))
     (λ context is. sym (ap (λ (i : Item). i.blob) was) ∙ is)
@@ -359,12 +360,12 @@ flushed_keeps (Some slots) items others index client handle context stand inside
 pub loaded_keeps : (state : Option SlotState) (items : List Item) (others : List ℕ) (index : ℕ) (client : Option ℕ) (slot : ℕ) (context : List ℕ) → Stand state items others
     → index < length items → item_at items index ≡ item_out client context → IfSome state (λ slots. list_any is_free slots.slots ≡ true)
     → IfSome state (λ slots. slot ≡ free_slot slots.slots)
-    → Keeps state (filled context state) items (set items index (item_both client slot context)) others
+    → KeepsStanding state (filled context state) items (set items index (item_both client slot context)) others
 loaded_keeps None items others index client slot context stand inside was room is =
     untold_kept items others index (item_both client slot context) inside (sym (ap (λ (i : Item). i.client) was)) (sym (ap is_vacant was))
     (λ context is. sym (ap (λ (i : Item). i.blob) was) ∙ is)
 loaded_keeps (Some slots) items others index client slot context stand inside was room is =
-    subst (λ (n : ℕ). Keeps (Some slots) (filled context (Some slots)) items (set items index (item_both client n context)) others) (sym is)
+    subst (λ (n : ℕ). KeepsStanding (Some slots) (filled context (Some slots)) items (set items index (item_both client n context)) others) (sym is)
     (loaded_told slots items others index client context stand inside was room)
 
 -- ---- an object is dropped

@@ -9,7 +9,7 @@ use Rattle.linked_records.specs.View.{IsListed, RecordsView, first_index, put_ba
 use Rattle.object_swap.specs.declared.TheConstants.{PLACES_MOST}
 use Rattle.object_swap.specs.Items as shown
 use Rattle.object_swap.specs.Items.{HasNone, Item, Names, has_list, is_client, is_nobodys, is_vacant, item_at, no_item, owner_at}
-use Rattle.object_swap.specs.Records.{AreSomebodys, AreThreaded, IsOwnedBy, Threads, number, stands_in}
+use Rattle.object_swap.specs.Records.{AreSomebodys, AreThreaded, IndexLists, IsOwnedBy, number, stands_in}
 use Rattle.object_swap.proofs.Counts.{count_append, count_cons, count_map, count_set, count_some, is_false, is_true, list_none, list_some, number_false, number_true}
 use Rattle.object_swap.proofs.Listed.{same_vacancy}
 use Rattle.object_swap.proofs.Threaded.{Entry, listed_client, owner_inside, owner_is, somewhere, threaded_again, threaded_ended, threaded_given, threaded_out, threaded_put, vacant_client, whose_true}
@@ -60,13 +60,13 @@ somebodys_set items index item all inside is n =
 
 -- ---- counts
 
-put_count : (lists : Threads) (list : ℕ) (p : Entry) → list < length lists → record_count (put_back lists list p) ≡ record_count lists + 1
+put_count : (lists : IndexLists) (list : ℕ) (p : Entry) → list < length lists → record_count (put_back lists list p) ≡ record_count lists + 1
 put_count lists list p inside =
     let f : List Entry → ℕ = λ l. length l in
     let here = get_or lists list [] in
     omega (arith, sum_by-set f lists list (here ++ p ∷ []) [] inside, length-append here (p ∷ []))
 
-out_count : (lists : Threads) (index : ℕ) (at : IsListed lists index) → record_count (taken_out lists index at) + 1 ≡ record_count lists
+out_count : (lists : IndexLists) (index : ℕ) (at : IsListed lists index) → record_count (taken_out lists index at) + 1 ≡ record_count lists
 out_count lists index at =
     let f : List Entry → ℕ = λ l. length l in
     omega (
@@ -77,7 +77,7 @@ out_count lists index at =
       length-append at.before at.after,
     )
 
-past_list : (lists : Threads) (n : ℕ) → get_or (lists ++ [] ∷ []) n [] ≡ get_or lists n []
+past_list : (lists : IndexLists) (n : ℕ) → get_or (lists ++ [] ∷ []) n [] ≡ get_or lists n []
 past_list lists n =
     elim (cases_eq n (length lists)) [
       | inl same ↦ get_or_push lists [] [] n (sym same) ∙ sym (get_or_past lists n [] (omega (arith, same)))
@@ -153,7 +153,7 @@ module _ (items : List Item) (view : View) (owners : List (Option ℕ)) (vacant 
   pub owned_more : (new : View) → vacant ≡ 0 → new.lists ≡ view.lists → 1 ≤ new.spare → new.given ≡ view.given
       → IsOwnedBy (items ++ no_item ∷ []) new owners 1
   owned_more new none lists spare given = record {
-    threaded = subst (λ (l : Threads). AreThreaded (items ++ no_item ∷ []) l owners) (sym lists)
+    threaded = subst (λ (l : IndexLists). AreThreaded (items ++ no_item ∷ []) l owners) (sym lists)
         (threaded_again items view.lists owners has.threaded (items ++ no_item ∷ []) (λ n. ap (λ (i : Item). i.client) (past_more items n)));
     somebodys = λ n. ap is_vacant (past_more items n) ∙ has.somebodys n ∙ ap (λ (i : Item). is_nobodys i.client) (sym (past_more items n));
     counted =
@@ -189,12 +189,12 @@ module _ (items : List Item) (view : View) (owners : List (Option ℕ)) (vacant 
   owned_added new_view client new few lists spare given =
       let more = length-append owners (Some client ∷ []) in
       let count : length new_view.lists ≡ length owners + 1 =
-      omega (arith, ap (λ (l : Threads). length l) lists, length-append view.lists ([] ∷ []), has.threaded.as_many) in
+      omega (arith, ap (λ (l : IndexLists). length l) lists, length-append view.lists ([] ∷ []), has.threaded.as_many) in
       let records : record_count new_view.lists ≡ record_count view.lists =
       omega (arith, ap (record_count {T = Unit {0}}) lists, sum_by_push (λ (l : List Entry). length l) view.lists []) in
       record {
         threaded = threaded_given items view.lists owners has.threaded new_view.lists (owners ++ Some client ∷ []) (length owners) client
-            (omega (arith, more, count)) (λ l. ap (λ (t : Threads). get_or t l []) lists ∙ past_list view.lists l)
+            (omega (arith, more, count)) (λ l. ap (λ (t : IndexLists). get_or t l []) lists ∙ past_list view.lists l)
             (λ l apart. past_other owners (Some client) None l apart) new (get_or_past owners (length owners) None (omega arith))
             (get_or_push owners (Some client) None (length owners) refl);
         somebodys = has.somebodys;
@@ -253,7 +253,7 @@ module _ (items : List Item) (view : View) (owners : List (Option ℕ)) (vacant 
         let listed = put_count view.lists list (index, value) (omega (arith, has.threaded.as_many, owner_inside owners list client owner)) in
         let count = length-set {A = Item} items index item in
         record {
-          threaded = subst (λ (l : Threads). AreThreaded (set items index item) l owners) (sym lists)
+          threaded = subst (λ (l : IndexLists). AreThreaded (set items index item) l owners) (sym lists)
               (threaded_put items view.lists owners has.threaded index list client value item inside
               (vacant_client items index has.somebodys old) is owner);
           somebodys = somebodys_set items index item has.somebodys inside (there ∙ sym (ap is_nobodys is));
@@ -283,7 +283,7 @@ module _ (items : List Item) (view : View) (owners : List (Option ℕ)) (vacant 
       let listed = out_count view.lists index at in
       let count = length-set {A = Item} items index no_item in
       record {
-        threaded = subst (λ (l : Threads). AreThreaded (set items index no_item) l owners) (sym lists)
+        threaded = subst (λ (l : IndexLists). AreThreaded (set items index no_item) l owners) (sym lists)
             (threaded_out items view.lists owners has.threaded index at inside);
         somebodys = somebodys_set items index no_item has.somebodys inside refl;
         counted = record {

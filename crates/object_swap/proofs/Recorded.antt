@@ -12,7 +12,7 @@ use Rattle.device_spec.specs.Slots.{SlotState, free_slot, in_slot, is_free, obje
 use Rattle.device_port.specs.Device.{Seen}
 use Rattle.object_swap.specs.declared.record.Record.{Record}
 use Rattle.object_swap.specs.Items.{Item, ItemStands, Stand, handle_in, is_resident, is_unsaved, is_vacant, item_at, no_item, pending_of}
-use Rattle.object_swap.specs.Moves.{IsIn, IsLeast, IsOut, Keeps, Ready, Swaps, counted, emptied, filled}
+use Rattle.object_swap.specs.Moves.{IsIn, IsLeast, IsOut, KeepsStanding, Ready, Swaps, counted, emptied, filled}
 use Rattle.object_swap.specs.Records.{AreRecords, IsRecord, item_of, items_of, number, residency, slot_in}
 use Rattle.object_swap.proofs.Counts.{count_one, is_true}
 use Rattle.object_swap.proofs.Moved.{flushed_keeps, item_both, item_in, item_out, item_stands, loaded_keeps, own, saved_keeps}
@@ -49,7 +49,7 @@ residency_kept records index d n inside same =
 
 -- ---- what is kept
 
-pub keeps_then : (a b c : Option SlotState) (xs ys zs : List Item) (others : List ℕ) → Keeps a b xs ys others → Keeps b c ys zs others → Keeps a c xs zs others
+pub keeps_then : (a b c : Option SlotState) (xs ys zs : List Item) (others : List ℕ) → KeepsStanding a b xs ys others → KeepsStanding b c ys zs others → KeepsStanding a c xs zs others
 keeps_then a b c xs ys zs others first second = record {
   rest = second.rest ∙ first.rest;
   objects = record {
@@ -73,10 +73,10 @@ swaps_then seen a b c xs ys zs first second = record {
 -- ---- nothing moved
 
 pub keeps_same : (state new_state : Option SlotState) (xs ys : List Item) (others : List ℕ) → Stand state xs others → new_state ≡ state → ys ≡ xs
-    → Keeps state new_state xs ys others
+    → KeepsStanding state new_state xs ys others
 keeps_same state new_state xs ys others stand same kept =
-    let at_rest : Keeps state state xs xs others = record { rest = refl; objects = record { objects = refl; owners = refl; kept = λ index context is. is }; stand = stand; pending = refl; rises = omega arith } in
-    subst (λ (st : Option SlotState). Keeps state st xs ys others) (sym same) (subst (λ (items : List Item). Keeps state state xs items others) (sym kept) at_rest)
+    let at_rest : KeepsStanding state state xs xs others = record { rest = refl; objects = record { objects = refl; owners = refl; kept = λ index context is. is }; stand = stand; pending = refl; rises = omega arith } in
+    subst (λ (st : Option SlotState). KeepsStanding state st xs ys others) (sym same) (subst (λ (items : List Item). KeepsStanding state state xs items others) (sym kept) at_rest)
 
 -- nothing was moved yet
 pub swaps_none : {D : Type 0} {contexts : ContextLimits} (seen : D → Seen) (device : D) (records : List Record) → Ready contexts (seen device).state records
@@ -88,7 +88,7 @@ swaps_none seen device records ready = record {
 
 -- it is ready again
 pub ready_again : {contexts : ContextLimits} (state new_state : Option SlotState) (records new_records : List Record) → Ready contexts state records
-    → Keeps state new_state (items_of records) (items_of new_records) [] → AreRecords contexts new_records → Ready contexts new_state new_records
+    → KeepsStanding state new_state (items_of records) (items_of new_records) [] → AreRecords contexts new_records → Ready contexts new_state new_records
 ready_again state new_state records new_records ready keeps sound = record {
   sound = sound;
   stand = keeps.stand;
@@ -113,10 +113,10 @@ with_client n client slot blob is same = is ∙ (λ i. record { client = same i;
 
 -- with the items that the records are of
 moved_by : (state moved new_state : Option SlotState) (records : List Record) (index : ℕ) (n : Record) (item : Item) → new_state ≡ moved → item_of n ≡ item
-    → Keeps state moved (items_of records) (set (items_of records) index item) [] → Keeps state new_state (items_of records) (items_of (set records index n)) []
+    → KeepsStanding state moved (items_of records) (set (items_of records) index item) [] → KeepsStanding state new_state (items_of records) (items_of (set records index n)) []
 moved_by state moved new_state records index n item state_is is keeps =
-    subst (λ (st : Option SlotState). Keeps state st (items_of records) (items_of (set records index n)) []) (sym state_is)
-    (subst (λ (items : List Item). Keeps state moved (items_of records) items []) (sym (map-set item_of records index n ∙ ap (set (items_of records) index) is)) keeps)
+    subst (λ (st : Option SlotState). KeepsStanding state st (items_of records) (items_of (set records index n)) []) (sym state_is)
+    (subst (λ (items : List Item). KeepsStanding state moved (items_of records) items []) (sym (map-set item_of records index n ∙ ap (set (items_of records) index) is)) keeps)
 
 pub inside_items : (records : List Record) (index : ℕ) → index < length records → index < length (items_of records)
 inside_items records index inside = omega (arith, length-map records item_of)
@@ -132,7 +132,7 @@ was records index d inside = record { at = item_there records index d inside; in
 pub saved_swap : {contexts : ContextLimits} (state new_state : Option SlotState) (records : List Record) (index handle : ℕ) (r n : Record) → Was records index r → Ready contexts state records
     → r.handle ≡ Some handle → r.kept ≡ false → n.client ≡ r.client → n.handle ≡ Some handle → n.kept ≡ true
     → new_state ≡ counted state → IfSome state (λ slots. object_at slots None (Some n.blob.items) ≡ in_slot slots handle)
-    → Keeps state new_state (items_of records) (items_of (set records index n)) []
+    → KeepsStanding state new_state (items_of records) (items_of (set records index n)) []
 saved_swap state new_state records index handle r n was ready handle_is kept_is client_is handle_new kept_new state_is same =
     moved_by state (counted state) new_state records index n (item_both r.client (slot_of handle) n.blob.items) state_is
     (with_client n r.client (Some (slot_of handle)) (Some n.blob.items) (saved_item n handle true handle_new kept_new) client_is)
@@ -140,7 +140,7 @@ saved_swap state new_state records index handle r n was ready handle_is kept_is 
 
 pub flushed_swap : {contexts : ContextLimits} (state new_state : Option SlotState) (records : List Record) (index handle : ℕ) (r n : Record) → Was records index r → Ready contexts state records
     → r.handle ≡ Some handle → r.kept ≡ true → n.client ≡ r.client → n.handle ≡ None → n.kept ≡ true → n.blob.items ≡ r.blob.items
-    → new_state ≡ emptied handle state → Keeps state new_state (items_of records) (items_of (set records index n)) []
+    → new_state ≡ emptied handle state → KeepsStanding state new_state (items_of records) (items_of (set records index n)) []
 flushed_swap state new_state records index handle r n was ready handle_is kept_is client_is handle_new kept_new blob_is state_is =
     moved_by state (emptied handle state) new_state records index n (item_out r.client r.blob.items) state_is
     (with_client n r.client None (Some n.blob.items) (out_item n true handle_new kept_new) client_is
@@ -154,7 +154,7 @@ least_slot (Some slots) handle least = omega (arith, least)
 pub loaded_swap : {contexts : ContextLimits} (state new_state : Option SlotState) (records : List Record) (index handle : ℕ) (r n : Record) → Was records index r → Ready contexts state records
     → r.handle ≡ None → r.kept ≡ true → n.client ≡ r.client → n.handle ≡ Some handle → n.kept ≡ true → n.blob.items ≡ r.blob.items
     → IfSome state (λ slots. list_any is_free slots.slots ≡ true) → IsLeast state handle
-    → new_state ≡ filled r.blob.items state → Keeps state new_state (items_of records) (items_of (set records index n)) []
+    → new_state ≡ filled r.blob.items state → KeepsStanding state new_state (items_of records) (items_of (set records index n)) []
 loaded_swap state new_state records index handle r n was ready handle_is kept_is client_is handle_new kept_new blob_is room least state_is =
     moved_by state (filled r.blob.items state) new_state records index n (item_both r.client (slot_of handle) r.blob.items) state_is
     (with_client n r.client (Some (slot_of handle)) (Some n.blob.items) (saved_item n handle true handle_new kept_new) client_is

@@ -8,7 +8,7 @@ use Rattle.std.proofs.lemmas.List.Sums.{sum_by-le-sum_by}
 use Rattle.tab_spec.specs.Object.{Object}
 use Rattle.device_spec.specs.Slots.{IsSlots, SlotState, is_free}
 use Rattle.object_swap.specs.Items.{Item, AreFree, HasSlots, ObjectsStand, ObjectsView, Stand, counter_of, evictions, is_named, is_resident, is_unsaved, item_at, missing, moves_of, naming, pending_of, residents, rest_of, taken}
-use Rattle.object_swap.specs.Moves.{HasRoom}
+use Rattle.object_swap.specs.Moves.{HasSlotRoom}
 use Rattle.object_swap.specs.Records.{number}
 use Rattle.object_swap.proofs.Counts.{count_cons, number_false, number_most, number_true}
 use Rattle.object_swap.proofs.Order.{leaves_few}
@@ -159,22 +159,22 @@ slots_again (Some slots) (Some new) items new_items count has stand new_stand sa
 
 -- ---- room for objects
 
-pub has_room : (state : Option SlotState) (count few : ℕ) → HasSlots state count → few ≤ count → HasRoom state few
+pub has_room : (state : Option SlotState) (count few : ℕ) → HasSlots state count → few ≤ count → HasSlotRoom state few
 has_room None count few has less = tt
 has_room (Some slots) count few has less = omega (arith, has)
 
 -- where one more is to come into a slot, and there is room for it
-pub room_left : (state : Option SlotState) (items : List Item) (count left : ℕ) → Stand state items [] → HasRoom state count → residents items + left ≤ count
+pub room_left : (state : Option SlotState) (items : List Item) (count left : ℕ) → Stand state items [] → HasSlotRoom state count → residents items + left ≤ count
     → 1 ≤ left → IfSome state (λ slots. list_any is_free slots.slots ≡ true)
 room_left None items count left stand room few some = tt
 room_left (Some slots) items count left stand room few some = room_free (Some slots) items (length slots.slots) stand refl (omega arith)
 
-pub room_fewer : (state : Option SlotState) (count few : ℕ) → HasRoom state count → few ≤ count → HasRoom state few
+pub room_fewer : (state : Option SlotState) (count few : ℕ) → HasSlotRoom state count → few ≤ count → HasSlotRoom state few
 room_fewer None count few room less = tt
 room_fewer (Some slots) count few room less = omega arith
 
 pub room_again : (state new_state : Option SlotState) (items new_items : List Item) (count : ℕ) → Stand state items [] → Stand new_state new_items []
-    → rest_of new_state ≡ rest_of state → HasRoom state count → HasRoom new_state count
+    → rest_of new_state ≡ rest_of state → HasSlotRoom state count → HasSlotRoom new_state count
 room_again None None items new_items count stand new_stand same room = tt
 room_again None (Some new) items new_items count stand new_stand same room = absurd cc
 room_again (Some slots) None items new_items count stand new_stand same room = tt

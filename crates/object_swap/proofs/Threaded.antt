@@ -5,7 +5,7 @@ use Rattle.std.proofs.lemmas.Bool.{cases_eq, cases_lt, eq-eqb, eqb-true, false_f
 use Rattle.std.proofs.lemmas.List.{get_or-set_other, get_or-set_same, get_or_past}
 use Rattle.linked_records.specs.View.{IsListed, put_back, taken_out}
 use Rattle.object_swap.specs.Items.{Item, has_list, is_client, is_nobodys, is_owner, is_vacant, item_at, no_item, owner_at}
-use Rattle.object_swap.specs.Records.{AreSomebodys, AreThreaded, Threads, is_whose, number, stands_in}
+use Rattle.object_swap.specs.Records.{AreSomebodys, AreThreaded, IndexLists, is_whose, number, stands_in}
 use Rattle.object_swap.proofs.Counts.{count_append, count_cons, count_one, is_true, list_some, number_false, number_most, number_true}
 
 abbrev pub Entry : Type 0
@@ -117,7 +117,7 @@ list_of (owner ∷ owners) client has = has_by owner owners client (is_owner cli
 
 -- ---- where an item stands
 
-pub listed_in : (lists : Threads) (list index : ℕ) → 1 ≤ stands_in index (get_or lists list []) → IsListed lists index
+pub listed_in : (lists : IndexLists) (list index : ℕ) → 1 ≤ stands_in index (get_or lists list []) → IsListed lists index
 listed_in lists list index some =
     let there = found index (get_or lists list []) some in
     record {
@@ -143,7 +143,7 @@ nobody (Some client) none = absurd cc
 pub vacant_client : (items : List Item) (index : ℕ) → AreSomebodys items → is_vacant (item_at items index) ≡ true → (item_at items index).client ≡ None
 vacant_client items index somebodys vacant = nobody (item_at items index).client (sym (somebodys index) ∙ vacant)
 
-module _ (items : List Item) (lists : Threads) (owners : List (Option ℕ)) (has : AreThreaded items lists owners) where
+module _ (items : List Item) (lists : IndexLists) (owners : List (Option ℕ)) (has : AreThreaded items lists owners) where
   -- an item of a client stands in a list
   pub listed_client : (index client : ℕ) → (item_at items index).client ≡ Some client → IsListed lists index
   listed_client index client is =
@@ -162,7 +162,7 @@ module _ (items : List Item) (lists : Threads) (owners : List (Option ℕ)) (has
 
   -- ---- a list is given to a client, or taken from it
 
-  module _ (new_lists : Threads) (new_owners : List (Option ℕ)) (list client : ℕ) (as_many : length new_lists ≡ length new_owners)
+  module _ (new_lists : IndexLists) (new_owners : List (Option ℕ)) (list client : ℕ) (as_many : length new_lists ≡ length new_owners)
       (lists_same : (l : ℕ) → get_or new_lists l [] ≡ get_or lists l []) (others : (l : ℕ) → l ≢ list → owner_at new_owners l ≡ owner_at owners l) where
     pub threaded_given : has_list owners client ≡ false → owner_at owners list ≡ None → owner_at new_owners list ≡ Some client
         → AreThreaded items new_lists new_owners

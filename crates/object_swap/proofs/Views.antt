@@ -12,7 +12,7 @@ use Rattle.device_port.specs.Own.{AsksSome}
 use Rattle.device_port.specs.declared.own.SwapError.{SwapError}
 use Rattle.object_swap.specs.declared.record.Record.{Record}
 use Rattle.object_swap.specs.Items.{AreNeeded, AreResident, Dropped, HasSlots, HaveSlots, Item, Forgets, MakesRoom, Moved, Names, ObjectsView, Stand, counter_of, evictions, item_at, missing, no_item, objects_of, owners, residents, rest_of}
-use Rattle.object_swap.specs.Moves.{Keeps, Swaps, emptied}
+use Rattle.object_swap.specs.Moves.{KeepsStanding, Swaps, emptied}
 use Rattle.object_swap.specs.Records.{AreRecords, AreTransient, items_of, view_of, view_with}
 use Rattle.object_swap.proofs.Listed.{named_inside, none_slot}
 use Rattle.object_swap.proofs.Moved.{emptied_counter, emptied_rest, flushed_drops, left_drops}
@@ -32,9 +32,9 @@ pub swapped : {D A : Type 0} {contexts : ContextLimits} (seen : D → Seen) (a b
     → Swaps contexts seen a b records new_records → AsksSome contexts seen a b result → items_of records ≡ old.items → new.items ≡ items_of new_records → new.slots ≡ old.slots
     → new.owners ≡ old.owners → new.left ≡ old.left → new.contexts ≡ old.contexts → Moved seen a b old new
 swapped seen a b result records new_records old new swaps asks old_is new_is slots owners left room =
-    let keeps : Keeps (seen a).state (seen b).state old.items new.items [] =
-    subst (λ (l : List Item). Keeps (seen a).state (seen b).state l new.items []) old_is
-    (subst (λ (l : List Item). Keeps (seen a).state (seen b).state (items_of records) l []) (sym new_is) swaps.keeps) in
+    let keeps : KeepsStanding (seen a).state (seen b).state old.items new.items [] =
+    subst (λ (l : List Item). KeepsStanding (seen a).state (seen b).state l new.items []) old_is
+    (subst (λ (l : List Item). KeepsStanding (seen a).state (seen b).state (items_of records) l []) (sym new_is) swaps.keeps) in
     record {
       slots = slots;
       owners = owners;

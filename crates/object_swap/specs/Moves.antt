@@ -42,7 +42,7 @@ pub record IsOut (slots : SlotState) (context : List ℕ) : Type 0 where
   pub there : is_some (object_at slots None (Some context)) ≡ true
 
 -- what moves of objects keep, of a state and of the items: every object stands, with the same owner
-pub record Keeps (old_state new_state : Option SlotState) (old new : List Item) (others : List ℕ) : Type 0 where
+pub record KeepsStanding (old_state new_state : Option SlotState) (old new : List Item) (others : List ℕ) : Type 0 where
   pub rest : rest_of new_state ≡ rest_of old_state
   pub objects : KeepsObjects old_state new_state old new
   pub stand : Stand new_state new others
@@ -88,25 +88,26 @@ pub record IsItem (records : List Record) (index : ℕ) (resident : Bool) : Type
 
 -- what each move of an object keeps, of the records and of the device's state
 pub record Swaps {D : Type 0} (contexts : ContextLimits) (seen : D → Seen) (old new : D) (records new_records : List Record) : Type 0 where
-  pub keeps : Keeps (seen old).state (seen new).state (items_of records) (items_of new_records) []
+  pub keeps : KeepsStanding (seen old).state (seen new).state (items_of records)
+      (items_of new_records) []
   pub sound : AreRecords contexts new_records
 
 -- so many objects fit into the slots
-abbrev pub HasRoom : Option SlotState → ℕ → Type 0
-HasRoom None count = Unit {0}
-HasRoom (Some slots) count = count ≤ length slots.slots
+abbrev pub HasSlotRoom : Option SlotState → ℕ → Type 0
+HasSlotRoom None count = Unit {0}
+HasSlotRoom (Some slots) count = count ≤ length slots.slots
 
 -- objects that are to come into slots: they are there, and they fit beside those that are in slots
 pub record CanFill (state : Option SlotState) (records : List Record) (needed : List ℕ) : Type 0 where
   pub there : AreThere needed (items_of records)
-  pub room : HasRoom state (residents (items_of records) + missing needed (items_of records))
+  pub room : HasSlotRoom state (residents (items_of records) + missing needed (items_of records))
 
 -- the same, where some may have to leave their slots: they fit beside so many new ones
 pub record CanSwap (state : Option SlotState) (records : List Record) (needed : List ℕ) (slots new_slots : ℕ) : Type 0 where
   pub there : AreThere needed (items_of records)
   pub fits : length needed + new_slots ≤ slots
   pub few : residents (items_of records) ≤ slots
-  pub room : HasRoom state slots
+  pub room : HasSlotRoom state slots
 
 -- ---- what moves cost: a resident without a context costs a command more than one that has one, if it leaves
 

@@ -85,8 +85,8 @@ AreAmong needed indices = AllByRecursion (λ index. is_among needed index ≡ tr
 -- ---- the lists of the clients
 
 -- the indices in a list
-abbrev pub Threads : Type 0
-Threads = List (List (ℕ × Unit {0}))
+abbrev pub IndexLists : Type 0
+IndexLists = List (List (ℕ × Unit {0}))
 
 -- how often an index stands in a list
 abbrev pub stands_in : ℕ → List (ℕ × Unit {0}) → ℕ
@@ -98,7 +98,7 @@ is_whose None item = false
 is_whose (Some client) item = is_client client item
 
 -- each list has the index of each item of its client, once, and no other; an item of a client has a list, and no client has two
-pub record AreThreaded (items : List Item) (lists : Threads) (owners : List (Option ℕ)) : Type 0 where
+pub record AreThreaded (items : List Item) (lists : IndexLists) (owners : List (Option ℕ)) : Type 0 where
   pub as_many : length lists ≡ length owners
   pub each : (list index : ℕ) → stands_in index (get_or lists list []) ≡ number (is_whose (owner_at owners list) (item_at items index))
   pub owned : (index client : ℕ) → is_client client (item_at items index) ≡ true → has_list owners client ≡ true
@@ -139,7 +139,7 @@ pub record HoldsResidents (contexts : ContextLimits) (records : List Record) (lo
   pub transient : AreTransient left
 
 -- all that holds
-pub record Holds (contexts : ContextLimits) (records : List Record) (view : RecordsView (Unit {0})) (owners : List (Option ℕ)) (vacant : ℕ) (loaded left : List ℕ)
+pub record ObjectsHold (contexts : ContextLimits) (records : List Record) (view : RecordsView (Unit {0})) (owners : List (Option ℕ)) (vacant : ℕ) (loaded left : List ℕ)
     (loaded_room left_room slots : ℕ) : Type 0 where
   pub owned : IsOwnedBy (items_of records) view owners vacant
   pub held : HoldsResidents contexts records loaded left loaded_room left_room slots

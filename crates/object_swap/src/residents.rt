@@ -3,7 +3,7 @@ ghost use Rattle.std.specs.Prelude.{true, false, vec_capacity, IfSome, OnOk, Mat
 ghost use Rattle.std.specs.List.{list_any};
 ghost use Rattle.device_spec.specs.Slots.{is_free};
 ghost use Rattle.device_port.specs.Device.{asked_of, last_of};
-ghost use Rattle.device_port.specs.Own.{AsksSome, IsAnswered};
+ghost use Rattle.device_port.specs.Own.{AsksSome, IsOwnAnswered};
 ghost use Rattle.device_port.specs.Use.{is_among};
 ghost use Rattle.object_swap.specs.Items.{AreResident, AreThere, KeepsSlots, MakesRoom, Names};
 ghost use Rattle.object_swap.specs.Items.{is_kept, is_resident, item_at, missing};
@@ -99,7 +99,7 @@ fn put_away<D: Device>(
     ensures leaves { PutsAway D.seen device.old device.new records.old records.new
         loaded.old.items loaded.new.items at result }
     ensures ok { OnOk result
-        (IsAnswered D.CONTEXTS (asked_of (D.seen device.new)) (last_of (D.seen device.new))) }
+        (IsOwnAnswered D.CONTEXTS (asked_of (D.seen device.new)) (last_of (D.seen device.new))) }
     ensures asks { AsksSome D.CONTEXTS D.seen device.old device.new result }
 {
     let index = loaded[at] as usize;

@@ -54,14 +54,14 @@ pub struct Objects {
 impl Model for Objects {
     ghost use Rattle.std.specs.Prelude.{vec_capacity};
     ghost use Rattle.object_swap.specs.Items.{ObjectsView};
-    ghost use Rattle.object_swap.specs.Records.{Holds, view_with};
+    ghost use Rattle.object_swap.specs.Records.{ObjectsHold, view_with};
 
     ghost Value = { ObjectsView };
 
     ghost view = { λ o. view_with o.records.items o.loaded.items o.slots
         o.owners.owners o.left.items o.contexts };
 
-    ghost invariant = { λ o. Holds o.contexts o.records.items o.lists o.owners.owners o.vacant
+    ghost invariant = { λ o. ObjectsHold o.contexts o.records.items o.lists o.owners.owners o.vacant
         o.loaded.items o.left.items (vec_capacity o.loaded) (vec_capacity o.left) o.slots };
 }
 

@@ -13,7 +13,7 @@ use Rattle.history_spec.specs.declared.Pick.{Pick}
 use Rattle.history_spec.specs.Table.{held_under}
 use Rattle.world_spec.specs.World.{ClientState, ClientStep, Owned, client_operands, effect_step, left_by, made_step, own_place, session_of, tables_of}
 use Rattle.plain_machine.specs.Picks.{is_session, may_have, starts_session}
-use Rattle.plain_machine.specs.Views.{HasPlace}
+use Rattle.plain_machine.specs.Views.{HasPlaceForMade}
 use Rattle.plain_machine.proofs.Made.{made_placed}
 use Rattle.plain_machine.proofs.Running.{still_may}
 
@@ -38,9 +38,9 @@ left_is client state shape auths bytes operands left named is =
 pub left_place : (client : ℕ) (state : ClientState) (shape : Shape) (auths : Auths) (bytes : List ℕ) (left : Effect)
     → IsLeft client state shape auths bytes left → IsShape shape → object_too_many (tables_of client state) shape bytes ≡ None
     → ((shape.row.code == CC_START_AUTH_SESSION) ≡ true → is_session_handle (command_auth auths).session ≡ false)
-    → HasPlace left.outcome.created state.objects left.reply
+    → HasPlaceForMade left.outcome.created state.objects left.reply
 left_place client state shape auths bytes left is shaped few bare =
-    subst (λ (e : Effect). HasPlace e.outcome.created state.objects e.reply) (sym is)
+    subst (λ (e : Effect). HasPlaceForMade e.outcome.created state.objects e.reply) (sym is)
     (made_placed client state shape auths bytes shaped few bare).place
 
 pub left_pick : (client : ℕ) (state : ClientState) (shape : Shape) (auths : Auths) (bytes : List ℕ) (left : Effect) (pick : Pick)

@@ -23,7 +23,7 @@ use Rattle.tab_laws.proofs.OneSpelling.{Leaves, leaves_next}
 use Rattle.effect_spec.specs.Contexts.{Context, blob_fits, context_of}
 use Rattle.history_spec.specs.Table.{is_full}
 use Rattle.world_spec.specs.World.{load_parameters}
-use Rattle.plain_machine.specs.Views.{HasRoomFor}
+use Rattle.plain_machine.specs.Views.{HasLoadRoom}
 
 -- ---- where its parameters stand
 
@@ -151,7 +151,7 @@ room_by false true false true few is so = absurd cc
 room_by false false loading true few is so = absurd cc
 
 pub room_to_load : (tables : Tables) (bytes : List ℕ) (a : Admitted) (objects : List (Option Object)) → client_admitted tables bytes ≡ Ok a → IsShape a.shape
-    → tables.is_full ≡ is_full objects → (a.shape.row.code == CC_CONTEXT_LOAD) ≡ true → HasRoomFor (drop a.auths.params bytes) objects
+    → tables.is_full ≡ is_full objects → (a.shape.row.code == CC_CONTEXT_LOAD) ≡ true → HasLoadRoom (drop a.auths.params bytes) objects
 room_to_load tables bytes a objects admitted is full so = λ context read transient.
     let p = passed tables bytes a (client_is tables bytes a admitted).whole in
     let behind : drop a.auths.params bytes ≡ drop 10 bytes = ap (λ (n : ℕ). drop n bytes) (load_params tables bytes a p is so) in

@@ -25,7 +25,7 @@ use Rattle.effect_spec.specs.Effect.{Effect, RowOutcome, effect_authorized, effe
 use Rattle.history_spec.specs.Table.{held_under, is_full}
 use Rattle.world_spec.specs.World.{ClientState, client_operands, session_of, tables_of}
 use Rattle.plain_machine.specs.Picks.{is_session, starts_session}
-use Rattle.plain_machine.specs.Views.{HasPlace}
+use Rattle.plain_machine.specs.Views.{HasPlaceForMade}
 use Rattle.plain_machine.proofs.Starting.{closes, null_operands, null_stand, row_is, start_outcome, start_row}
 
 abbrev is_maker : ℕ → Bool
@@ -122,7 +122,7 @@ outcome_makes persist operands shape auths bytes starts is other none =
 
 -- there is a place for it, and it is a session where one is started
 pub record Placed (objects : List (Option Object)) (starts : Bool) (created : Created) (reply : List ℕ) : Type 0 where
-  pub place : HasPlace created objects reply
+  pub place : HasPlaceForMade created objects reply
   pub session : is_session created ≡ starts
 
 handle_first : (has_handle : Bool) (tag : ℕ) (body : List ℕ) → has_handle ≡ true → 14 ≤ length (response tag RC_SUCCESS (handle_area has_handle ++ body))

@@ -9,7 +9,7 @@ use Rattle.world_spec.specs.World.{Client, ClientState, ClientStep, World, clien
 use Rattle.plain_machine.specs.Clients.{is_open_in, place_in}
 use Rattle.plain_machine.specs.declared.step_error.StepError.{StepError}
 use Rattle.plain_machine.specs.declared.step_error.StepError.TheVariants.{PickRefused, Memory}
-use Rattle.plain_machine.specs.Views.{Ran}
+use Rattle.plain_machine.specs.Views.{StepRan}
 
 one_more : (n : ℕ) → 1 + n ≡ suc n
 one_more n = omega arith
@@ -158,7 +158,7 @@ still_some world client None is = absurd cc
 still_some world client (Some step) is = refl
 
 ran_in : {A : Type 0} (result : Result A StepError) (world : World) (client : ℕ) (step : Option ClientStep) (after : ClientStep) (left : World × List ℕ)
-    → (world_with_state world client after.0, after.1) ≡ left → Ran result step after → Ran result (step_in world client step) left
+    → (world_with_state world client after.0, after.1) ≡ left → StepRan result step after → StepRan result (step_in world client step) left
 ran_in (Ok done) world client step after left is ran =
     ap (λ (s : Option ClientStep). step_in world client s) ran ∙ ap (λ (w : World × List ℕ). Some w) is
 ran_in (Err PickRefused) world client step after left is ran = ap (λ (s : Option ClientStep). step_in world client s) ran
@@ -168,17 +168,17 @@ ran_in (Err Memory) world client step after left is ran = still_some world clien
 pub ran_of : {A : Type 0} (result : Result A StepError) (world : World) (client place : ℕ) (command : List ℕ) (pick : Pick) (after : ClientState)
     (c e : Client) (reply : List ℕ) → is_open_in world.clients client ≡ true → place ≡ place_in world.clients client
     → c ≡ get_or world.clients place c → e.number ≡ c.number → after.objects ≡ e.objects
-    → Ran result (client_step c.number (state_with world c.objects) command pick) (after, reply)
-    → Ran result (plain_step world client command pick) (world_left world after (set world.clients place e), reply)
+    → StepRan result (client_step c.number (state_with world c.objects) command pick) (after, reply)
+    → StepRan result (plain_step world client command pick) (world_left world after (set world.clients place e), reply)
 ran_of result world client place command pick after c e reply is at found same held ran =
     let left : World = world_left world after (set world.clients place e) in
-    subst (λ (step : Option (World × List ℕ)). Ran result step (left, reply)) (sym (stepped world client place command pick c is at found))
+    subst (λ (step : Option (World × List ℕ)). StepRan result step (left, reply)) (sym (stepped world client place command pick c is at found))
     (ran_in result world client (client_step c.number (state_with world c.objects) command pick) (after, reply) (left, reply)
     (ap (λ (w : World). let step : World × List ℕ = (w, reply) in step) (left_world world client place after c e is at found same held)) ran)
 
 -- ---- what a call tells of it
 
-pub told_ok : {A S : Type 0} (result : Result A StepError) (step : Option S) (after : S) → Ran result step after → OnOk result (step ≡ Some after)
+pub told_ok : {A S : Type 0} (result : Result A StepError) (step : Option S) (after : S) → StepRan result step after → OnOk result (step ≡ Some after)
 told_ok (Ok done) step after ran = ran
 told_ok (Err error) step after ran = tt
 
@@ -186,7 +186,7 @@ not_both : {S : Type 0} (step : Option S) → is_some step ≡ true → step ≡
 not_both None some none = absurd cc
 not_both (Some s) some none = absurd cc
 
-pub told_refused : {A S : Type 0} (result : Result A StepError) (step : Option S) (after : S) → Ran result step after
+pub told_refused : {A S : Type 0} (result : Result A StepError) (step : Option S) (after : S) → StepRan result step after
     → (result ≡ Err PickRefused) ↔ (step ≡ None)
 told_refused {A} {S} (Ok done) step after ran =
     ((λ is. absurd cc), (λ none. absurd (not_both step (ap (λ (s : Option S). is_some s) ran) none)))

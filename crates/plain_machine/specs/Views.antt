@@ -55,21 +55,22 @@ tables_seen seen = record {
 -- ---- what a command leaves
 
 -- where a command made something, there is a place for its handle in the response, and for an object one in the table
-abbrev pub HasPlace : Created → List (Option object.Object) → List ℕ → Type 0
-HasPlace nothing objects reply = Unit {0}
-HasPlace (new_object o) objects reply = (is_full objects ≡ false) × (14 ≤ length reply)
-HasPlace (new_session s) objects reply = 14 ≤ length reply
+abbrev pub HasPlaceForMade : Created → List (Option object.Object) → List ℕ → Type 0
+HasPlaceForMade nothing objects reply = Unit {0}
+HasPlaceForMade (new_object o) objects reply = (is_full objects ≡ false) × (14 ≤ length reply)
+HasPlaceForMade (new_session s) objects reply = 14 ≤ length reply
 
 -- where these parameters of ContextLoad have the context of an object, there is room for the object
-abbrev pub HasRoomFor : List ℕ → List (Option object.Object) → Type 0
-HasRoomFor params objects = (context : Context) → load_parameters params ≡ Ok context → context.saved_handle ≡ TRANSIENT_FIRST
+abbrev pub HasLoadRoom : List ℕ → List (Option object.Object) → Type 0
+HasLoadRoom params objects = (context : Context) → load_parameters params ≡ Ok context → context.saved_handle ≡ TRANSIENT_FIRST
     → is_full objects ≡ false
 
 -- the step isn't one that the command may have, or there is one and it was for want of memory that it wasn't done
-abbrev pub FailsBy : {S : Type 0} → StepError → Option S → Type 0
-FailsBy PickRefused step = step ≡ None
-FailsBy Memory step = is_some step ≡ true
+abbrev pub StepFails : {S : Type 0} → StepError → Option S → Type 0
+StepFails PickRefused step = step ≡ None
+StepFails Memory step = is_some step ≡ true
 
 -- the step was done, and left this; or it failed
-abbrev pub Ran : {A S : Type 0} → Result A StepError → Option S → S → Type 0
-Ran result step after = MatchResult result (λ done. step ≡ Some after) (λ error. FailsBy error step)
+abbrev pub StepRan : {A S : Type 0} → Result A StepError → Option S → S → Type 0
+StepRan result step after =
+    MatchResult result (λ done. step ≡ Some after) (λ error. StepFails error step)

@@ -1,6 +1,6 @@
 ghost use Rattle.std.specs.Prelude.{◌≡◌, ◌≤◌, length, OnErr};
 ghost use Rattle.world_spec.specs.World.{capability_step, choosing_nothing, client_capability};
-ghost use Rattle.plain_machine.specs.Views.{Ran, objects_of, state_of};
+ghost use Rattle.plain_machine.specs.Views.{StepRan, objects_of, state_of};
 
 use crate::picks::is_nothing;
 use crate::seen::Seen;
@@ -26,7 +26,7 @@ pub(crate) fn get_capability(
 ) -> Result<(), StepError>
     requires most { length places.now ≤ CLIENT_OBJECTS }
     ensures ran { let state = state_of shared.now (objects_of places.now) in
-        Ran result
+        StepRan result
         (choosing_nothing (capability_step state (client_capability client state params.now)) pick)
         (state, reply.new) }
     ensures err { OnErr result (reply.new ≡ reply.old) }

@@ -1,6 +1,6 @@
 ghost use Rattle.std.specs.Prelude.{◌≡◌, OnErr};
 ghost use Rattle.world_spec.specs.World.{client_step, new_client};
-ghost use Rattle.plain_machine.specs.Views.{Ran, state_of};
+ghost use Rattle.plain_machine.specs.Views.{StepRan, state_of};
 
 use crate::picks::is_nothing;
 use crate::run::run;
@@ -62,7 +62,7 @@ impl OpenClient {
         pick: Pick,
         reply: &mut Buffer,
     ) -> Result<(), StepError>
-        ensures ran { Ran result
+        ensures ran { StepRan result
             (client_step self.old.number (state_of shared.old self.old.objects) command.now pick)
             (state_of shared.new self.new.objects, reply.new) }
         ensures err { OnErr result ((state_of shared.new self.new.objects

@@ -15,7 +15,7 @@ ghost use Rattle.world_spec.specs.World.{choosing_nothing, load_parameters, load
 ghost use Rattle.world_spec.specs.World.{loadable_under, object_handed, object_opened};
 ghost use Rattle.world_spec.specs.World.{refused_step, save_parameters, save_step, session_handed};
 ghost use Rattle.world_spec.specs.World.{session_taken};
-ghost use Rattle.plain_machine.specs.Views.{HasRoomFor, Ran, objects_of, state_of};
+ghost use Rattle.plain_machine.specs.Views.{HasLoadRoom, StepRan, objects_of, state_of};
 
 use crate::picks::{is_nothing, may_hand_out};
 use crate::sessions::{
@@ -47,7 +47,7 @@ pub(crate) fn context_save(
     pick: Pick,
     reply: &mut Buffer,
 ) -> Result<(), StepError>
-    ensures ran { Ran result
+    ensures ran { StepRan result
         (save_step client (state_of shared.old (objects_of places.now)) handle
         (save_parameters params.now) pick)
         (state_of shared.new (objects_of places.now), reply.new) }
@@ -78,7 +78,7 @@ fn hand_object(
     reply: &mut Buffer,
 ) -> Result<(), StepError>
     ensures ran { let state = state_of shared.old (objects_of places.now) in
-        Ran result (object_handed state (table.held_under state.objects handle) sequence)
+        StepRan result (object_handed state (table.held_under state.objects handle) sequence)
         (state_of shared.new (objects_of places.now), reply.new) }
     ensures err { OnErr result ((shared.new ≡ shared.old) × (reply.new ≡ reply.old)) }
 {
@@ -106,7 +106,7 @@ fn hand_session(
 ) -> Result<(), StepError>
     ensures ran { (objects : List (Option object.Object)) →
         let state = state_of shared.old objects in
-        Ran result
+        StepRan result
         (session_handed client state handle (worlds.session_of state.sessions client handle)
         sequence)
         (state_of shared.new objects, reply.new) }
@@ -157,9 +157,9 @@ pub(crate) fn context_load(
     pick: Pick,
     reply: &mut Buffer,
 ) -> Result<(), StepError>
-    requires room { HasRoomFor params.now (objects_of places.old.items) }
+    requires room { HasLoadRoom params.now (objects_of places.old.items) }
     requires most { length places.old.items ≤ CLIENT_OBJECTS }
-    ensures ran { Ran result
+    ensures ran { StepRan result
         (choosing_nothing (load_step client (state_of shared.old (objects_of places.old.items))
         params.now (load_parameters params.now)) pick)
         (state_of shared.new (objects_of places.new.items), reply.new) }
@@ -210,7 +210,7 @@ fn load_object(
     requires few { table.is_full (objects_of places.old.items) ≡ false }
     requires most { length places.old.items ≤ CLIENT_OBJECTS }
     ensures ran { let state = state_of shared.now (objects_of places.old.items) in
-        Ran result (Some (object_opened state (opened_object state.persist.seed params.now)))
+        StepRan result (Some (object_opened state (opened_object state.persist.seed params.now)))
         (state_of shared.now (objects_of places.new.items), reply.new) }
     ensures err { OnErr result ((objects_of places.new.items ≡ objects_of places.old.items)
         × (reply.new ≡ reply.old)) }

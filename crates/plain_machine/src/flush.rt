@@ -4,7 +4,7 @@ ghost use Rattle.tab_spec.specs.Shape.{octet_of};
 ghost use Rattle.history_spec.specs.Table.{held_under};
 ghost use Rattle.world_spec.specs.World.{choosing_nothing, flush_fault, flush_handle, flush_step};
 ghost use Rattle.world_spec.specs.World.{refused_step, without_named};
-ghost use Rattle.plain_machine.specs.Views.{Ran, object_seen, objects_of, owned_seen, state_of};
+ghost use Rattle.plain_machine.specs.Views.{StepRan, object_seen, objects_of, owned_seen, state_of};
 
 use crate::picks::is_nothing;
 use crate::seen::Seen;
@@ -29,7 +29,7 @@ pub(crate) fn flush_context(
     reply: &mut Buffer,
 ) -> Result<(), StepError>
     requires most { length places.old.items ≤ CLIENT_OBJECTS }
-    ensures ran { Ran result
+    ensures ran { StepRan result
         (choosing_nothing (flush_step client (state_of shared.old (objects_of places.old.items))
         (flush_handle params.now)) pick)
         (state_of shared.new (objects_of places.new.items), reply.new) }

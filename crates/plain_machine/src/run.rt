@@ -10,7 +10,8 @@ ghost use Rattle.world_spec.specs.World.{client_operands, effect_step, made_step
 ghost use Rattle.world_spec.specs.World.{tables_of};
 ghost use Rattle.plain_machine.specs.Owners.{owners_of};
 ghost use Rattle.plain_machine.specs.Picks.{effect_run, is_session, may_have, starts_session};
-ghost use Rattle.plain_machine.specs.Views.{HasPlace, HasRoomFor, Ran, objects_of, state_of};
+ghost use Rattle.plain_machine.specs.Views.{HasLoadRoom, HasPlaceForMade, StepRan, objects_of};
+ghost use Rattle.plain_machine.specs.Views.{state_of};
 
 use crate::capability::get_capability;
 use crate::contexts::{context_load, context_save};
@@ -51,9 +52,9 @@ pub(crate) fn run(
     requires bare { (admitted.now.shape.row.code == CC_START_AUTH_SESSION) ≡ true
         → is_session_handle (command_auth admitted.now.auths).session ≡ false }
     requires loads { (admitted.now.shape.row.code == CC_CONTEXT_LOAD) ≡ true
-        → HasRoomFor (drop admitted.now.auths.params command.now) (objects_of places.old.items) }
+        → HasLoadRoom (drop admitted.now.auths.params command.now) (objects_of places.old.items) }
     requires most { length places.old.items ≤ CLIENT_OBJECTS }
-    ensures ran { Ran result
+    ensures ran { StepRan result
         (run_step client (state_of shared.old (objects_of places.old.items)) admitted.now.shape
         admitted.now.auths command.now pick)
         (state_of shared.new (objects_of places.new.items), reply.new) }
@@ -94,7 +95,7 @@ fn try_effect(
     requires bare { (admitted.now.shape.row.code == CC_START_AUTH_SESSION) ≡ true
         → is_session_handle (command_auth admitted.now.auths).session ≡ false }
     requires most { length places.old.items ≤ CLIENT_OBJECTS }
-    ensures ran { Ran result
+    ensures ran { StepRan result
         (effect_run client (state_of shared.old (objects_of places.old.items)) admitted.now.shape
         admitted.now.auths command.now pick)
         (state_of shared.new (objects_of places.new.items), reply.new) }
@@ -169,7 +170,7 @@ fn put_made(
     pick: Pick,
     reply: &mut Buffer,
 )
-    requires place { HasPlace (created_of created) (objects_of places.old.items) reply.old }
+    requires place { HasPlaceForMade (created_of created) (objects_of places.old.items) reply.old }
     requires pick { may_have (is_session (created_of created))
         (owners_of shared.old.sessions.items) pick ≡ true }
     requires most { length places.old.items ≤ CLIENT_OBJECTS }

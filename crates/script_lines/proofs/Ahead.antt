@@ -6,7 +6,7 @@ use Rattle.std.proofs.lemmas.Bool.{eq-eqb, eqb-true, ne_eqb}
 use Rattle.std.proofs.lemmas.Bool.Decides.{nat_tests}
 use Rattle.tab_spec.specs.declared.TheConstants.{CC_CANCEL, ST_NO_SESSIONS}
 use Rattle.std.proofs.lemmas.List.{append-nil, take-append-drop, length-take-le, nil_from_length}
-use Rattle.tab_spec.specs.Frame.{Item, command, cancel, bad, code_of, is_bad, is_frame, is_size, item_of, size_of, tag_of, with_item, Frames, frames, meets_bad_size}
+use Rattle.tab_spec.specs.Frame.{StreamItem, command, cancel, bad, code_of, is_bad, is_frame, is_size, item_of, size_of, tag_of, with_item, Frames, frames, meets_bad_size}
 use Rattle.tab_laws.proofs.Cuts.{frame_long, frame_before, left_few, left_nothing, bad_stays, one_frame}
 use Rattle.tab_frame.specs.Framing.{GaveItem}
 use Rattle.history_spec.specs.Cancels.{cancels_after}
@@ -14,13 +14,13 @@ use Rattle.history_spec.specs.Cancels.{cancels_after}
 -- ---- a frame that comes next
 
 -- how the bytes behind a frame are cut
-pub cut_behind : (item : Item) (old new out rest : List ℕ) → GaveItem item old new out → frames (old ++ rest) ≡ with_item item (frames (new ++ rest))
+pub cut_behind : (item : StreamItem) (old new out rest : List ℕ) → GaveItem item old new out → frames (old ++ rest) ≡ with_item item (frames (new ++ rest))
 cut_behind item old new out rest gave =
     ap frames (ap (λ (bytes : List ℕ). bytes ++ rest) gave.parts ∙ append_assoc out new rest)
     ∙ frame_before out (new ++ rest) gave.frame
-    ∙ ap (λ (i : Item). with_item i (frames (new ++ rest))) gave.is_item
+    ∙ ap (λ (i : StreamItem). with_item i (frames (new ++ rest))) gave.is_item
 
-pub shorter_by : (item : Item) (old new out : List ℕ) → GaveItem item old new out → 10 + length new ≤ length old
+pub shorter_by : (item : StreamItem) (old new out : List ℕ) → GaveItem item old new out → 10 + length new ≤ length old
 shorter_by item old new out gave = omega (arith, frame_long out gave.frame, ap length gave.parts, length-append out new)
 
 -- ---- bytes that are fed
@@ -69,7 +69,7 @@ pub last_none : (upto : Option ℕ) (count : ℕ) (kept rest : List ℕ) → (fr
 last_none upto count kept rest none no_rest =
     ap (λ (bytes : List ℕ). last_of upto count (kept ++ bytes)) no_rest
     ∙ ap (last_of upto count) (append-nil kept)
-    ∙ ap (λ (items : List Item). last_or upto (cancels_after count items)) none
+    ∙ ap (λ (items : List StreamItem). last_or upto (cancels_after count items)) none
 
 -- a bad size comes next
 pub last_bad : (upto : Option ℕ) (count size : ℕ) (kept rest : List ℕ) → frames kept ≡ record { items = []; ending = bad size } → last_of upto count (kept ++ rest) ≡ upto
@@ -95,4 +95,4 @@ one_command kept piece none long short sized =
     let item : item_of piece ≡ command piece = not_cancel (tag_of piece == ST_NO_SESSIONS) (size_of piece == 10) (code_of piece == CC_CANCEL) piece (ne_eqb (size_of piece) 10 other) in
     ap (λ (bytes : List ℕ). (frames (bytes ++ piece)).items) (nil_from_length kept none)
     ∙ ap (λ (cut : Frames). cut.items) (one_frame piece frame)
-    ∙ ap (λ (i : Item). i ∷ []) item
+    ∙ ap (λ (i : StreamItem). i ∷ []) item

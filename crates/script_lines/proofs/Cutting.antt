@@ -7,7 +7,7 @@ use Rattle.script_spec.specs.Script.{is_newline, onto_first, lines_of, text_of}
 use Rattle.script_lines.specs.declared.reader.Line.{Line}
 use Rattle.script_lines.specs.declared.reader.Line.TheVariants.{Text, End, TooLong}
 use Rattle.script_lines.specs.Lines.{LinesView, GaveLine, IsTooLong, CameNext, ReadNext, HasPulled}
-use Rattle.script_lines.specs.Pieces.{has_newline, IsFilled, Filled, GoesOn, EndsLine, IsTooMuch, TookPiece}
+use Rattle.script_lines.specs.Pieces.{has_newline, IsFilled, Filled, LineGoesOn, EndsLine, IsTooMuch, TookPiece}
 use Rattle.script_lines.proofs.Places.{before_first-append, before_first-none}
 
 -- ---- lines of a list of bytes
@@ -101,7 +101,7 @@ no_newline-append text piece first second =
     list_any-append is_newline text piece ∙ or_from (has_newline text) (has_newline piece) first second
 
 pub Cutting-goes_on : (begun left : Option (List ℕ)) (first old new : LinesView) (text longer : List ℕ)
-    → Cutting begun first left text old → GoesOn old text new longer → Cutting begun first left longer new
+    → Cutting begun first left text old → LineGoesOn old text new longer → Cutting begun first left longer new
 Cutting-goes_on None left first old new text longer cutting on = cutting
 Cutting-goes_on (Some more) left first old new text longer cutting on =
     let room = on.room_is in

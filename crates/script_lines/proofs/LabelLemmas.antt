@@ -7,7 +7,7 @@ use Rattle.std.specs.Option.{option_map, IsSome, IsSomeAnd}
 use Rattle.std.specs.Ordering.{nat_cmp}
 use Rattle.script_lines.specs.declared.label.Label.{Label}
 use Rattle.script_lines.specs.Labels.{LabelsView, label_in, replaced, without_label}
-use Rattle.script_lines.specs.Places.{somes, item_at, AreKept}
+use Rattle.script_lines.specs.Places.{somes, item_at, LabelsAreKept}
 
 -- ---- one place
 
@@ -117,7 +117,7 @@ pub label_same : (x y : Label) → ◌≡◌ {A = Option Label} (Some x) (Some y
 label_same x y e = cc e
 
 -- no labels
-pub kept_none : (clients : ℕ → Option ℕ) → ((q : ℕ) → clients q ≡ None) → AreKept [] 0 clients
+pub kept_none : (clients : ℕ → Option ℕ) → ((q : ℕ) → clients q ≡ None) → LabelsAreKept [] 0 clients
 kept_none clients none = record {
   client = λ place x is. absurd (label_none x (sym is));
   mapped = λ place x is. absurd (label_none x (sym is));
@@ -127,7 +127,7 @@ kept_none clients none = record {
   few = omega arith;
 }
 
-module _ (items : List (Option Label)) (first : ℕ) (clients : ℕ → Option ℕ) (kept : AreKept items first clients) where
+module _ (items : List (Option Label)) (first : ℕ) (clients : ℕ → Option ℕ) (kept : LabelsAreKept items first clients) where
   only_at : (label place : ℕ) → clients label ≡ Some place → IsOnly items label place
   only_at label place is =
       λ other y y_is y_named. some_same other place (sym (kept.mapped other y y_is) ∙ ap clients y_named ∙ is)
@@ -169,7 +169,7 @@ module _ (items : List (Option Label)) (first : ℕ) (clients : ℕ → Option �
 
   -- an open label becomes another of its name and client
   pub kept_changed : (label place : ℕ) (y : Label) → clients label ≡ Some place → y.label ≡ label → y.client ≡ place
-      → AreKept (slice_set items place (Some y)) first clients
+      → LabelsAreKept (slice_set items place (Some y)) first clients
   kept_changed label place y is named client =
       let s = stands label place is in
       let here : item_at (slice_set items place (Some y)) place ≡ Some y = get_or-set_same items place (Some y) None s.inside in
@@ -208,7 +208,7 @@ module _ (items : List (Option Label)) (first : ℕ) (clients : ℕ → Option �
 
   -- an open label is closed
   pub kept_closed : (label place : ℕ) (after : ℕ → Option ℕ) → clients label ≡ Some place
-      → ((q : ℕ) → after q ≡ (if is_at (nat_cmp label) q then None else clients q)) → AreKept (slice_set items place None) first after
+      → ((q : ℕ) → after q ≡ (if is_at (nat_cmp label) q then None else clients q)) → LabelsAreKept (slice_set items place None) first after
   kept_closed label place after is says =
       let s = stands label place is in
       let here : item_at (slice_set items place None) place ≡ None = get_or-set_same items place None None s.inside in
@@ -249,7 +249,7 @@ module _ (items : List (Option Label)) (first : ℕ) (clients : ℕ → Option �
 
   -- one more label is open, which wasn't
   pub kept_opened : (y : Label) (after : ℕ → Option ℕ) → y.client ≡ length items → clients y.label ≡ None → length items < 2 ^ 32
-      → ((q : ℕ) → after q ≡ (if is_at (nat_cmp y.label) q then Some (length items) else clients q)) → AreKept (items ++ Some y ∷ []) first after
+      → ((q : ℕ) → after q ≡ (if is_at (nat_cmp y.label) q then Some (length items) else clients q)) → LabelsAreKept (items ++ Some y ∷ []) first after
   kept_opened y after client fresh few says =
       let more : List (Option Label) = items ++ Some y ∷ [] in
       let here : item_at more (length items) ≡ Some y = get_or_at items (Some y) [] None (length items) refl in
@@ -295,8 +295,8 @@ module _ (items : List (Option Label)) (first : ℕ) (clients : ℕ → Option �
       }
 
 -- the last label, which is open, is taken back
-pub kept_taken_back : (items : List (Option Label)) (y : Label) (first : ℕ) (clients after : ℕ → Option ℕ) → AreKept (items ++ Some y ∷ []) first clients
-    → ((q : ℕ) → after q ≡ (if is_at (nat_cmp y.label) q then None else clients q)) → AreKept items first after
+pub kept_taken_back : (items : List (Option Label)) (y : Label) (first : ℕ) (clients after : ℕ → Option ℕ) → LabelsAreKept (items ++ Some y ∷ []) first clients
+    → ((q : ℕ) → after q ≡ (if is_at (nat_cmp y.label) q then None else clients q)) → LabelsAreKept items first after
 kept_taken_back items y first clients after kept says =
     let more : List (Option Label) = items ++ Some y ∷ [] in
     let here : item_at more (length items) ≡ Some y = get_or_at items (Some y) [] None (length items) refl in
@@ -373,7 +373,7 @@ pub record IsFirst (labels : List Label) (label : ℕ) : Type 0 where
 
 -- the last of all that were opened, where it is open
 pub last_is : (front : List (Option Label)) (item : Option Label) (first : ℕ) (clients : ℕ → Option ℕ) (xs : List Label) (x : Label)
-    → AreKept (front ++ item ∷ []) first clients → somes (front ++ item ∷ []) ≡ xs ++ x ∷ [] → x.client + 1 ≡ length (front ++ item ∷ [])
+    → LabelsAreKept (front ++ item ∷ []) first clients → somes (front ++ item ∷ []) ≡ xs ++ x ∷ [] → x.client + 1 ≡ length (front ++ item ∷ [])
     → item ≡ Some x
 last_is front item first clients xs x kept is last =
     let more : List (Option Label) = front ++ item ∷ [] in
@@ -383,7 +383,7 @@ last_is front item first clients xs x kept is last =
     let here : item_at more (length front) ≡ item = get_or_at front item [] None (length front) refl in
     sym here ∙ ap (item_at more) (sym place) ∙ at.1
 
-module _ (items : List (Option Label)) (first : ℕ) (clients : ℕ → Option ℕ) (kept : AreKept items first clients)
+module _ (items : List (Option Label)) (first : ℕ) (clients : ℕ → Option ℕ) (kept : LabelsAreKept items first clients)
     (now : LabelsView) (view_is : seen items ≡ now) where
   pub client_seen : (label : ℕ) → clients label ≡ option_map (λ x. x.client) (label_in now.present label)
   client_seen label =
@@ -436,7 +436,7 @@ module _ (items : List (Option Label)) (first : ℕ) (clients : ℕ → Option �
       rw set (subst (λ (v : LabelsView). seen (slice_set items place (Some y)) ≡ record v { present = replaced y v.present }) view_is base)
 
   pub written_kept : (label place : ℕ) (y : Label) (item : Option Label) → clients label ≡ Some place → y.label ≡ label → y.client ≡ place
-      → item ≡ Some y → AreKept (slice_set items place item) first clients
+      → item ≡ Some y → LabelsAreKept (slice_set items place item) first clients
   written_kept label place y item is named client set = rw set (kept_changed items first clients kept label place y is named client)
 
   -- the labels that are seen after one more was opened

@@ -9,7 +9,7 @@ use Rattle.hex.specs.Hex.{encode_with, encode_lower, lower_digits, decode_of}
 use Rattle.hex.specs.declared.error.FromHexError.{FromHexError}
 use Rattle.hex.proofs.HexLemmas.{decode_of-ok}
 use Rattle.script_lines.proofs.Places.{not_found, place_found}
-use Rattle.script_spec.specs.Script.{is_space, number_of, label_of, item_in, piece_in, item_of, Item}
+use Rattle.script_spec.specs.Script.{is_space, number_of, label_of, item_in, piece_in, item_of, ScriptItem}
 
 -- a number with one more decimal digit
 abbrev pub next_number : ℕ → ℕ → ℕ
@@ -55,7 +55,8 @@ number_of-none true fits number is = rw is refl
 number_of-none false fits number is = refl
 
 -- either way nothing
-no_item : (b : Bool) (item : Option Item) → (if b then None else if true then None else item) ≡ None
+no_item : (b : Bool) (item : Option ScriptItem)
+    → (if b then None else if true then None else item) ≡ None
 no_item true item = refl
 no_item false item = refl
 
@@ -66,7 +67,7 @@ item_of-no_space text is =
     rw none (no_item (nat_lt 16384 (length text)) None)
 
 -- a line says what its words in front of the first space and behind it do
-pub item_of-words : (text : List ℕ) (i label : ℕ) (item : Option Item) → length text ≤ 16384 → position is_space text ≡ Some i
+pub item_of-words : (text : List ℕ) (i label : ℕ) (item : Option ScriptItem) → length text ≤ 16384 → position is_space text ≡ Some i
     → Some label ≡ label_of (take i text)
     → item_in (Some label) (take (length text - (i + 1)) (drop (i + 1) text)) ≡ item
     → item_of text ≡ item

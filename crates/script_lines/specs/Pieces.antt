@@ -23,7 +23,7 @@ Filled None after old new = (after ≡ None) × (new.room ≡ old.room)
 Filled (Some bytes) after old new = IsFilled bytes after old.pending new.pending × (new.room ≡ old.room)
 
 -- all that was pending went into the text, and the line goes on
-pub record GoesOn (old : LinesView) (text : List ℕ) (new : LinesView) (longer : List ℕ) : Type 0 where
+pub record LineGoesOn (old : LinesView) (text : List ℕ) (new : LinesView) (longer : List ℕ) : Type 0 where
   pub no_newline : has_newline old.pending ≡ false
   pub text_is : longer ≡ text ++ old.pending
   pub pending_is : new.pending ≡ []
@@ -48,7 +48,7 @@ pub record IsTooMuch (old : LinesView) (text : List ℕ) : Type 0 where
 
 -- what was taken off the bytes that are pending
 abbrev pub TookPiece : Option Line → LinesView → List ℕ → LinesView → List ℕ → Type 0
-TookPiece None old text new longer = GoesOn old text new longer
+TookPiece None old text new longer = LineGoesOn old text new longer
 TookPiece (Some Text) old text new longer = EndsLine old text new longer
 TookPiece (Some End) old text new longer = ⊥
 TookPiece (Some TooLong) old text new longer = IsTooMuch old text

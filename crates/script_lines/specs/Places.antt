@@ -20,7 +20,8 @@ pub record IsOpenAt (items : List (Option Label)) (label place : ℕ) : Type 0 w
 
 -- each label stands at the place that is its client, these are the clients of the open labels, and no
 -- label before the first place is open
-pub record AreKept (items : List (Option Label)) (first : ℕ) (clients : ℕ → Option ℕ) : Type 0 where
+pub record LabelsAreKept (items : List (Option Label)) (first : ℕ) (clients : ℕ → Option ℕ)
+    : Type 0 where
   pub client : (place : ℕ) (x : Label) → item_at items place ≡ Some x → x.client ≡ place
   pub mapped : (place : ℕ) (x : Label) → item_at items place ≡ Some x → clients x.label ≡ Some place
   pub there : (label place : ℕ) → clients label ≡ Some place → IsOpenAt items label place

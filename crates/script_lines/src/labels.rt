@@ -40,11 +40,11 @@ impl Model for Labels {
 
     ghost Value = { LabelsView };
 
-    ghost use Rattle.script_lines.specs.Places.{somes, AreKept};
+    ghost use Rattle.script_lines.specs.Places.{somes, LabelsAreKept};
 
     ghost view = { λ l. record { present = somes l.items.items; opened = length l.items.items } };
 
-    ghost invariant = { λ l. AreKept l.items.items l.first (tree.get nat_cmp l.clients) };
+    ghost invariant = { λ l. LabelsAreKept l.items.items l.first (tree.get nat_cmp l.clients) };
 }
 
 impl Labels {

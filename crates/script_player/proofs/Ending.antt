@@ -12,7 +12,7 @@ use Rattle.script_lines.specs.declared.label.Label.{Label}
 use Rattle.script_player.specs.declared.stop.Stop.{Stop}
 use Rattle.script_player.specs.declared.stop.Stop.TheVariants as stops
 use Rattle.script_player.specs.Play.{AreOfWholeLines, IsEven, IsOfRun, Leads, PlayedUpTo, holder_of, stage}
-use Rattle.script_player.specs.Stops.{Unanswered, AreFirst, EndsInClose, StoppedAt}
+use Rattle.script_player.specs.Stops.{Unanswered, AreFirstCalls, EndsInClose, StoppedAt}
 use Rattle.script_player.specs.Ends.{LeavesBy, LeavesCut, LeavesEarly, LeavesFull, LeavesPart, LeavesRead, LeavesWhole, Makes}
 use Rattle.script_player.proofs.Playing.{plays_on}
 
@@ -97,7 +97,7 @@ early_told limit labels history after given written written_new wrong at closes 
   at.done,
   at.last,
   (λ none. last_answered at.done at.last at.has_last none),
-  if_given given (λ all. AreFirst at.done at.last all) at.first,
+  if_given given (λ all. AreFirstCalls at.done at.last all) at.first,
   record { output = at.output; written = at.writes; plays = all_closed limit labels history after at.done at.output at.plays at.left_open closes },
 )
 
@@ -107,7 +107,7 @@ cut_told limit count labels history after given written written_new wrong wrong_
   at.done,
   at.last,
   (λ some. stays (at.has_last some)),
-  if_given given (λ all. AreFirst at.done at.last all) at.first,
+  if_given given (λ all. AreFirstCalls at.done at.last all) at.first,
   record { output = at.output; written = at.writes; plays = all_closed limit labels history after at.done at.output at.plays at.left_open closes },
 )
 

@@ -2,7 +2,7 @@
 use Rattle.std.proofs.Common.{◌≡◌, ◌<◌, ◌≤◌, ◌+◌, ◌*◌, ℕ, Bool, true, false, List, [], ◌∷◌, ◌++◌, length, take, drop, Option, Some, None, refl, sym, ap, subst, ◌∙◌, append_assoc, arith, length-append, length-drop}
 use Rattle.std.specs.Prelude.{map, if◌then◌else◌}
 use Rattle.std.proofs.lemmas.List.{append-nil, length-take-le}
-use Rattle.tab_spec.specs.Frame.{Item, command, cancel, bad, is_bad, Frames, frames, commands_of, commands, left_of, meets_bad_size}
+use Rattle.tab_spec.specs.Frame.{StreamItem, command, cancel, bad, is_bad, Frames, frames, commands_of, commands, left_of, meets_bad_size}
 use Rattle.tab_laws.proofs.Cuts.{left_before, left_nothing, bad_stays}
 use Rattle.tab_frame.specs.Framing.{GaveItem}
 use Rattle.link_port.specs.Port.{with_more}
@@ -11,13 +11,13 @@ use Rattle.history_spec.specs.Cancels.{canceled_up_to, cover}
 use Rattle.history_spec.specs.Entry.{Entry}
 use Rattle.history_spec.specs.Told.{Limits}
 use Rattle.script_spec.specs.Calls.{Call, command as run_command, bad_size, closing, numbered, ending_calls}
-use Rattle.script_spec.specs.Plays.{Holder, PlaysTo}
+use Rattle.script_spec.specs.Plays.{LabelHolder, PlaysTo}
 use Rattle.script_lines.specs.declared.label.Label.{Label}
 use Rattle.script_lines.proofs.Ahead.{cut_behind, same_bytes, shorter_by}
 use Rattle.script_lines.specs.Labels.{LabelsView, label_in, counted, replaced, without_label}
 use Rattle.script_player.specs.declared.stop.Stop.{Stop}
 use Rattle.script_player.specs.Play.{holder_of, stage, Fits, Leads, size_of_label, fed_calls, fed_label, fed_labels}
-use Rattle.script_player.specs.Stops.{StoppedIn, Writes, last_calls, last_line}
+use Rattle.script_player.specs.Stops.{StoppedIn, WritesByStop, last_calls, last_line}
 use Rattle.script_player.proofs.Relabeling.{is_found, found_by_name, map-replaced, found-replaced, replaced-twice, replaced-itself, without-replaced}
 use Rattle.script_player.proofs.Playing.{fits-replaced, leads_on, leads_none, with_nothing}
 use Rattle.script_player.proofs.Stopping.{has_last_behind, writes_behind}
@@ -51,14 +51,14 @@ calls_fed upto x rest k =
     let same = same_bytes x.kept rest k in
     ap (λ (bytes : List ℕ). numbered x.label (x.commands + 1) upto (commands bytes) ++ ending_calls x.label (meets_bad_size bytes)) same
 
-left_behind : (item : Item) (x : Label) (kept out rest : List ℕ) → GaveItem item x.kept kept out → left_of (x.kept ++ rest) ≡ left_of (kept ++ rest)
+left_behind : (item : StreamItem) (x : Label) (kept out rest : List ℕ) → GaveItem item x.kept kept out → left_of (x.kept ++ rest) ≡ left_of (kept ++ rest)
 left_behind item x kept out rest gave =
     ap left_of (ap (λ (bytes : List ℕ). bytes ++ rest) gave.parts ∙ append_assoc out kept rest) ∙ left_before out (kept ++ rest) gave.frame
 
-bad_behind : (item : Item) (x : Label) (kept out rest : List ℕ) → GaveItem item x.kept kept out → meets_bad_size (x.kept ++ rest) ≡ meets_bad_size (kept ++ rest)
+bad_behind : (item : StreamItem) (x : Label) (kept out rest : List ℕ) → GaveItem item x.kept kept out → meets_bad_size (x.kept ++ rest) ≡ meets_bad_size (kept ++ rest)
 bad_behind item x kept out rest gave = ap (λ (cut : Frames). is_bad cut.ending) (cut_behind item x.kept kept out rest gave)
 
-commands_behind : (item : Item) (x : Label) (kept out rest : List ℕ) → GaveItem item x.kept kept out → commands (x.kept ++ rest) ≡ commands_of (item ∷ (frames (kept ++ rest)).items)
+commands_behind : (item : StreamItem) (x : Label) (kept out rest : List ℕ) → GaveItem item x.kept kept out → commands (x.kept ++ rest) ≡ commands_of (item ∷ (frames (kept ++ rest)).items)
 commands_behind item x kept out rest gave = ap (λ (cut : Frames). commands_of cut.items) (cut_behind item x.kept kept out rest gave)
 
 -- a cancel makes no call
@@ -96,7 +96,7 @@ pub calls_none : (upto : Option ℕ) (x : Label) (rest : List ℕ) → rest ≡ 
 calls_none upto x rest none no_item good =
     let all : x.kept ++ rest ≡ x.kept = ap (λ (bytes : List ℕ). x.kept ++ bytes) none ∙ append-nil x.kept in
     ap (λ (bytes : List ℕ). numbered x.label (x.commands + 1) upto (commands bytes) ++ ending_calls x.label (meets_bad_size bytes)) all
-    ∙ ap (λ (items : List Item). numbered x.label (x.commands + 1) upto (commands_of items) ++ ending_calls x.label (meets_bad_size x.kept)) no_item
+    ∙ ap (λ (items : List StreamItem). numbered x.label (x.commands + 1) upto (commands_of items) ++ ending_calls x.label (meets_bad_size x.kept)) no_item
     ∙ ap (ending_calls x.label) good
 
 pub label_none : (x : Label) (rest : List ℕ) → rest ≡ [] → (frames x.kept).items ≡ [] → fed_label x rest ≡ x
@@ -104,7 +104,7 @@ label_none x rest none no_item =
     let all : x.kept ++ rest ≡ x.kept = ap (λ (bytes : List ℕ). x.kept ++ bytes) none ∙ append-nil x.kept in
     let zero_more : x.commands + 0 ≡ x.commands = omega arith in
     ap (λ (bytes : List ℕ). record x { commands = x.commands + length (commands bytes); kept = left_of bytes }) all
-    ∙ ap (λ (items : List Item). record x { commands = x.commands + length (commands_of items); kept = left_of x.kept }) no_item
+    ∙ ap (λ (items : List StreamItem). record x { commands = x.commands + length (commands_of items); kept = left_of x.kept }) no_item
     ∙ ap (λ (bytes : List ℕ). record x { commands = x.commands + 0; kept = bytes }) (left_nothing x.kept no_item)
     ∙ ap (λ (n : ℕ). record x { commands = n }) zero_more
 
@@ -254,7 +254,7 @@ stopped_behind limit stop calls done next after labels_old history_old written_o
       ∙ sym (append_assoc done (stopped.made ++ last_calls stopped.last) (stopped.left ++ after)) ∙ ap (λ (cs : List Call). cs ++ (stopped.left ++ after)) (sym (append_assoc done stopped.made (last_calls stopped.last)));
   more = more ++ stopped.more;
   leads = leads_on limit labels_old labels labels_new history_old history history_new done stopped.made more stopped.more leads stopped.leads;
-  writes = subst (λ (bytes : List ℕ). Writes stop bytes written_old written_new) (sym (append_assoc more stopped.more (last_line stopped.last)))
+  writes = subst (λ (bytes : List ℕ). WritesByStop stop bytes written_old written_new) (sym (append_assoc more stopped.more (last_line stopped.last)))
       (writes_behind stop more (stopped.more ++ last_line stopped.last) written_old written written_new is_written stopped.writes);
   has_last = has_last_behind stop done stopped.made stopped.last wrong stopped.has_last;
 }
@@ -274,7 +274,7 @@ pub record Keeps (limit : Limits) (label : ℕ) (labels labels_new : LabelsView)
 
 same_holders : (limit : Limits) (a b c : List Label) (h k : List Entry) (calls : List Call) (more : List ℕ) → map holder_of c ≡ map holder_of b → Leads limit a h calls b k more → Leads limit a h calls c k more
 same_holders limit a b c h k calls more same leads output =
-    subst (λ (hs : List Holder). PlaysTo limit (stage a h output) calls (record { history = k; holders = hs; output = output ++ more })) (sym same) (leads output)
+    subst (λ (hs : List LabelHolder). PlaysTo limit (stage a h output) calls (record { history = k; holders = hs; output = output ++ more })) (sym same) (leads output)
 
 pub keeps : (limit : Limits) (label : ℕ) (labels labels_new : LabelsView) (history : List Entry) (x : Label) (kept : List ℕ) → Fits labels history → label_in labels.present label ≡ Some x
     → labels_new ≡ record labels { present = replaced (keeping x kept) labels.present } → Keeps limit label labels labels_new history (keeping x kept)
@@ -367,7 +367,7 @@ pub kept_found : (labels : List Label) (label : ℕ) (x : Label) → label_in la
 kept_found labels label x found = ap kept_on found
 
 -- a frame was given out
-pub smaller_item : (item : Item) (x y : Label) (kept out rest : List ℕ) (before after : ℕ) → GaveItem item x.kept kept out → y.kept ≡ kept → before ≡ length x.kept → after ≡ length y.kept → after + 2 * length rest < before + 2 * length rest
+pub smaller_item : (item : StreamItem) (x y : Label) (kept out rest : List ℕ) (before after : ℕ) → GaveItem item x.kept kept out → y.kept ≡ kept → before ≡ length x.kept → after ≡ length y.kept → after + 2 * length rest < before + 2 * length rest
 smaller_item item x y kept out rest before after gave is_kept is_before is_after = omega (arith, shorter_by item x.kept kept out gave, is_before, is_after, ap length is_kept)
 
 -- bytes were fed

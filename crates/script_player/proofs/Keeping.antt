@@ -9,11 +9,11 @@ use Rattle.script_lines.specs.declared.reader.Line.TheVariants.{Text}
 use Rattle.script_player.specs.declared.stop.Stop.{Stop}
 use Rattle.script_player.specs.declared.stop.Stop.TheVariants as stops
 use Rattle.script_player.specs.Play.{IsEven, IsOfRun, TellsFull}
-use Rattle.script_player.specs.Steps.{Keeps, IsOfLine}
+use Rattle.script_player.specs.Steps.{KeepsFit, IsOfLine}
 use Rattle.script_player.proofs.Scripting.{StopsAfter, IsOfInput}
 
-pub keeps_on : {first next last : Fixed} {labels labels_new : LabelsView} {history history_new : List Entry} → Keeps first next labels history → Keeps next last labels_new history_new
-    → Keeps first last labels_new history_new
+pub keeps_on : {first next last : Fixed} {labels labels_new : LabelsView} {history history_new : List Entry} → KeepsFit first next labels history → KeepsFit next last labels_new history_new
+    → KeepsFit first last labels_new history_new
 keeps_on was kept = record { fixed_is = kept.fixed_is ∙ was.fixed_is; fits = kept.fits }
 
 pub not_true : (b : Bool) → (IsTrue b → ⊥) → b ≡ false

@@ -8,15 +8,15 @@ use Rattle.history_spec.specs.declared.EntryKind.TheVariants.{Open, Command, Can
 use Rattle.history_spec.specs.declared.EntryKind.{EntryKind}
 use Rattle.history_spec.specs.Entry.{Entry, Clients, open_entry, close_entry, clients_of, clients_by, is_close_kind, opened_by, part_before, present_by, own, IsOpen, IsNextNumber}
 use Rattle.broker_lock.proofs.Orderly.{clients_of-push}
-use Rattle.history_spec.specs.Told.{IsToldFull, IsToldMemory, Told, entry_of, Limits}
-use Rattle.script_spec.specs.Plays.{Stage, PlaysTo, Plays1, client_of, IsKindOf, IsEntryFor, MayAddEntry, IsAnswered, reply_line}
+use Rattle.history_spec.specs.Told.{IsToldFull, IsToldMemory, MayBeTold, entry_of, Limits}
+use Rattle.script_spec.specs.Plays.{Stage, PlaysTo, Plays1, client_of, IsKindOf, IsEntryFor, MayAddEntry, IsLabelAnswered, reply_line}
 use Rattle.tab_spec.specs.declared.TheConstants.{RC_COMMAND_SIZE}
 use Rattle.tab_spec.specs.Reply.{error_reply}
 use Rattle.link_port.specs.Port.{with_more}
 use Rattle.script_spec.specs.Calls.{Call, command as run_command, bad_size, closing}
 use Rattle.script_lines.specs.declared.label.Label.{Label}
 use Rattle.script_lines.specs.Labels.{LabelsView, no_labels, label_in, new_label, counted, replaced, without_label}
-use Rattle.script_player.specs.Play.{holder_of, stage, Rise, NumbersUpTo, Fits, Leads}
+use Rattle.script_player.specs.Play.{holder_of, stage, ClientsRise, NumbersUpTo, Fits, Leads}
 use Rattle.broker_lock.specs.declared.calls.Told.{Told as ToldOf}
 use Rattle.broker_lock.specs.declared.calls.Told.TheVariants as tolds
 use Rattle.script_player.proofs.Entries.{ToldAs}
@@ -105,7 +105,7 @@ counts-push_zero history e labels zero_number opens all =
     each-weaker (λ x. NumbersUpTo history x.client x.commands) (λ x. NumbersUpTo (history ++ e ∷ []) x.client x.commands) labels (λ x numbers. numbers-push_zero history e x.client x.commands zero_number opens numbers) all
 
 -- the entries of the other clients stay
-counts_other : (history : List Entry) (e : Entry) (n below : ℕ) (labels : List Label) → Rise n labels below → e.client < n → AllByRecursion (λ x. NumbersUpTo history x.client x.commands) labels
+counts_other : (history : List Entry) (e : Entry) (n below : ℕ) (labels : List Label) → ClientsRise n labels below → e.client < n → AllByRecursion (λ x. NumbersUpTo history x.client x.commands) labels
     → AllByRecursion (λ x. NumbersUpTo (history ++ e ∷ []) x.client x.commands) labels
 counts_other history e n below [] rise lt all = tt
 counts_other history e n below (x ∷ xs) rise lt all =
@@ -115,7 +115,7 @@ counts_other history e n below (x ∷ xs) rise lt all =
     )
 
 -- an entry of the label's client, whose number the label counts now
-counts-entered : (history : List Entry) (e : Entry) (n below : ℕ) (labels : List Label) (x y : Label) → Rise n labels below → label_in labels x.label ≡ Some y → x.client ≡ y.client
+counts-entered : (history : List Entry) (e : Entry) (n below : ℕ) (labels : List Label) (x y : Label) → ClientsRise n labels below → label_in labels x.label ≡ Some y → x.client ≡ y.client
     → e.client ≡ x.client → IsNumbered x.commands e → y.commands ≤ x.commands → AllByRecursion (λ z. NumbersUpTo history z.client z.commands) labels
     → AllByRecursion (λ z. NumbersUpTo (history ++ e ∷ []) z.client z.commands) (replaced x labels)
 counts-entered history e n below [] x y rise found same client number more all = absurd cc
@@ -146,11 +146,11 @@ counts_elsewhere history e (x ∷ xs) others all = (
 )
 
 -- the other labels have other clients
-above_others : (client n below : ℕ) (labels : List Label) → Rise n labels below → client < n → AllByRecursion (λ x. client ≡ x.client → ⊥) labels
+above_others : (client n below : ℕ) (labels : List Label) → ClientsRise n labels below → client < n → AllByRecursion (λ x. client ≡ x.client → ⊥) labels
 above_others client n below [] rise lt = tt
 above_others client n below (x ∷ xs) rise lt = ((λ same. omega (arith, rise.0, lt, same)), above_others client (x.client + 1) below xs rise.2 (omega (arith, rise.0, lt)))
 
-others_left : (n below label : ℕ) (labels : List Label) (x : Label) → Rise n labels below → label_in labels label ≡ Some x → AllByRecursion (λ y. x.client ≡ y.client → ⊥) (without_label label labels)
+others_left : (n below label : ℕ) (labels : List Label) (x : Label) → ClientsRise n labels below → label_in labels label ≡ Some x → AllByRecursion (λ y. x.client ≡ y.client → ⊥) (without_label label labels)
 others_left n below label [] x rise found = absurd cc
 others_left n below label (y ∷ ys) x rise found =
     elim (eqb y.label label) as (λ b. cond b (Some y) (label_in ys label) ≡ Some x → AllByRecursion (λ z. x.client ≡ z.client → ⊥) (cond b ys (y ∷ without_label label ys))) [
@@ -290,14 +290,14 @@ told_by_entry old client number e next same is_number =
     ap (λ (es : List Entry). find (λ x. eqb x.number number) es) (own-push_same old e client same)
     ∙ subst (λ (n : ℕ). find (λ x. eqb x.number n) (own old client ++ e ∷ []) ≡ Some e) is_number (find-push_some (own old client) e below)
 
-told_entry : (limit : Limits) (old : List Entry) (client number : ℕ) (e : Entry) (command : List ℕ) (covered : Option ℕ) (reply : List ℕ) → IsNextNumber old client number → IsEntryFor client number command covered e → reply ≡ e.reply → Told (old ++ e ∷ []) limit client number command reply
+told_entry : (limit : Limits) (old : List Entry) (client number : ℕ) (e : Entry) (command : List ℕ) (covered : Option ℕ) (reply : List ℕ) → IsNextNumber old client number → IsEntryFor client number command covered e → reply ≡ e.reply → MayBeTold (old ++ e ∷ []) limit client number command reply
 told_entry limit old client number e command covered reply next entry is_reply =
     rw (told_by_entry old client number e next entry.client_is entry.number_is) (record { command_is = entry.command_is; reply_is = sym is_reply })
 
-told_none : (limit : Limits) (old : List Entry) (client number : ℕ) (command reply : List ℕ) → IsNextNumber old client number → IsToldMemory limit.contexts command reply → Told old limit client number command reply
+told_none : (limit : Limits) (old : List Entry) (client number : ℕ) (command reply : List ℕ) → IsNextNumber old client number → IsToldMemory limit.contexts command reply → MayBeTold old limit client number command reply
 told_none limit old client number command reply next is_memory = rw (find-push_none (own old client) number next.above) (inl is_memory)
 
-told_full : (limit : Limits) (old : List Entry) (client number : ℕ) (command reply : List ℕ) → IsNextNumber old client number → part_before client number old ≡ old → IsToldFull limit.bytes old command reply → Told old limit client number command reply
+told_full : (limit : Limits) (old : List Entry) (client number : ℕ) (command reply : List ℕ) → IsNextNumber old client number → part_before client number old ≡ old → IsToldFull limit.bytes old command reply → MayBeTold old limit client number command reply
 told_full limit old client number command reply next before full = rw (find-push_none (own old client) number next.above, before) (inr full)
 
 -- the labels stand for the same holders
@@ -305,8 +305,8 @@ holders-counted : (labels : List Label) (x : Label) → label_in labels x.label 
 holders-counted labels x found = map-replaced holder_of labels (counted x) x found refl
 
 is_answered : (limit : Limits) (labels : LabelsView) (old new : List Entry) (x : Label) (command : List ℕ) (covered : Option ℕ) (reply output : List ℕ) → Fits labels old → label_in labels.present x.label ≡ Some x
-    → MayAddEntry limit.bytes old x.client (x.commands + 1) command covered new → Told new limit x.client (x.commands + 1) command reply
-    → IsAnswered limit (stage labels.present old output) x.label (x.commands + 1) command covered (stage (replaced (counted x) labels.present) new (output ++ reply_line x.label reply))
+    → MayAddEntry limit.bytes old x.client (x.commands + 1) command covered new → MayBeTold new limit x.client (x.commands + 1) command reply
+    → IsLabelAnswered limit (stage labels.present old output) x.label (x.commands + 1) command covered (stage (replaced (counted x) labels.present) new (output ++ reply_line x.label reply))
 is_answered limit labels old new x command covered reply output fits found adds told = record {
   client = x.client;
   reply = reply;

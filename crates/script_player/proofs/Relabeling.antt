@@ -5,11 +5,11 @@ use Rattle.std.specs.Option.{option_map}
 use Rattle.std.specs.List.{AllByRecursion, list_any}
 use Rattle.std.proofs.lemmas.Bool.{eqb-true}
 use Rattle.history_spec.specs.Entry.{without}
-use Rattle.script_spec.specs.Plays.{Holder, client_of}
+use Rattle.script_spec.specs.Plays.{LabelHolder, client_of}
 use Rattle.script_spec.specs.Plays as plays
 use Rattle.script_lines.specs.declared.label.Label.{Label}
 use Rattle.script_lines.specs.Labels.{label_in, replaced, without_label}
-use Rattle.script_player.specs.Play.{holder_of, Rise}
+use Rattle.script_player.specs.Play.{holder_of, ClientsRise}
 
 pub same_some : {A : Type 0} {x y : A} → Some x ≡ Some y → x ≡ y
 same_some e = cc
@@ -92,7 +92,7 @@ label_in-push (y ∷ ys) x none =
 -- ---- the clients rise
 
 -- the client of a label that is found is one of those that were opened
-pub rise-found : (n below : ℕ) (labels : List Label) (label : ℕ) (x : Label) → Rise n labels below → label_in labels label ≡ Some x → (n ≤ x.client) × (x.client < below)
+pub rise-found : (n below : ℕ) (labels : List Label) (label : ℕ) (x : Label) → ClientsRise n labels below → label_in labels label ≡ Some x → (n ≤ x.client) × (x.client < below)
 rise-found n below [] label x rise e = absurd cc
 rise-found n below (y ∷ ys) label x rise e =
     elim (eqb y.label label) as (λ b. cond b (Some y) (label_in ys label) ≡ Some x → (n ≤ x.client) × (x.client < below)) [
@@ -100,28 +100,29 @@ rise-found n below (y ∷ ys) label x rise e =
       | false ↦ λ h. let rest = rise-found (y.client + 1) below ys label x rise.2 h in (omega (arith, rest.0, rise.0), rest.1)
     ] e
 
-pub rise-from : (m n below : ℕ) (labels : List Label) → m ≤ n → Rise n labels below → Rise m labels below
+pub rise-from : (m n below : ℕ) (labels : List Label) → m ≤ n → ClientsRise n labels below → ClientsRise m labels below
 rise-from m n below [] le rise = tt
 rise-from m n below (x ∷ xs) le rise = (omega (arith, le, rise.0), rise.1, rise.2)
 
-pub rise-push : (n below : ℕ) (labels : List Label) (x : Label) → Rise n labels below → n ≤ below → x.client ≡ below → Rise n (labels ++ x ∷ []) (below + 1)
+pub rise-push : (n below : ℕ) (labels : List Label) (x : Label) → ClientsRise n labels below → n ≤ below → x.client ≡ below → ClientsRise n (labels ++ x ∷ []) (below + 1)
 rise-push n below [] x rise le is = (omega (arith, le, is), omega (arith, is), tt)
 rise-push n below (y ∷ ys) x rise le is = (rise.0, omega (arith, rise.1), rise-push (y.client + 1) below ys x rise.2 (omega (arith, rise.1)) is)
 
-pub rise-replaced : (n below : ℕ) (labels : List Label) (x y : Label) → label_in labels x.label ≡ Some y → x.client ≡ y.client → Rise n labels below → Rise n (replaced x labels) below
+pub rise-replaced : (n below : ℕ) (labels : List Label) (x y : Label) → label_in labels x.label ≡ Some y → x.client ≡ y.client → ClientsRise n labels below → ClientsRise n (replaced x labels) below
 rise-replaced n below [] x y found same rise = absurd cc
 rise-replaced n below (z ∷ zs) x y found same rise =
-    elim (eqb z.label x.label) as (λ b. cond b (Some z) (label_in zs x.label) ≡ Some y → Rise n (cond b (x ∷ zs) (z ∷ replaced x zs)) below) [
+    elim (eqb z.label x.label) as (λ b. cond b (Some z) (label_in zs x.label) ≡ Some y → ClientsRise n (cond b (x ∷ zs) (z ∷ replaced x zs)) below) [
       | true ↦ λ h.
           let client : x.client ≡ z.client = same ∙ ap (λ (l : Label). l.client) (sym (same_some h)) in
           rw client (rise.0, rise.1, rise.2)
       | false ↦ λ h. (rise.0, rise.1, rise-replaced (z.client + 1) below zs x y h same rise.2)
     ] found
 
-pub rise-without : (n below label : ℕ) (labels : List Label) → Rise n labels below → Rise n (without_label label labels) below
+pub rise-without : (n below label : ℕ) (labels : List Label) → ClientsRise n labels below → ClientsRise n (without_label label labels) below
 rise-without n below label [] rise = tt
 rise-without n below label (x ∷ xs) rise =
-    elim (eqb x.label label) as (λ b. Rise n (cond b xs (x ∷ without_label label xs)) below) [
+    elim (eqb x.label label) as
+    (λ b. ClientsRise n (cond b xs (x ∷ without_label label xs)) below) [
       | true ↦ rise-from n (x.client + 1) below xs (omega (arith, rise.0)) rise.2
       | false ↦ (rise.0, rise.1, rise-without (x.client + 1) below label xs rise.2)
     ]
@@ -201,7 +202,7 @@ holders-without label [] = refl
 holders-without label (x ∷ xs) =
     elim (eqb x.label label) as (λ b. map holder_of (cond b xs (x ∷ without_label label xs)) ≡ cond b (map holder_of xs) (holder_of x ∷ plays.without_label label (map holder_of xs))) [
       | true ↦ refl
-      | false ↦ ap (λ (hs : List Holder). holder_of x ∷ hs) (holders-without label xs)
+      | false ↦ ap (λ (hs : List LabelHolder). holder_of x ∷ hs) (holders-without label xs)
     ]
 
 pub names-without : (label : ℕ) (labels : List Label) → map (λ x. x.label) (without_label label labels) ≡ without label (map (λ x. x.label) labels)
@@ -213,7 +214,7 @@ names-without label (x ∷ xs) =
     ]
 
 -- the clients are those of the others, since no two labels have one
-pub clients-without : (n below : ℕ) (labels : List Label) (label : ℕ) (x : Label) → Rise n labels below → label_in labels label ≡ Some x
+pub clients-without : (n below : ℕ) (labels : List Label) (label : ℕ) (x : Label) → ClientsRise n labels below → label_in labels label ≡ Some x
     → map (λ y. y.client) (without_label label labels) ≡ without x.client (map (λ y. y.client) labels)
 clients-without n below [] label x rise found = absurd cc
 clients-without n below (y ∷ ys) label x rise found =

@@ -11,7 +11,7 @@ use Rattle.history_spec.specs.Cancels.{canceled_up_to}
 use Rattle.script_spec.specs.declared.TheConstants.{LINE_BYTES, SCRIPT_BYTES}
 use Rattle.history_spec.specs.Entry.{Entry}
 use Rattle.history_spec.specs.Told.{Limits}
-use Rattle.script_spec.specs.Script.{Item, piece, close, item_of, lines_of, text_of, Script, script, script_from, with_item, end, bad_line}
+use Rattle.script_spec.specs.Script.{ScriptItem, piece, close, item_of, lines_of, text_of, Script, script, script_from, with_item, end, bad_line}
 use Rattle.script_spec.specs.Calls.{Call, opening, Stream, bytes_of, fed, without_stream, so_far, after_piece, new_items, item_commands, numbered, ending_calls, stream_calls, piece_calls, close_calls, item_calls, after_item, calls_from, labels_from, labels_by}
 use Rattle.script_spec.specs.Plays.{at_start}
 use Rattle.script_lines.specs.declared.label.Label.{Label}
@@ -21,7 +21,7 @@ use Rattle.script_player.specs.declared.stop.Stop.{Stop}
 use Rattle.script_player.specs.declared.stop.Stop.TheVariants as stops
 use Rattle.script_lines.specs.Labels.{LabelsView, no_labels, label_in, new_label, replaced, without_label}
 use Rattle.script_lines.specs.Lines.{LinesView, GaveLine, IsTooLong, ReadNext, CutShort, HasPulled}
-use Rattle.script_player.specs.Play.{TellsFull, stage, opened_label, opened_labels, opening_calls, fed_calls, fed_label, fed_labels, closed_calls, calls_on, labels_after, IsCarried, Carries, GoesOn, IsRead, StillToCome, HasPlayed, IsPlayed, Stopped, PlayedUpTo, OpensLabel, IsPulledUpTo, most_pulled}
+use Rattle.script_player.specs.Play.{TellsFull, stage, opened_label, opened_labels, opening_calls, fed_calls, fed_label, fed_labels, closed_calls, calls_on, labels_after, IsCarried, Carries, ScriptGoesOn, IsRead, StillToCome, HasPlayed, IsPlayed, Stopped, PlayedUpTo, OpensLabel, IsPulledUpTo, most_pulled}
 use Rattle.script_player.proofs.Writing.{with_more-append}
 use Rattle.script_player.proofs.Relabeling.{same_some, is_found, found_by_name, label_in-push, map-push, map-replaced, names-without, without-none}
 use Rattle.script_player.proofs.Playing.{plays_on, with_nothing}
@@ -29,7 +29,7 @@ use Rattle.script_player.proofs.Playing.{plays_on, with_nothing}
 -- ---- a line
 
 -- a good line that was given out, and the script of the lines after it
-pub script_line_on : (number room : ℕ) (line text : List ℕ) (more : List (List ℕ)) (room_after : ℕ) (item : Item) → text ≡ text_of line → length line ≤ room → room_after ≡ room - length line → item_of text ≡ Some item
+pub script_line_on : (number room : ℕ) (line text : List ℕ) (more : List (List ℕ)) (room_after : ℕ) (item : ScriptItem) → text ≡ text_of line → length line ≤ room → room_after ≡ room - length line → item_of text ≡ Some item
     → script_from number room (line ∷ more) ≡ with_item item (script_from (number + 1) room_after more)
 unfolding script_from
 script_line_on number room line text more room_after item text_is le room_is good =
@@ -63,11 +63,11 @@ script_end number room = refl
 
 -- ---- bytes on a label's stream
 
-drop_front : (xs ys : List cutting.Item) → drop (length xs) (xs ++ ys) ≡ ys
+drop_front : (xs ys : List cutting.StreamItem) → drop (length xs) (xs ++ ys) ≡ ys
 drop_front [] ys = refl
 drop_front (x ∷ xs) ys = drop_front xs ys
 
-commands_of-append : (xs ys : List cutting.Item) → commands_of (xs ++ ys) ≡ commands_of xs ++ commands_of ys
+commands_of-append : (xs ys : List cutting.StreamItem) → commands_of (xs ++ ys) ≡ commands_of xs ++ commands_of ys
 commands_of-append [] ys = refl
 commands_of-append (cutting.command c ∷ xs) ys = ap (λ (cs : List (List ℕ)). c ∷ cs) (commands_of-append xs ys)
 commands_of-append (cutting.cancel ∷ xs) ys = commands_of-append xs ys
@@ -87,10 +87,10 @@ new_items_are x s bytes carried =
 -- the calls are those of the label
 calls_on_stream : (x : Label) (s : Stream) (label : ℕ) (bytes : List ℕ) → IsCarried x s → x.label ≡ label → fed_calls x bytes ≡ stream_calls label s.bytes bytes
 calls_on_stream x s label bytes carried name =
-    let items : List cutting.Item = (frames (x.kept ++ bytes)).items in
+    let items : List cutting.StreamItem = (frames (x.kept ++ bytes)).items in
     ap (λ (l : ℕ). item_commands l x.commands items ++ ending_calls l (meets_bad_size (x.kept ++ bytes))) name
     ∙ ap (λ (n : ℕ). item_commands label n items ++ ending_calls label (meets_bad_size (x.kept ++ bytes))) (sym carried.count)
-    ∙ ap (λ (is : List cutting.Item). item_commands label (length (commands s.bytes)) is ++ ending_calls label (meets_bad_size (x.kept ++ bytes))) (sym (new_items_are x s bytes carried))
+    ∙ ap (λ (is : List cutting.StreamItem). item_commands label (length (commands s.bytes)) is ++ ending_calls label (meets_bad_size (x.kept ++ bytes))) (sym (new_items_are x s bytes carried))
     ∙ ap (λ (b : Bool). item_commands label (length (commands s.bytes)) (new_items s.bytes bytes) ++ ending_calls label b) (sym (bad_on x s bytes carried))
 
 -- the label carries the stream further, where no bad size is met
@@ -266,7 +266,7 @@ closes_known : (labels : LabelsView) (streams : List Stream) (label : ℕ) (know
 closes_known labels streams label None carries e = rw (no_stream labels.present streams label carries e) refl
 closes_known labels streams label (Some x) carries e = rw (has_stream labels.present streams label x carries e).found refl
 
-pub calls_are : (labels : LabelsView) (streams : List Stream) (item : Item) → Carries labels.present streams → calls_on labels item ≡ item_calls streams item
+pub calls_are : (labels : LabelsView) (streams : List Stream) (item : ScriptItem) → Carries labels.present streams → calls_on labels item ≡ item_calls streams item
 calls_are labels streams (piece label bytes) carries = calls_known labels streams label bytes (label_in labels.present label) carries refl
 calls_are labels streams (close label) carries = closes_known labels streams label (label_in labels.present label) carries refl
 
@@ -280,7 +280,7 @@ carries_known labels streams label bytes None carries e =
     subst (λ (ss : List Stream). Carries (fed_labels x bytes opened).present ss) (after-with streams label bytes (no_stream labels.present streams label carries e))
     (carries_piece opened (with_stream streams label) label bytes x (carries_open labels.present streams label labels.opened carries) found)
 
-pub carries_on : (labels : LabelsView) (streams : List Stream) (item : Item) → Carries labels.present streams → Carries (labels_after labels item).present (after_item streams item)
+pub carries_on : (labels : LabelsView) (streams : List Stream) (item : ScriptItem) → Carries labels.present streams → Carries (labels_after labels item).present (after_item streams item)
 carries_on labels streams (piece label bytes) carries = carries_known labels streams label bytes (label_in labels.present label) carries refl
 carries_on labels streams (close label) carries = carries_without labels.present streams label carries
 
@@ -309,7 +309,7 @@ names-ended false labels x y found same = sym (map-replaced (λ (z : Label). z.l
 names-fed : (labels : LabelsView) (label : ℕ) (x : Label) (bytes : List ℕ) → label_in labels.present label ≡ Some x → labels_from (names_of labels.present) (fed_calls x bytes) ≡ names_of (fed_labels x bytes labels).present
 names-fed labels label x bytes e =
     let found : label_in labels.present x.label ≡ Some x = found_by_name labels.present label x e in
-    let items : List cutting.Item = (frames (x.kept ++ bytes)).items in
+    let items : List cutting.StreamItem = (frames (x.kept ++ bytes)).items in
     labels_from-append (names_of labels.present) (item_commands x.label x.commands items) (ending_calls x.label (meets_bad_size (x.kept ++ bytes)))
     ∙ ap (λ (ns : List ℕ). labels_from ns (ending_calls x.label (meets_bad_size (x.kept ++ bytes))))
     (labels_from-numbered (names_of labels.present) x.label (x.commands + 1) (canceled_up_to x.commands items) (commands_of items))
@@ -323,7 +323,7 @@ names-closed : (known : Option Label) (labels : List Label) (label : ℕ) → la
 names-closed (Some x) labels label e = sym (names-without label labels)
 names-closed None labels label e = ap names_of (sym (without-none labels label e))
 
-pub names_after : (labels : LabelsView) (item : Item) → labels_from (names_of labels.present) (calls_on labels item) ≡ names_of (labels_after labels item).present
+pub names_after : (labels : LabelsView) (item : ScriptItem) → labels_from (names_of labels.present) (calls_on labels item) ≡ names_of (labels_after labels item).present
 names_after labels (piece label bytes) =
     let known = label_in labels.present label in
     labels_from-append (names_of labels.present) (opening_calls known label) (fed_calls (opened_label known label labels.opened) bytes)
@@ -335,15 +335,15 @@ names_after labels (close label) = names-closed (label_in labels.present label) 
 
 -- what an input makes, by what was made of it and what is still to come
 pub come_to : (done : List Call) (streams : List Stream) (number room : ℕ) (pending all rest : List ℕ) → IsRead done streams number room pending all rest
-    → GoesOn done streams (script all) (script_from number room (lines_of (pending ++ rest)))
+    → ScriptGoesOn done streams (script all) (script_from number room (lines_of (pending ++ rest)))
 come_to done streams number room pending all rest read =
-    subst (λ (ls : List (List ℕ)). GoesOn done streams (script_from 1 SCRIPT_BYTES ls) (script_from number room (lines_of (pending ++ rest)))) (sym read.all_is) (read.goes_on (lines_of (pending ++ rest)))
+    subst (λ (ls : List (List ℕ)). ScriptGoesOn done streams (script_from 1 SCRIPT_BYTES ls) (script_from number room (lines_of (pending ++ rest)))) (sym read.all_is) (read.goes_on (lines_of (pending ++ rest)))
 
 -- one more good line, whatever lines follow
-goes_on_line : (done : List Call) (streams : List Stream) (number room : ℕ) (lines : List (List ℕ)) (line text : List ℕ) (room_after : ℕ) (item : Item) (calls : List Call) (more : List (List ℕ))
-    → ((after : List (List ℕ)) → GoesOn done streams (script_from 1 SCRIPT_BYTES (lines ++ after)) (script_from number room after))
+goes_on_line : (done : List Call) (streams : List Stream) (number room : ℕ) (lines : List (List ℕ)) (line text : List ℕ) (room_after : ℕ) (item : ScriptItem) (calls : List Call) (more : List (List ℕ))
+    → ((after : List (List ℕ)) → ScriptGoesOn done streams (script_from 1 SCRIPT_BYTES (lines ++ after)) (script_from number room after))
     → text ≡ text_of line → length line ≤ room → room_after ≡ room - length line → item_of text ≡ Some item → calls ≡ item_calls streams item
-    → GoesOn (done ++ calls) (after_item streams item) (script_from 1 SCRIPT_BYTES ((lines ++ line ∷ []) ++ more)) (script_from (number + 1) room_after more)
+    → ScriptGoesOn (done ++ calls) (after_item streams item) (script_from 1 SCRIPT_BYTES ((lines ++ line ∷ []) ++ more)) (script_from (number + 1) room_after more)
 goes_on_line done streams number room lines line text room_after item calls more goes_on text_is le room_is good is_calls =
     let rest = script_from (number + 1) room_after more in
     let before = goes_on (line ∷ more) in
@@ -357,7 +357,7 @@ goes_on_line done streams number room lines line text room_after item calls more
     }
 
 -- what is to come of the script once a good line was read
-pub to_come_on : (done : List Call) (streams : List Stream) (number : ℕ) (lines_old lines_new : LinesView) (given left left_new : Option (List ℕ)) (text : List ℕ) (item : Item) (calls : List Call)
+pub to_come_on : (done : List Call) (streams : List Stream) (number : ℕ) (lines_old lines_new : LinesView) (given left left_new : Option (List ℕ)) (text : List ℕ) (item : ScriptItem) (calls : List Call)
     → StillToCome done streams number lines_old.room lines_old.pending given left → ReadNext Text lines_old left text lines_new left_new → item_of text ≡ Some item
     → calls ≡ item_calls streams item
     → StillToCome (done ++ calls) (after_item streams item) (number + 1) lines_new.room lines_new.pending given left_new

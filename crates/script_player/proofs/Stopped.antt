@@ -5,28 +5,28 @@ use Rattle.history_spec.specs.Entry.{Entry, without}
 use Rattle.history_spec.specs.Told.{Limits}
 use Rattle.script_spec.specs.Script.{script}
 use Rattle.script_spec.specs.Calls.{Call, opening, command, bad_size, closing, calls_from, labels_from}
-use Rattle.script_spec.specs.Plays.{Holder, Stage, Plays1, PlaysTo, without_label, at_start}
+use Rattle.script_spec.specs.Plays.{LabelHolder, Stage, Plays1, PlaysTo, without_label, at_start}
 use Rattle.script_lines.specs.declared.label.Label.{Label}
 use Rattle.script_player.specs.declared.stop.Stop.{Stop}
 use Rattle.script_lines.specs.declared.reader.Line.TheVariants.{Text}
 use Rattle.script_lines.specs.Labels.{LabelsView}
 use Rattle.script_lines.specs.Lines.{LinesView, ReadNext}
 use Rattle.script_player.specs.Play.{stage, calls_on, HasPlayed, holder_of}
-use Rattle.script_player.specs.Stops.{Unanswered, last_calls, last_line, AreFirst, Writes, LineStopped, StoppedAt}
+use Rattle.script_player.specs.Stops.{Unanswered, last_calls, last_line, AreFirstCalls, WritesByStop, LineStopped, StoppedAt}
 use Rattle.script_player.proofs.Playing.{plays_on}
 use Rattle.script_player.proofs.Stopping.{has_last_behind, writes_behind}
 use Rattle.script_player.proofs.Scripting.{labels_from-append, calls_are, to_come_on, come_to}
 
 -- ---- who is open
 
-abbrev names_of : List Holder → List ℕ
+abbrev names_of : List LabelHolder → List ℕ
 names_of holders = map (λ h. h.label) holders
 
-names-push : (holders : List Holder) (h : Holder) → names_of (holders ++ h ∷ []) ≡ names_of holders ++ h.label ∷ []
+names-push : (holders : List LabelHolder) (h : LabelHolder) → names_of (holders ++ h ∷ []) ≡ names_of holders ++ h.label ∷ []
 names-push [] h = refl
 names-push (x ∷ holders) h = ap (λ (ns : List ℕ). x.label ∷ ns) (names-push holders h)
 
-names-without : (label : ℕ) (holders : List Holder) → names_of (without_label label holders) ≡ without label (names_of holders)
+names-without : (label : ℕ) (holders : List LabelHolder) → names_of (without_label label holders) ≡ without label (names_of holders)
 names-without label [] = refl
 names-without label (x ∷ holders) =
     elim (eqb x.label label) as (λ b. names_of (cond b holders (x ∷ without_label label holders)) ≡ cond b (names_of holders) (x.label ∷ without label (names_of holders))) [
@@ -51,7 +51,7 @@ names_are (x ∷ labels) = ap (λ (ns : List ℕ). x.label ∷ ns) (names_are la
 
 -- ---- one line more
 
-first_of : (done made rest left calls : List Call) (last : Option Unanswered) (all : List ℕ) → calls ≡ (made ++ last_calls last) ++ left → calls_from [] (script all).items ≡ (done ++ calls) ++ rest → AreFirst (done ++ made) last all
+first_of : (done made rest left calls : List Call) (last : Option Unanswered) (all : List ℕ) → calls ≡ (made ++ last_calls last) ++ left → calls_from [] (script all).items ≡ (done ++ calls) ++ rest → AreFirstCalls (done ++ made) last all
 first_of done made rest left calls last all is_calls is_all = (
   left ++ rest,
   is_all ∙ ap (λ (cs : List Call). (done ++ cs) ++ rest) is_calls ∙ append_assoc done ((made ++ last_calls last) ++ left) rest ∙ ap (λ (cs : List Call). done ++ cs) (append_assoc (made ++ last_calls last) left rest)
@@ -72,7 +72,7 @@ stopped_at limit stop labels history labels_new history_new number old new given
       output = so_far.output ++ at.more;
       plays = plays_on limit at_start (stage labels.present history so_far.output) (stage labels_new history_new (so_far.output ++ at.more)) so_far.done at.made so_far.plays (at.leads so_far.output);
       left_open = labels_from-append [] so_far.done at.made ∙ ap (λ (ns : List ℕ). labels_from ns at.made) so_far.left_open ∙ sym names;
-      writes = subst (λ (bytes : List ℕ). Writes stop bytes start written_new) (sym (append_assoc so_far.output at.more (last_line at.last)))
+      writes = subst (λ (bytes : List ℕ). WritesByStop stop bytes start written_new) (sym (append_assoc so_far.output at.more (last_line at.last)))
           (writes_behind stop so_far.output (at.more ++ last_line at.last) start written written_new so_far.written_is at.writes);
       has_last = has_last_behind stop so_far.done at.made at.last wrong at.has_last;
       first = λ all is_given. let was = on all is_given in first_of so_far.done at.made _ at.left calls at.last all at.calls_are (come_to _ _ _ _ _ all was.0 was.2).items;

@@ -17,13 +17,13 @@ use Rattle.broker_lock.specs.declared.calls.Told.{Told as ToldOf}
 use Rattle.broker_lock.specs.declared.calls.Told.TheVariants as tolds
 use Rattle.script_lines.specs.Labels.{LabelsView, label_in, counted, replaced}
 use Rattle.script_player.specs.Play.{Fits, Leads}
-use Rattle.script_player.specs.Stops.{Unanswered, WroteFront, Writes, HasLast, StoppedIn}
+use Rattle.script_player.specs.Stops.{Unanswered, CutsLastLine, WritesByStop, HasLast, StoppedIn}
 use Rattle.script_player.proofs.Entries.{ToldAs}
 use Rattle.script_player.proofs.Playing.{leads_none, leads_bad, leads-told}
 
 -- a front of a line, as a failed write leaves it
 pub wrote_front : (label : ℕ) (reply bytes : List ℕ) (written written_new : Option (List ℕ)) (k : ℕ) → bytes ≡ reply_line label reply → k < length bytes → written_new ≡ with_more written (take k bytes)
-    → WroteFront (reply_line label reply) written written_new
+    → CutsLastLine (reply_line label reply) written written_new
 wrote_front label reply bytes written written_new k same short wrote = record {
   before = [];
   label = label;
@@ -37,7 +37,7 @@ wrote_front label reply bytes written written_new k same short wrote = record {
 }
 
 -- what a stop leaves of bytes, behind others that were written
-pub writes_behind : (stop : Stop) (first second : List ℕ) (start written written_new : Option (List ℕ)) → written ≡ with_more start first → Writes stop second written written_new → Writes stop (first ++ second) start written_new
+pub writes_behind : (stop : Stop) (first second : List ℕ) (start written written_new : Option (List ℕ)) → written ≡ with_more start first → WritesByStop stop second written written_new → WritesByStop stop (first ++ second) start written_new
 writes_behind stops.End first second start written written_new is writes = absurd writes
 writes_behind (stops.BadLine n) first second start written written_new is writes = absurd writes
 writes_behind stops.Memory first second start written written_new is writes = absurd writes
@@ -72,7 +72,7 @@ has_last_behind stops.Answer done made last wrong (inr closes) =
 -- the command was made, and its reply line is what a stop leaves a front of, or all
 stopped_behind_it : (limit : Limits) (told : ToldOf) (stop : Stop) (labels : LabelsView) (old new : List Entry) (x : Label) (command : List ℕ) (covered : Option ℕ) (reply : List ℕ) (written written_new : Option (List ℕ)) (wrong : Bool)
     → ToldAs limit told old new x.client (x.commands + 1) command covered reply → (told ≡ tolds.Answer → ⊥) → Fits labels old → label_in labels.present x.label ≡ Some x
-    → HasLast stop (run_command x.label (x.commands + 1) command covered ∷ []) None wrong → Writes stop (reply_line x.label reply) written written_new
+    → HasLast stop (run_command x.label (x.commands + 1) command covered ∷ []) None wrong → WritesByStop stop (reply_line x.label reply) written written_new
     → StoppedIn limit stop (run_command x.label (x.commands + 1) command covered ∷ []) labels.present old (replaced (counted x) labels.present) new written written_new wrong
 stopped_behind_it limit told stop labels old new x command covered reply written written_new wrong tells not_answer fits found has_last writes = record {
   made = run_command x.label (x.commands + 1) command covered ∷ [];
@@ -81,7 +81,7 @@ stopped_behind_it limit told stop labels old new x command covered reply written
   calls_are = refl;
   more = reply_line x.label reply;
   leads = leads-told limit told labels old new x command covered reply tells not_answer fits found;
-  writes = subst (λ (bytes : List ℕ). Writes stop bytes written written_new) (sym (append-nil (reply_line x.label reply))) writes;
+  writes = subst (λ (bytes : List ℕ). WritesByStop stop bytes written written_new) (sym (append-nil (reply_line x.label reply))) writes;
   has_last = has_last;
 }
 
@@ -90,7 +90,7 @@ pub stopped_told : (limit : Limits) (told : ToldOf) (stop : Stop) (labels : Labe
     → ToldAs limit told old new x.client (x.commands + 1) command covered reply → ((told ≡ tolds.Answer) ↔ IsTrue wrong) → Fits labels old → label_in labels.present x.label ≡ Some x
     → ((last : Unanswered) → IsTrue wrong → HasLast stop [] (Some last) wrong)
     → ((IsTrue wrong → ⊥) → HasLast stop (run_command x.label (x.commands + 1) command covered ∷ []) None wrong)
-    → Writes stop (reply_line x.label reply) written written_new
+    → WritesByStop stop (reply_line x.label reply) written written_new
     → StoppedIn limit stop (run_command x.label (x.commands + 1) command covered ∷ []) labels.present old (replaced (counted x) labels.present) new written written_new wrong
 stopped_told limit tolds.Answer stop labels old new x command covered reply written written_new wrong tells answer fits found with_last without_last writes =
     let last : Unanswered = record { label = x.label; number = x.commands + 1; bytes = command } in
@@ -101,7 +101,7 @@ stopped_told limit tolds.Answer stop labels old new x command covered reply writ
       calls_are = ap (λ (c : Option ℕ). run_command x.label (x.commands + 1) command c ∷ []) tells.2;
       more = [];
       leads = rw tells.0 (leads_none limit labels.present old (counted x) x found refl);
-      writes = subst (λ (bytes : List ℕ). Writes stop (reply_line x.label bytes) written written_new) tells.1 writes;
+      writes = subst (λ (bytes : List ℕ). WritesByStop stop (reply_line x.label bytes) written written_new) tells.1 writes;
       has_last = with_last last (answer.0 refl);
     }
 stopped_told limit tolds.Entered stop labels old new x command covered reply written written_new wrong tells answer fits found with_last without_last writes =
@@ -116,7 +116,7 @@ stopped_told limit (tolds.JournalFull count most) stop labels old new x command 
 
 -- the line that tells of a bad size was written in part
 pub stopped_bad : (limit : Limits) (count : ℕ) (labels : List Label) (history : List Entry) (label : ℕ) (x : Label) (written written_new : Option (List ℕ)) (wrong : Bool) → label_in labels label ≡ Some x
-    → WroteFront (reply_line label (error_reply RC_COMMAND_SIZE)) written written_new → StoppedIn limit (stops.Output count) (bad_size label ∷ closing label ∷ []) labels history labels history written written_new wrong
+    → CutsLastLine (reply_line label (error_reply RC_COMMAND_SIZE)) written written_new → StoppedIn limit (stops.Output count) (bad_size label ∷ closing label ∷ []) labels history labels history written written_new wrong
 stopped_bad limit count labels history label x written written_new wrong found wrote = record {
   made = bad_size label ∷ [];
   last = None;
@@ -124,7 +124,7 @@ stopped_bad limit count labels history label x written written_new wrong found w
   calls_are = refl;
   more = reply_line label (error_reply RC_COMMAND_SIZE);
   leads = leads_bad limit labels history label x found;
-  writes = subst (λ (bytes : List ℕ). WroteFront bytes written written_new) (sym (append-nil (reply_line label (error_reply RC_COMMAND_SIZE)))) wrote;
+  writes = subst (λ (bytes : List ℕ). CutsLastLine bytes written written_new) (sym (append-nil (reply_line label (error_reply RC_COMMAND_SIZE)))) wrote;
   has_last = λ some. absurd cc;
 }
 

@@ -6,12 +6,13 @@ use Rattle.history_spec.specs.Entry.{Entry, HasRoomForClient, is_close_kind, kep
 use Rattle.history_spec.specs.Told.{Limits}
 use Rattle.script_spec.specs.Script.{script, end, bad_line}
 use Rattle.script_spec.specs.Calls.{Call, opening, calls_from, with_closes}
-use Rattle.script_spec.specs.Plays.{Holder, PlaysTo, Plays, at_start}
+use Rattle.script_spec.specs.Plays.{LabelHolder, PlaysTo, Plays, at_start}
 use Rattle.link_port.specs.Port.{with_more}
 use Rattle.script_player.specs.declared.stop.Stop.{Stop}
 use Rattle.script_player.specs.declared.stop.Stop.TheVariants as stops
 use Rattle.script_player.specs.Play.{AreOfWholeLines, HasStopCause}
-use Rattle.script_player.specs.Stops.{Unanswered, AreFirst, EndsInClose, WroteFront, last_line}
+use Rattle.script_player.specs.Stops.{Unanswered, AreFirstCalls, EndsInClose, CutsLastLine}
+use Rattle.script_player.specs.Stops.{last_line}
 
 -- the reply lines of a run, and behind them the audit text of its history where it is asked for
 abbrev pub with_audit : Bool → List Entry → List ℕ → List ℕ
@@ -39,7 +40,7 @@ LeavesPart limit audit given written written_new history = (done : List Call)
 pub record IsFullAt (limit : Limits) (done : List Call) (detail : ℕ) (history : List Entry) : Type 0 where
   pub before : List Entry
   pub closes : List Entry
-  pub holders : List Holder
+  pub holders : List LabelHolder
   pub output : List ℕ
   pub plays : PlaysTo limit at_start done (record { history = before; holders = holders; output = output })
   pub history_is : history ≡ before ++ closes
@@ -69,7 +70,7 @@ pub record MakesUpTo (limit : Limits) (done : List Call) (last : Option Unanswer
 abbrev pub LeavesEarly : Limits → Option (List ℕ) → Option (List ℕ) → Option (List ℕ) → List Entry → Type 0
 LeavesEarly limit given written written_new history = (done : List Call) × (last : Option Unanswered)
     × (last ≡ None → EndsInClose done)
-    × IfSome given (λ all. AreFirst done last all)
+    × IfSome given (λ all. AreFirstCalls done last all)
     × MakesUpTo limit done last (λ all. written_new ≡ with_more written all) history
 
 -- the history is what the first of the script's calls make, and the output lacks a part of the last line that they write. Only
@@ -77,8 +78,8 @@ LeavesEarly limit given written written_new history = (done : List Call) × (las
 abbrev pub LeavesCut : Limits → Bool → Option (List ℕ) → Option (List ℕ) → Option (List ℕ) → List Entry → Type 0
 LeavesCut limit wrong given written written_new history = (done : List Call) × (last : Option Unanswered)
     × (IsSome last → IsTrue wrong)
-    × IfSome given (λ all. AreFirst done last all)
-    × MakesUpTo limit done last (λ all. WroteFront all written written_new) history
+    × IfSome given (λ all. AreFirstCalls done last all)
+    × MakesUpTo limit done last (λ all. CutsLastLine all written written_new) history
 
 -- ---- all of it, by why no more was played
 

@@ -6,9 +6,9 @@ use Rattle.tab_spec.specs.Count.{Rose}
 use Rattle.script_spec.specs.declared.TheConstants.{LINE_BYTES, SCRIPT_BYTES}
 use Rattle.history_spec.specs.Entry.{Entry, HasRoomForClient, clients_of, is_close_kind, kept, own}
 use Rattle.history_spec.specs.Told.{Limits}
-use Rattle.script_spec.specs.Script.{Item, piece, close, Script, script, item_of, is_newline, lines_of, script_from, end, bad_line}
+use Rattle.script_spec.specs.Script.{ScriptItem, piece, close, Script, script, item_of, is_newline, lines_of, script_from, end, bad_line}
 use Rattle.script_spec.specs.Calls.{Call, opening, closing, Stream, item_commands, ending_calls, calls_from, labels_from}
-use Rattle.script_spec.specs.Plays.{Holder, Stage, PlaysTo, at_start}
+use Rattle.script_spec.specs.Plays.{LabelHolder, Stage, PlaysTo, at_start}
 use Rattle.link_port.specs.Port.{with_more}
 use Rattle.script_lines.specs.declared.label.Label.{Label}
 use Rattle.script_lines.specs.Labels.{LabelsView, label_in, new_label, replaced, without_label}
@@ -17,7 +17,7 @@ use Rattle.broker_lock.specs.declared.calls.OpenClientError.TheVariants as open_
 use Rattle.script_player.specs.declared.stop.Stop.{Stop}
 use Rattle.script_player.specs.declared.stop.Stop.TheVariants as stops
 
-abbrev pub holder_of : Label → Holder
+abbrev pub holder_of : Label → LabelHolder
 holder_of x = record { label = x.label; client = x.client }
 
 -- how far a script has been played
@@ -25,9 +25,10 @@ abbrev pub stage : List Label → List Entry → List ℕ → Stage
 stage labels history output = record { history = history; holders = map holder_of labels; output = output }
 
 -- the clients of the labels rise from this one, and stay below that
-abbrev pub Rise : ℕ → List Label → ℕ → Type 0
-Rise from [] below = Unit {0}
-Rise from (x ∷ xs) below = (from ≤ x.client) × (x.client < below) × Rise (x.client + 1) xs below
+abbrev pub ClientsRise : ℕ → List Label → ℕ → Type 0
+ClientsRise from [] below = Unit {0}
+ClientsRise from (x ∷ xs) below =
+    (from ≤ x.client) × (x.client < below) × ClientsRise (x.client + 1) xs below
 
 -- each entry of an open client has a number up to this one, and none is its close
 abbrev pub NumbersUpTo : List Entry → ℕ → ℕ → Type 0
@@ -37,7 +38,7 @@ NumbersUpTo history client number = AllByRecursion (λ e. (e.number ≤ number) 
 pub record Fits (labels : LabelsView) (history : List Entry) : Type 0 where
   pub present : (clients_of history).present ≡ map (λ x. x.client) labels.present
   pub opened : (clients_of history).opened ≡ labels.opened
-  pub rise : Rise 0 labels.present labels.opened
+  pub rise : ClientsRise 0 labels.present labels.opened
   pub known : AllByRecursion (λ e. e.client < labels.opened) history
   pub counts : AllByRecursion (λ x. NumbersUpTo history x.client x.commands) labels.present
 
@@ -90,13 +91,13 @@ closed_calls None label = []
 closed_calls (Some x) label = closing label ∷ []
 
 -- the calls that an item makes
-abbrev pub calls_on : LabelsView → Item → List Call
+abbrev pub calls_on : LabelsView → ScriptItem → List Call
 calls_on labels (piece label bytes) =
     let known = label_in labels.present label in opening_calls known label ++ fed_calls (opened_label known label labels.opened) bytes
 calls_on labels (close label) = closed_calls (label_in labels.present label) label
 
 -- the labels after it
-abbrev pub labels_after : LabelsView → Item → LabelsView
+abbrev pub labels_after : LabelsView → ScriptItem → LabelsView
 labels_after labels (piece label bytes) =
     let known = label_in labels.present label in fed_labels (opened_label known label labels.opened) bytes (opened_labels known labels label)
 labels_after labels (close label) = record labels { present = without_label label labels.present }
@@ -126,7 +127,7 @@ Carries (x ∷ xs) [] = ⊥
 -- a good line was played: its calls lead on, and their reply lines were written
 pub record IsPlayed (limit : Limits) (text : List ℕ) (labels : LabelsView) (history : List Entry) (labels_new : LabelsView) (history_new : List Entry)
     (written written_new : Option (List ℕ)) : Type 0 where
-  pub item : Item
+  pub item : ScriptItem
   pub more : List ℕ
   pub item_is : item_of text ≡ Some item
   pub labels_are : labels_new ≡ labels_after labels item
@@ -140,7 +141,8 @@ OpensLabel text labels = (label : ℕ) × (bytes : List ℕ) × (item_of text �
 -- ---- a script
 
 -- a script makes these calls, and then those of its rest
-pub record GoesOn (done : List Call) (streams : List Stream) (whole rest : Script) : Type 0 where
+pub record ScriptGoesOn (done : List Call) (streams : List Stream) (whole rest : Script)
+    : Type 0 where
   pub items : calls_from [] whole.items ≡ done ++ calls_from streams rest.items
   pub ending : whole.ending ≡ rest.ending
 
@@ -148,7 +150,7 @@ pub record GoesOn (done : List Call) (streams : List Stream) (whole rest : Scrip
 pub record IsRead (done : List Call) (streams : List Stream) (number room : ℕ) (pending all rest : List ℕ) : Type 0 where
   pub lines : List (List ℕ)
   pub all_is : lines_of all ≡ lines ++ lines_of (pending ++ rest)
-  pub goes_on : (more : List (List ℕ)) → GoesOn done streams (script_from 1 SCRIPT_BYTES (lines ++ more)) (script_from number room more)
+  pub goes_on : (more : List (List ℕ)) → ScriptGoesOn done streams (script_from 1 SCRIPT_BYTES (lines ++ more)) (script_from number room more)
 
 -- what an input that told its bytes makes is what was made of it and what is left makes
 abbrev pub StillToCome : List Call → List Stream → ℕ → ℕ → List ℕ → Option (List ℕ) → Option (List ℕ) → Type 0

@@ -17,7 +17,7 @@ use Rattle.script_player.specs.Stops.{LineStopped}
 -- ---- what is asked
 
 -- nothing was played yet
-pub record IsFresh (labels : LabelsView) (history : List Entry) (wrong : Bool) : Type 0 where
+pub record IsFreshRun (labels : LabelsView) (history : List Entry) (wrong : Bool) : Type 0 where
   pub labels_are : labels ≡ no_labels
   pub history_is : history ≡ []
   pub sound : wrong ≡ false
@@ -36,7 +36,7 @@ pub record IsBehind (lines : ℕ) (labels : LabelsView) (history : List Entry) (
 -- ---- what is kept
 
 -- what each call keeps: what the history stands on, and that labels and history fit one another
-pub record Keeps (fixed fixed_new : Fixed) (labels_new : LabelsView) (history_new : List Entry) : Type 0 where
+pub record KeepsFit (fixed fixed_new : Fixed) (labels_new : LabelsView) (history_new : List Entry) : Type 0 where
   pub fixed_is : fixed_new ≡ fixed
   pub fits : Fits labels_new history_new
 

@@ -4,7 +4,7 @@ use Rattle.tab_spec.specs.declared.TheConstants.{RC_DEVICE_ANSWER}
 use Rattle.tab_spec.specs.Reply.{error_reply}
 use Rattle.history_spec.specs.Entry.{Entry}
 use Rattle.history_spec.specs.Told.{Limits}
-use Rattle.script_spec.specs.Script.{Item, item_of, script}
+use Rattle.script_spec.specs.Script.{ScriptItem, item_of, script}
 use Rattle.script_spec.specs.Calls.{Call, command, closing, calls_from, labels_from}
 use Rattle.script_spec.specs.Plays.{PlaysTo, at_start, reply_line}
 use Rattle.link_port.specs.Port.{with_more}
@@ -29,11 +29,11 @@ last_line None = []
 last_line (Some last) = reply_line last.label (error_reply RC_DEVICE_ANSWER)
 
 -- these are the first of the calls of a script
-abbrev pub AreFirst : List Call → Option Unanswered → List ℕ → Type 0
-AreFirst done last all = (more : List Call) × (calls_from [] (script all).items ≡ (done ++ last_calls last) ++ more)
+abbrev pub AreFirstCalls : List Call → Option Unanswered → List ℕ → Type 0
+AreFirstCalls done last all = (more : List Call) × (calls_from [] (script all).items ≡ (done ++ last_calls last) ++ more)
 
 -- these bytes were written but for the last line, of which a front was written and not all
-pub record WroteFront (all : List ℕ) (written written_new : Option (List ℕ)) : Type 0 where
+pub record CutsLastLine (all : List ℕ) (written written_new : Option (List ℕ)) : Type 0 where
   pub before : List ℕ
   pub label : ℕ
   pub reply : List ℕ
@@ -45,14 +45,14 @@ pub record WroteFront (all : List ℕ) (written written_new : Option (List ℕ))
   pub written_is : written_new ≡ with_more written (before ++ front)
 
 -- what a stop leaves of the bytes that were to be written
-abbrev pub Writes : Stop → List ℕ → Option (List ℕ) → Option (List ℕ) → Type 0
-Writes stops.End all written written_new = ⊥
-Writes (stops.BadLine number) all written written_new = ⊥
-Writes stops.Memory all written written_new = ⊥
-Writes (stops.Full count) all written written_new = ⊥
-Writes (stops.Output count) all written written_new = WroteFront all written written_new
-Writes (stops.Input count) all written written_new = ⊥
-Writes stops.Answer all written written_new = written_new ≡ with_more written all
+abbrev pub WritesByStop : Stop → List ℕ → Option (List ℕ) → Option (List ℕ) → Type 0
+WritesByStop stops.End all written written_new = ⊥
+WritesByStop (stops.BadLine number) all written written_new = ⊥
+WritesByStop stops.Memory all written written_new = ⊥
+WritesByStop (stops.Full count) all written written_new = ⊥
+WritesByStop (stops.Output count) all written written_new = CutsLastLine all written written_new
+WritesByStop (stops.Input count) all written written_new = ⊥
+WritesByStop stops.Answer all written written_new = written_new ≡ with_more written all
 
 -- the last of these calls is a close, which may send commands of the broker's own
 abbrev pub EndsInClose : List Call → Type 0
@@ -78,13 +78,13 @@ pub record StoppedIn (limit : Limits) (stop : Stop) (calls : List Call) (labels 
   pub calls_are : calls ≡ (made ++ last_calls last) ++ left
   pub more : List ℕ
   pub leads : Leads limit labels history made labels_new history_new more
-  pub writes : Writes stop (more ++ last_line last) written written_new
+  pub writes : WritesByStop stop (more ++ last_line last) written written_new
   pub has_last : HasLast stop made last wrong
 
 -- the same of a good line
 pub record LineStopped (limit : Limits) (stop : Stop) (text : List ℕ) (labels : LabelsView) (history : List Entry)
     (labels_new : List Label) (history_new : List Entry) (written written_new : Option (List ℕ)) (wrong : Bool) : Type 0 where
-  pub item : Item
+  pub item : ScriptItem
   pub item_is : item_of text ≡ Some item
   pub stopped : StoppedIn limit stop (calls_on labels item) labels.present history labels_new history_new written written_new wrong
 
@@ -96,6 +96,6 @@ pub record StoppedAt (limit : Limits) (stop : Stop) (labels : List Label) (histo
   pub output : List ℕ
   pub plays : PlaysTo limit at_start done (stage labels history output)
   pub left_open : labels_from [] done ≡ map (λ x. x.label) labels
-  pub writes : Writes stop (output ++ last_line last) written written_new
+  pub writes : WritesByStop stop (output ++ last_line last) written written_new
   pub has_last : HasLast stop done last wrong
-  pub first : (all : List ℕ) → given ≡ Some all → AreFirst done last all
+  pub first : (all : List ℕ) → given ≡ Some all → AreFirstCalls done last all

@@ -17,9 +17,9 @@ ghost use Rattle.script_player.specs.Play.{Fits, size_of_label, Leads, opened_la
 ghost use Rattle.script_player.specs.Play.{opening_calls, fed_calls, fed_labels, IsPlayed};
 ghost use Rattle.script_player.specs.Play.{IsEven, IsOfOpening, IsOfRun, PlayedUpTo};
 ghost use Rattle.script_player.specs.Play.{IsPulledUpTo, HasStopCause, TellsFull, most_pulled};
-ghost use Rattle.script_player.specs.Steps.{IsFresh, MayRun, IsBehind, Keeps, TellsOf};
+ghost use Rattle.script_player.specs.Steps.{IsFreshRun, MayRun, IsBehind, KeepsFit, TellsOf};
 ghost use Rattle.script_player.specs.Steps.{Counts, Outcome, AreMade, EndsAt};
-ghost use Rattle.script_player.specs.Stops.{StoppedAt, StoppedIn, WroteFront};
+ghost use Rattle.script_player.specs.Stops.{CutsLastLine, StoppedAt, StoppedIn};
 
 use crate::room::Room;
 use crate::runs::Runs;
@@ -77,7 +77,7 @@ impl<B: Runs> Player<B> {
         ensures full { IfErr result
             (λ stop. TellsFull (B.fixed self.old.value).limit stop (B.history self.old.value)) }
         ensures sound { B.wrong self.new.value ≡ false }
-        ensures kept { Keeps (B.fixed self.old.value) (B.fixed self.new.value)
+        ensures kept { KeepsFit (B.fixed self.old.value) (B.fixed self.new.value)
             self.new.labels (B.history self.new.value) }
     {
         if self.labels.client(label).is_some() {
@@ -101,7 +101,7 @@ impl<B: Runs> Player<B> {
         ensures labels { self.new.labels ≡ self.old.labels }
         ensures written { OnOk result (O.written output.new
             ≡ with_more (O.written output.old) (reply_line label self.old.reply)) }
-        ensures front { OnErr result (WroteFront (reply_line label self.old.reply)
+        ensures front { OnErr result (CutsLastLine (reply_line label self.old.reply)
             (O.written output.old) (O.written output.new)) }
         ensures err { IfErr result (λ stop. (stop ≡ stops.Output (O.faults output.new))
             × Rose (O.faults output.old) (O.faults output.new)) }
@@ -160,7 +160,7 @@ impl<B: Runs> Player<B> {
             (O.written output.old) (O.written output.new) (B.wrong self.new.value)) }
         ensures outcome { Outcome result (O.faults output.old)
             (O.faults output.new) (B.wrong self.new.value) }
-        ensures kept { Keeps (B.fixed self.old.value) (B.fixed self.new.value) self.new.labels
+        ensures kept { KeepsFit (B.fixed self.old.value) (B.fixed self.new.value) self.new.labels
             (B.history self.new.value) }
     {
         let (client, number) = self.labels.count(label);
@@ -183,7 +183,7 @@ impl<B: Runs> Player<B> {
         ensures sound { OnOk result (B.wrong self.new.value ≡ false) }
         ensures err { IfErr result (λ stop. (stop ≡ stops.Answer)
             × IsTrue (B.wrong self.new.value)) }
-        ensures kept { Keeps (B.fixed self.old.value) (B.fixed self.new.value) self.new.labels
+        ensures kept { KeepsFit (B.fixed self.old.value) (B.fixed self.new.value) self.new.labels
             (B.history self.new.value) }
     {
         let client = self.labels.close(label);
@@ -208,7 +208,7 @@ impl<B: Runs> Player<B> {
             (O.written output.new) (B.wrong self.new.value)) }
         ensures outcome { Outcome result (O.faults output.old)
             (O.faults output.new) (B.wrong self.new.value) }
-        ensures kept { Keeps (B.fixed self.old.value) (B.fixed self.new.value) self.new.labels
+        ensures kept { KeepsFit (B.fixed self.old.value) (B.fixed self.new.value) self.new.labels
             (B.history self.new.value) }
     {
         error_reply(RC_COMMAND_SIZE, &mut self.reply);
@@ -237,7 +237,7 @@ impl<B: Runs> Player<B> {
             (B.wrong self.new.value)) }
         ensures outcome { Outcome result (O.faults output.old)
             (O.faults output.new) (B.wrong self.new.value) }
-        ensures kept { Keeps (B.fixed self.old.value) (B.fixed self.new.value) self.new.labels
+        ensures kept { KeepsFit (B.fixed self.old.value) (B.fixed self.new.value) self.new.labels
             (B.history self.new.value) }
     {
         let upto = self
@@ -283,7 +283,7 @@ impl<B: Runs> Player<B> {
             (B.wrong self.new.value)) }
         ensures outcome { Outcome result (O.faults output.old)
             (O.faults output.new) (B.wrong self.new.value) }
-        ensures kept { Keeps (B.fixed self.old.value) (B.fixed self.new.value) self.new.labels
+        ensures kept { KeepsFit (B.fixed self.old.value) (B.fixed self.new.value) self.new.labels
             (B.history self.new.value) }
     {
         match read_line(text, piece) {
@@ -311,7 +311,7 @@ impl<B: Runs> Player<B> {
         input: &mut I,
         output: &mut O,
     ) -> Stop
-        requires starts { IsFresh self.old.labels (B.history self.old.value)
+        requires starts { IsFreshRun self.old.labels (B.history self.old.value)
             (B.wrong self.old.value) }
         requires fresh { lines.old ≡ record { pending = []; room = SCRIPT_BYTES } }
         requires text { LINE_BYTES ≤ vec_capacity text.old }
@@ -325,7 +325,7 @@ impl<B: Runs> Player<B> {
         ensures pulled { IsPulledUpTo (most_pulled result) (I.left input.old) (I.left input.new) }
         ensures cause { HasStopCause result (I.faults input.old) (I.faults input.new)
             (O.faults output.old) (O.faults output.new) (B.wrong self.new.value) }
-        ensures kept { Keeps (B.fixed self.old.value) (B.fixed self.new.value) self.new.labels
+        ensures kept { KeepsFit (B.fixed self.old.value) (B.fixed self.new.value) self.new.labels
             (B.history self.new.value) }
     {
         let mut played = 0;
@@ -351,7 +351,7 @@ impl<B: Runs> Player<B> {
             (B.history self.new.value) [] }
         ensures none { self.new.labels.present ≡ [] }
         ensures stays { IsTrue (B.wrong self.old.value) → IsTrue (B.wrong self.new.value) }
-        ensures kept { Keeps (B.fixed self.old.value) (B.fixed self.new.value) self.new.labels
+        ensures kept { KeepsFit (B.fixed self.old.value) (B.fixed self.new.value) self.new.labels
             (B.history self.new.value) }
     {
         while let Some(client) = self.labels.close_first() {

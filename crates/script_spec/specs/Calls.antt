@@ -2,7 +2,7 @@
 use Rattle.std.specs.Prelude.{ℕ, ◌+◌, ◌==◌, Bool, true, false, List, [], ◌∷◌, ◌++◌, length, map, drop, Option, Some, None, if◌then◌else◌}
 use Rattle.tab_spec.specs.Frame as frame
 use Rattle.tab_spec.specs.Frame.{meets_bad_size, commands_of, frames, commands}
-use Rattle.script_spec.specs.Script.{Item, close, piece}
+use Rattle.script_spec.specs.Script.{ScriptItem, close, piece}
 use Rattle.history_spec.specs.Cancels.{canceled_up_to, cover}
 use Rattle.history_spec.specs.Entry.{without}
 
@@ -44,7 +44,7 @@ after_piece streams label bytes =
     if meets_bad_size (so_far (bytes_of streams label) ++ bytes) then without_stream label streams else fed streams label bytes
 
 -- the commands and cancels that a piece completes
-abbrev pub new_items : List ℕ → List ℕ → List frame.Item
+abbrev pub new_items : List ℕ → List ℕ → List frame.StreamItem
 new_items before bytes = drop (length (frames before).items) (frames (before ++ bytes)).items
 
 -- commands from this number on, some of which are canceled up to a number
@@ -53,7 +53,7 @@ numbered label number upto [] = []
 numbered label number upto (bytes ∷ commands) = command label number bytes (cover upto number) ∷ numbered label (number + 1) upto commands
 
 -- the commands among these items behind so many others: the last cancel among the items is about those before it
-abbrev pub item_commands : ℕ → ℕ → List frame.Item → List Call
+abbrev pub item_commands : ℕ → ℕ → List frame.StreamItem → List Call
 item_commands label count items = numbered label (count + 1) (canceled_up_to count items) (commands_of items)
 
 -- a bad size is told, and the label is closed
@@ -77,16 +77,16 @@ close_calls None label = []
 close_calls (Some before) label = closing label ∷ []
 
 -- the calls of an item
-abbrev pub item_calls : List Stream → Item → List Call
+abbrev pub item_calls : List Stream → ScriptItem → List Call
 item_calls streams (piece label bytes) = piece_calls (bytes_of streams label) label bytes
 item_calls streams (close label) = close_calls (bytes_of streams label) label
 
 -- the streams after it
-abbrev pub after_item : List Stream → Item → List Stream
+abbrev pub after_item : List Stream → ScriptItem → List Stream
 after_item streams (piece label bytes) = after_piece streams label bytes
 after_item streams (close label) = without_stream label streams
 
-abbrev pub calls_from : List Stream → List Item → List Call
+abbrev pub calls_from : List Stream → List ScriptItem → List Call
 calls_from streams [] = []
 calls_from streams (item ∷ items) = item_calls streams item ++ calls_from (after_item streams item) items
 
@@ -106,5 +106,5 @@ abbrev pub with_closes : List Call → List Call
 with_closes calls = calls ++ map closing (labels_from [] calls)
 
 -- the calls of a script, up to and with the closes at its end
-abbrev pub calls : List Item → List Call
+abbrev pub calls : List ScriptItem → List Call
 calls items = with_closes (calls_from [] items)

@@ -6,27 +6,27 @@ use Rattle.tab_spec.specs.declared.TheConstants.{RC_COMMAND_SIZE}
 use Rattle.history_spec.specs.declared.EntryKind.{EntryKind}
 use Rattle.history_spec.specs.declared.EntryKind.TheVariants.{Open, Command, Canceled, Fault, Close}
 use Rattle.history_spec.specs.Entry.{Entry, HasRoom, HasRoomForClient, clients_of, open_entry, close_entry}
-use Rattle.history_spec.specs.Told.{Told, Limits}
+use Rattle.history_spec.specs.Told.{MayBeTold, Limits}
 use Rattle.tab_spec.specs.Reply.{error_reply}
 use Rattle.script_spec.specs.Calls.{Call, bad_size, closing, command, opening}
 
 -- an open label and its client
-pub record Holder : Type 0 where
+pub record LabelHolder : Type 0 where
   pub label : ℕ
   pub client : ℕ
 
-abbrev pub client_of : List Holder → ℕ → Option ℕ
+abbrev pub client_of : List LabelHolder → ℕ → Option ℕ
 client_of [] label = None
 client_of (holder ∷ holders) label = if holder.label == label then Some holder.client else client_of holders label
 
-abbrev pub without_label : ℕ → List Holder → List Holder
+abbrev pub without_label : ℕ → List LabelHolder → List LabelHolder
 without_label label [] = []
 without_label label (holder ∷ holders) = if holder.label == label then holders else holder ∷ without_label label holders
 
 -- how far a script has been played
 pub record Stage : Type 0 where
   pub history : List Entry
-  pub holders : List Holder
+  pub holders : List LabelHolder
   pub output : List ℕ
 
 -- the line that a reply is written as: its label, a space, its bytes in lower case, a newline
@@ -58,19 +58,19 @@ MayAddEntry limit old client number bytes covered new =
     (new ≡ old) ⊎ ((e : Entry) × (new ≡ old ++ e ∷ []) × IsEntryFor client number bytes covered e × HasRoom limit old bytes)
 
 -- the label's client is told a reply to its command
-pub record IsAnswered (limit : Limits) (before : Stage) (label number : ℕ) (bytes : List ℕ) (covered : Option ℕ) (after : Stage)
+pub record IsLabelAnswered (limit : Limits) (before : Stage) (label number : ℕ) (bytes : List ℕ) (covered : Option ℕ) (after : Stage)
     : Type 0 where
   pub client : ℕ
   pub reply : List ℕ
   pub known : client_of before.holders label ≡ Some client
   pub entry : MayAddEntry limit.bytes before.history client number bytes covered after.history
-  pub told : Told after.history limit client number bytes reply
+  pub told : MayBeTold after.history limit client number bytes reply
   pub output : after.output ≡ before.output ++ reply_line label reply
   pub holders : after.holders ≡ before.holders
 
 -- the label gets the next client, for which a journal of this limit has room
-abbrev pub IsOpened : ℕ → Stage → ℕ → Stage → Type 0
-IsOpened limit before label after = let client = (clients_of before.history).opened in
+abbrev pub IsLabelOpened : ℕ → Stage → ℕ → Stage → Type 0
+IsLabelOpened limit before label after = let client = (clients_of before.history).opened in
     HasRoomForClient limit before.history × (after ≡ record {
       history = before.history ++ open_entry client ∷ [];
       holders = before.holders ++ record { label = label; client = client } ∷ [];
@@ -78,8 +78,8 @@ IsOpened limit before label after = let client = (clients_of before.history).ope
     })
 
 -- the label's client is closed
-abbrev pub IsClosed : Stage → ℕ → Stage → Type 0
-IsClosed before label after = (client : ℕ) × (client_of before.holders label ≡ Some client) × (after ≡ record {
+abbrev pub IsLabelClosed : Stage → ℕ → Stage → Type 0
+IsLabelClosed before label after = (client : ℕ) × (client_of before.holders label ≡ Some client) × (after ≡ record {
   history = before.history ++ close_entry client ∷ [];
   holders = without_label label before.holders;
   output = before.output;
@@ -94,10 +94,10 @@ IsToldBadSize before label after = (client : ℕ) × (client_of before.holders l
 })
 
 abbrev pub Plays1 : Limits → Stage → Call → Stage → Type 0
-Plays1 limit before (opening label) after = IsOpened limit.bytes before label after
-Plays1 limit before (command label number bytes covered) after = IsAnswered limit before label number bytes covered after
+Plays1 limit before (opening label) after = IsLabelOpened limit.bytes before label after
+Plays1 limit before (command label number bytes covered) after = IsLabelAnswered limit before label number bytes covered after
 Plays1 limit before (bad_size label) after = IsToldBadSize before label after
-Plays1 limit before (closing label) after = IsClosed before label after
+Plays1 limit before (closing label) after = IsLabelClosed before label after
 
 -- within these limits the calls lead from a stage to another
 abbrev pub PlaysTo : Limits → Stage → List Call → Stage → Type 0
@@ -110,4 +110,4 @@ at_start = record { history = []; holders = []; output = [] }
 -- the history and the output are what the calls make: one entry or none for each
 abbrev pub Plays : List Entry → Limits → List Call → List ℕ → Type 0
 Plays history limit calls output =
-    (holders : List Holder) × PlaysTo limit at_start calls (record { history = history; holders = holders; output = output })
+    (holders : List LabelHolder) × PlaysTo limit at_start calls (record { history = history; holders = holders; output = output })

@@ -50,26 +50,26 @@ abbrev pub label_of : List ℕ → Option ℕ
 label_of text = if is_label text then Some (number_of text) else None
 
 -- what a good line says
-pub data Item : Type 0 where
+pub data ScriptItem : Type 0 where
   -- these bytes come on the label's stream
-  piece : ℕ → List ℕ → Item
+  piece : ℕ → List ℕ → ScriptItem
   -- the label is closed
-  close : ℕ → Item
+  close : ℕ → ScriptItem
 
 abbrev pub is_close_word : List ℕ → Bool
 is_close_word word = pointwise ◌==◌ word (codes "close")
 
 -- a piece has at least one byte
-abbrev pub piece_in : ℕ → Result (List ℕ) FromHexError → Option Item
+abbrev pub piece_in : ℕ → Result (List ℕ) FromHexError → Option ScriptItem
 piece_in label (Err error) = None
 piece_in label (Ok bytes) = if length bytes == 0 then None else Some (piece label bytes)
 
-abbrev pub item_in : Option ℕ → List ℕ → Option Item
+abbrev pub item_in : Option ℕ → List ℕ → Option ScriptItem
 item_in None word = None
 item_in (Some label) word = if is_close_word word then Some (close label) else piece_in label (decode_of word)
 
 -- what a line says, its newline left out; nothing where it is a bad line
-abbrev pub item_of : List ℕ → Option Item
+abbrev pub item_of : List ℕ → Option ScriptItem
 item_of text =
     if nat_lt LINE_BYTES (length text) then None
     else if not (list_any is_space text) then None
@@ -77,20 +77,20 @@ item_of text =
 
 -- ---- a script
 
-pub data Ending : Type 0 where
+pub data ScriptEnding : Type 0 where
   -- the input ended behind good lines
-  end : Ending
+  end : ScriptEnding
   -- the number of the first bad line, from 1
-  bad_line : ℕ → Ending
+  bad_line : ℕ → ScriptEnding
 
 pub record Script : Type 0 where
-  pub items : List Item
-  pub ending : Ending
+  pub items : List ScriptItem
+  pub ending : ScriptEnding
 
-abbrev pub with_item : Item → Script → Script
+abbrev pub with_item : ScriptItem → Script → Script
 with_item item script = record { items = item ∷ script.items; ending = script.ending }
 
-abbrev pub after_item : ℕ → Option Item → Script → Script
+abbrev pub after_item : ℕ → Option ScriptItem → Script → Script
 after_item number None script = record { items = []; ending = bad_line number }
 after_item number (Some item) script = with_item item script
 

@@ -3,7 +3,7 @@ use Rattle.std.proofs.Common.{◌≡◌, ◌≤◌, ◌+◌, ℕ, List, arith, s
 use Rattle.std.specs.Prelude.{Option, Some, None, IsSomeAnd, Result, Ok, Err, OnOk, OnErr}
 use Rattle.tab_spec.specs.declared.contexts.ContextLimits.{ContextLimits}
 use Rattle.device_port.specs.Device.{Seen, asked_of, last_of, sent_of}
-use Rattle.device_port.specs.Own.{Asks, AsksSome, IsAnswered}
+use Rattle.device_port.specs.Own.{Asks, AsksSome, IsOwnAnswered}
 use Rattle.device_port.proofs.Sending.{asks_some}
 use Rattle.device_port.specs.declared.own.SwapError.{SwapError}
 use Rattle.device_spec.specs.ContextCommands.{context_load_command}
@@ -54,7 +54,7 @@ asks_loaded contexts seen old new result None asks = absurd asks
 asks_loaded contexts seen old new result (Some item) asks = asks_saved contexts seen old new result item.saved asks
 
 pub answered_any : {D A : Type 0} (contexts : ContextLimits) (seen : D → Seen) (old new : D) (result : Result A SwapError) (found : Option Item) (command : Item → List ℕ)
-    → IsSomeAnd found (λ item. Asks contexts seen old new (command item) result) → OnOk result (IsAnswered contexts (asked_of (seen new)) (last_of (seen new)))
+    → IsSomeAnd found (λ item. Asks contexts seen old new (command item) result) → OnOk result (IsOwnAnswered contexts (asked_of (seen new)) (last_of (seen new)))
 answered_any contexts seen old new result None command asks = absurd asks
 answered_any contexts seen old new result (Some item) command asks = asks.answered
 

@@ -17,7 +17,7 @@ use Rattle.session_swap.specs.declared.record.Record.{Record}
 use Rattle.session_swap.specs.Items.{Holder, IsNarrow, Item, KeepsSessions, ListsThose, Moved, Names, SessionsView, Stand, counter_of, flag, gap_in, holder_of, holders, is_held, is_left, is_loaded_item, is_saved_item, item_at, item_of, loaded_items, owner_by, renewal_gap, rest_of, with_handle}
 use Rattle.device_port.specs.Use.{is_among}
 use Rattle.session_swap.specs.Records.{AreListed, AreRecords, IsHandleOf, IsRecord, ListsIn, OrderView, handed_of, item_in, item_of_record, items_of, view_of, whole_view}
-use Rattle.session_swap.specs.Moves.{HasContexts, HasNumber, HasPlace, Ready, ReadyIn, RiseIn, Saves, Swaps, handle_at, handle_of}
+use Rattle.session_swap.specs.Moves.{HasPlace, MaySaveAllIf, MaySaveIf, Ready, ReadyIn, RiseIn, Saves, Swaps, handle_at, handle_of}
 use Rattle.session_swap.proofs.Counts.{count_same, count_set, flag_false, flag_true}
 use Rattle.session_swap.proofs.Among.{holder_again, loaded_inside, loaded_whole, named_inside, named_is, named_some, not_loaded, saved_or, set_each}
 use Rattle.session_swap.proofs.Missing.{handle_by}
@@ -146,11 +146,11 @@ records_set {contexts = contexts} records number n sound inside is handle =
 -- ---- saving
 
 -- before the last of those that have to leave
-pub can_save : (start state : Option SlotState) (items : List (Option Item)) (first : ℕ) → HasContexts start
+pub can_save : (start state : Option SlotState) (items : List (Option Item)) (first : ℕ) → MaySaveAllIf start
     → rest_of state ≡ rest_of start
     → gap_in state + counter_of start ≤ gap_in start + counter_of state
     → counter_of state + loaded_items items ≤ counter_of start + first → first < loaded_items items + NEEDED_MOST
-    → HasNumber state
+    → MaySaveIf state
 can_save start None items first may rest gap left few = tt
 can_save None (Some slots) items first may rest gap left few = absurd cc
 can_save (Some begun) (Some slots) items first may rest gap left few = record {

@@ -19,9 +19,9 @@ use Rattle.device_spec.specs.Slots.{SessionPlace, SlotState, IsSlots, inactive, 
 use Rattle.device_port.specs.Device.{Seen}
 use Rattle.device_laws.proofs.FreshContexts.{place_saved, session_at_is}
 use Rattle.device_laws.proofs.Places.{ArePlaces, loaded_new, made_inactive, saved_next}
-use Rattle.device_port.specs.Own.{IsAnswered, Succeeds}
+use Rattle.device_port.specs.Own.{IsOwnAnswered, Succeeds}
 use Rattle.session_swap.specs.Items.{AreFree, HandsOut, HasGapRoom, IsLastContext, IsPlaceOf, IsSentOut, Item, ItemStands, KeepsSessions, Names, Rise, Saved, SessionsStand, SessionsView, Stand, context_number, context_of, counter_of, flag, gap_in, holder_of, is_loaded_item, is_saved_item, item_at, item_session, number_after, number_of_item, numbers_along, place_at, rest_of, sessions_of, with_handle, without_session}
-use Rattle.session_swap.specs.Moves.{HasNumber, HasPlace, IsOut, KeepsReply, Loads, MaySave, RepliesOf, RiseIn, Saves, Swaps, brought_in, ended, loaded_place, put_out, with_context}
+use Rattle.session_swap.specs.Moves.{HasPlace, IsOut, KeepsReply, Loads, MaySave, MaySaveIf, RepliesOf, RiseIn, Saves, Swaps, brought_in, ended, loaded_place, put_out, with_context}
 use Rattle.session_swap.specs.Records.{AreRecords, IsContext, IsHandleOf, IsRecord, KeepsContext, handed_by, handed_of, item_in, item_of_record, items_of}
 use Rattle.session_swap.specs.declared.record.Place.{Place}
 use Rattle.session_swap.specs.declared.record.Place.TheVariants as places
@@ -434,7 +434,7 @@ untold_keeps numbers items others n next item inside same = record {
 
 pub saved_keeps : (state : Option SlotState) (view : SessionsView) (others : List ℕ) (n : ℕ) (client : Option ℕ) (handed : Option (List ℕ)) (handle number next : ℕ)
     (context : List ℕ) → Stand state view others
-    → item_at view.items n ≡ Some (unsaved_item client handed handle) → number_of_session handle ≡ n → HasNumber state
+    → item_at view.items n ≡ Some (unsaved_item client handed handle) → number_of_session handle ≡ n → MaySaveIf state
     → IfSome state (λ slots. number ≡ slots.counter)
     → IfSome state (λ slots. session_of_context slots.persist.seed handle number (Some context) ≡ loaded_session slots handle)
     → IfSome state (λ slots. next ≡ slots.counter + 1)
@@ -807,7 +807,7 @@ stand_rise None view others stand = tt
 stand_rise (Some slots) view others stand = stand.rise
 
 -- the number of the next context, after this one
-pub next_is : (state : Option SlotState) (number next : ℕ) → HasNumber state → IfSome state (λ slots. number ≡ slots.counter)
+pub next_is : (state : Option SlotState) (number next : ℕ) → MaySaveIf state → IfSome state (λ slots. number ≡ slots.counter)
     → next ≡ min (number + 1) (2 ^ 64 - 1) → IfSome state (λ slots. next ≡ slots.counter + 1)
 next_is None number next may number_is is = tt
 next_is (Some slots) number next may number_is is = omega (arith, may.below, number_is, is)
@@ -877,7 +877,7 @@ last_context last reply context is same =
     subst (λ (last : Option (List ℕ)). IsLastContext last context) (sym is) same
 
 -- a response that is taken is a frame
-taken_frame : (contexts : ContextLimits) (asked : List ℕ) (last : Option (List ℕ)) (reply : List ℕ) → IsAnswered contexts asked last → last ≡ Some reply
+taken_frame : (contexts : ContextLimits) (asked : List ℕ) (last : Option (List ℕ)) (reply : List ℕ) → IsOwnAnswered contexts asked last → last ≡ Some reply
     → is_frame reply ≡ true
 taken_frame contexts asked last reply answered is =
     let taken = subst (λ (last : Option (List ℕ)). IsSomeAnd last (λ response. takes contexts true true asked response ≡ true)) is answered.1 in
@@ -887,7 +887,7 @@ taken_frame contexts asked last reply answered is =
 
 -- what is kept of the response
 pub keeps_reply : {contexts : ContextLimits} (asked : List ℕ) (last : Option (List ℕ)) (reply : List ℕ) (records : List Record) (n number next : ℕ) (r old : Record)
-    → IsLoadedAt contexts records n old → r ≡ record old { place = places.Saved number; context = r.context } → IsAnswered contexts asked last
+    → IsLoadedAt contexts records n old → r ≡ record old { place = places.Saved number; context = r.context } → IsOwnAnswered contexts asked last
     → last ≡ Some reply → r.context.items ≡ drop HEADER_BYTES reply → number ≡ context_number (drop HEADER_BYTES reply)
     → next ≡ number_after number
     → KeepsReply last reply (items_of records) (items_of (set records n r)) n next

@@ -11,7 +11,7 @@ use Rattle.device_spec.specs.Slots.{SlotState}
 use Rattle.device_port.specs.Use.{used_after, without_one}
 use Rattle.session_swap.specs.declared.record.Record.{Record}
 use Rattle.session_swap.specs.Items.{Item, Rise, is_loaded_item, is_saved_item, item_at, number_of_item, numbers_along, rest_of}
-use Rattle.session_swap.specs.Moves.{Ready, ReadyIn, RiseIn, Saves, Stays}
+use Rattle.session_swap.specs.Moves.{NothingMoves, Ready, ReadyIn, RiseIn, Saves}
 use Rattle.session_swap.specs.Records.{OrderView, items_of, order_freed, order_in, order_out, order_renewed, order_used, view_of}
 use Rattle.session_swap.proofs.Uses.{used_gone}
 use Rattle.session_swap.proofs.Among.{loaded_inside}
@@ -86,7 +86,7 @@ ready_out state new_state records new_records next new_next order new_order numb
 -- nothing moved
 pub ready_still : {contexts : ContextLimits} {numbers : Numbers} (state new_state : Option SlotState) (records new_records : List Record) (next new_next : ℕ) (order new_order : OrderView)
     → ReadyIn contexts state numbers records next order → Ready contexts new_state numbers new_records new_next []
-    → Stays state new_state (items_of records) (items_of new_records) → new_order ≡ order → ReadyIn contexts new_state numbers new_records new_next new_order
+    → NothingMoves state new_state (items_of records) (items_of new_records) → new_order ≡ order → ReadyIn contexts new_state numbers new_records new_next new_order
 ready_still state new_state records new_records next new_next order new_order held ready stays is = record {
   ready = ready;
   listed = listed_still records new_records order new_order stays.items_are is held.listed;
@@ -101,7 +101,7 @@ pub ready_saved : {contexts : ContextLimits} {A E : Type 0} {numbers : Numbers} 
     → ReadyIn contexts state numbers records next order → Ready contexts new_state numbers new_records new_next [] → rest_of new_state ≡ rest_of state
     → is_loaded_item (item_at (items_of records) number) ≡ true
     → OnOk result (Saves state new_state (items_of records) (items_of new_records) number)
-    → OnErr result (Stays state new_state (items_of records) (items_of new_records))
+    → OnErr result (NothingMoves state new_state (items_of records) (items_of new_records))
     → OnOk result (new_order ≡ order_out number order) → OnErr result (new_order ≡ order) → ReadyIn contexts new_state numbers new_records new_next new_order
 ready_saved (Ok a) state new_state records new_records next new_next order new_order number held ready rest there ok err out still =
     ready_out state new_state records new_records next new_next order new_order number held ready rest there ok out

@@ -11,7 +11,7 @@ use Rattle.tab_spec.specs.declared.TheConstants.{SESSION_NUMBERS}
 use Rattle.tab_spec.specs.declared.numbers.Numbers.{Numbers}
 use Rattle.device_spec.specs.Slots.{SlotState, gap_from, gap_of, loaded_count}
 use Rattle.device_port.specs.declared.own.SwapError.{SwapError}
-use Rattle.session_swap.specs.Items.{AreFree, AreKept, IsFirst, IsFresh, IsNarrow, IsRenewed, Item, KeepsRecent, Saved, SessionsView, Stand, Visited, counter_of, flag, full_flag, full_kept, gap_first, gap_kept, holders, is_saved_item, item_at, loaded_items, number_of_item, oldest_number, renewal_gap, rest_of, saved_items, saved_number}
+use Rattle.session_swap.specs.Items.{AreFree, AreKept, HasNewContext, IsFirst, IsNarrow, IsRenewed, Item, KeepsRecent, Saved, SessionsView, Stand, Visited, counter_of, flag, full_flag, full_kept, gap_first, gap_kept, holders, is_saved_item, item_at, loaded_items, number_of_item, oldest_number, renewal_gap, rest_of, saved_items, saved_number}
 use Rattle.session_swap.specs.Records.{IsSoundView}
 use Rattle.session_swap.proofs.Counts.{count_cons, count_one, flag_false, flag_most, flag_true}
 use Rattle.session_swap.proofs.Among.{named_is}
@@ -122,7 +122,7 @@ pub goes_on : (state new_state : Option SlotState) (view new_view : SessionsView
     → Stand new_state new_view [] → rest_of new_state ≡ rest_of state → IfSome state (λ slots. Progress slots view.items start most done)
     → done < most → renewal_gap view.numbers ≤ gap_kept view → counter_of state ≤ start + done + 1 → IsSoundView view → IsFirst view handle
     → IfSome new_state (λ slots. IsRenewed slots new_view.items (number_of_session handle))
-    → IsFresh (counter_of state) view.items new_view.items (number_of_session handle)
+    → HasNewContext (counter_of state) view.items new_view.items (number_of_session handle)
     → IfSome new_state (λ slots. Progress slots new_view.items start most (done + 1))
 goes_on state None view new_view handle start most done stand new_stand rest progress more wide few safe first renewed fresh = tt
 goes_on None (Some new) view new_view handle start most done stand new_stand rest progress more wide few safe first renewed fresh = absurd cc

@@ -15,9 +15,9 @@ use Rattle.device_spec.specs.Slots.{SlotState, gap_from, gap_of, loaded_count}
 use Rattle.device_port.specs.Device.{Seen}
 use Rattle.session_swap.specs.declared.TheConstants.{NEEDED_MOST}
 use Rattle.session_swap.specs.declared.record.Record.{Record}
-use Rattle.session_swap.specs.Items.{AreFree, AreKept, HasGapRoom, HasLastContext, IsFresh, IsRenewed, IsSentOut, Item, Lists, Names, Saved, SessionsView, counter_of, full_flag, full_kept, gap_in, holders, is_loaded_item, is_saved_item, item_at, item_of, loaded_items, number_of_item, oldest_number, renewal_gap, rest_of, saved_items, saved_number}
+use Rattle.session_swap.specs.Items.{AreFree, AreKept, HasGapRoom, HasLastContext, HasNewContext, IsRenewed, IsSentOut, Item, Lists, Names, Saved, SessionsView, counter_of, full_flag, full_kept, gap_in, holders, is_loaded_item, is_saved_item, item_at, item_of, loaded_items, number_of_item, oldest_number, renewal_gap, rest_of, saved_items, saved_number}
 use Rattle.session_swap.specs.Records.{items_of, view_of}
-use Rattle.session_swap.specs.Moves.{HasNumber, Loads, Ready, Saves, Swaps}
+use Rattle.session_swap.specs.Moves.{Loads, MaySaveIf, Ready, Saves, Swaps}
 use Rattle.session_swap.proofs.Counts.{count_set, flag_false, flag_most, flag_true}
 use Rattle.session_swap.proofs.Among.{loaded_inside, named_again, named_is, not_loaded, saved_inside}
 use Rattle.session_swap.proofs.Gaps.{IsLeast, gap_falls, items_least, least_same, least_stays}
@@ -131,7 +131,7 @@ fits_room (Some slots) fits = omega (arith, fits, flag_most (loaded_count slots.
 
 -- so that a session can be saved
 pub can_number : {contexts : ContextLimits} {numbers : Numbers} (state : Option SlotState) (records : List Record) (next : ℕ) (others : List ℕ)
-    → Ready contexts state numbers records next others → FitsOne state → counter_of state < CONTEXT_LIMIT → HasNumber state
+    → Ready contexts state numbers records next others → FitsOne state → counter_of state < CONTEXT_LIMIT → MaySaveIf state
 can_number None records next others ready fits below = tt
 can_number (Some slots) records next others ready fits below =
     record { below = below; narrow = omega (arith, fits, ready.stand.sound.range.gap_least) }
@@ -372,7 +372,7 @@ pub fresh_again : (start state loaded_state new_state : Option SlotState) (items
     → ((other last : ℕ) → number_of_item (item_at freed_items other) ≡ Some last → last < counter_of start → number_of_item (item_at items other) ≡ Some last)
     → counter_of start ≤ counter_of state → counter_of loaded_state ≡ counter_of state
     → brought_items ≡ set freed_items number (item_at brought_items number) → Saves loaded_state new_state brought_items new_items number
-    → IsFresh (counter_of start) items new_items number
+    → HasNewContext (counter_of start) items new_items number
 fresh_again start state loaded_state new_state items freed_items brought_items new_items number fresh rises same loads saves =
     let kept = λ (other last : ℕ) (is : number_of_item (item_at new_items other) ≡ Some last) (below : last < counter_of start).
     fresh_saved loaded_state new_state brought_items new_items number saves other last is (omega arith) in

@@ -20,7 +20,7 @@ use Rattle.session_swap.specs.declared.TheConstants.{NEEDED_MOST}
 use Rattle.effect_spec.specs.Contexts.{session_context}
 use Rattle.device_spec.specs.Answers.{is_word, word_at}
 use Rattle.device_spec.specs.ContextCommands.{context_save_command}
-use Rattle.device_port.specs.Own.{AsksSome, IsAnswered, Succeeds}
+use Rattle.device_port.specs.Own.{AsksSome, IsOwnAnswered, Succeeds}
 use Rattle.device_spec.specs.Slots.{SessionPlace, SlotState, IsSlots, inactive, saved, gap_from, gap_of, is_active, is_active_with, is_loaded, loaded, loaded_count, no_sessions, older, session_at}
 
 -- a context that a session can be loaded from, and its number
@@ -287,7 +287,8 @@ KeepsRecent slots items new_items =
     → item_at new_items number ≡ item_at items number
 
 -- the session of this number has a context of this number or a later one, and each lower number was there before
-pub record IsFresh (counter : ℕ) (items new_items : List (Option Item)) (number : ℕ) : Type 0 where
+pub record HasNewContext (counter : ℕ) (items new_items : List (Option Item)) (number : ℕ)
+    : Type 0 where
   pub later : (last : ℕ) → number_of_item (item_at new_items number) ≡ Some last → counter ≤ last
   pub lower : (other last : ℕ) → number_of_item (item_at new_items other) ≡ Some last → last < counter
       → number_of_item (item_at items other) ≡ Some last
@@ -564,11 +565,11 @@ pub record MakesNoContext (state new_state : Option SlotState) : Type 0 where
 -- is free
 pub record Renews (contexts : ContextLimits) (old new : Seen) (handle : ℕ) (items new_items : List (Option Item)) : Type 0 where
   pub renewed : IfSome new.state (λ slots. IsRenewed slots new_items (number_of_session handle))
-  pub fresh : IsFresh (counter_of old.state) items new_items (number_of_session handle)
+  pub fresh : HasNewContext (counter_of old.state) items new_items (number_of_session handle)
   -- over every device
   pub asked : asked_of new ≡ context_save_command handle
   pub context : IsSomeAnd (item_of new_items handle) (λ item. HasLastContext (last_of new) item)
-  pub answered : IsAnswered contexts (asked_of new) (last_of new)
+  pub answered : IsOwnAnswered contexts (asked_of new) (last_of new)
   pub free : AreFree new.state 1
   pub saved : saved_items items ≤ saved_items new_items
   -- the number that comes next rose by one, and by one more where another session had to be saved first

@@ -10,12 +10,12 @@ use Rattle.tab_spec.specs.declared.contexts.ContextLimits.{ContextLimits}
 use Rattle.device_spec.specs.ContextCommands.{context_save_command}
 use Rattle.device_port.specs.Device.{Seen, asked_of, last_of, sent_of}
 use Rattle.device_port.specs.declared.own.SwapError.{SwapError}
-use Rattle.device_port.specs.Own.{IsAnswered, Succeeds}
+use Rattle.device_port.specs.Own.{IsOwnAnswered, Succeeds}
 use Rattle.device_port.specs.Use.{is_among}
 use Rattle.device_spec.specs.Slots.{SessionPlace, SlotState, IsSlots, inactive, loaded, saved, gap_of, loaded_count, loaded_session, place_of, session_at, session_of_context, with_place}
 use Rattle.session_swap.specs.declared.TheConstants.{NEEDED_MOST}
 use Rattle.session_swap.specs.declared.record.Record.{Record}
-use Rattle.session_swap.specs.Items.{AreFree, AreLoaded, AreNamed, HandsOut, HasGapRoom, IsFresh, IsRenewed, IsSentOut, Item, KeepsSessions, Names, Rise, SessionsView, Stand, context_number, counter_of, full_flag, full_kept, gap_in, is_loaded_item, is_saved_item, item_at, item_of, item_session, loaded_items, missing, number_after, number_of_item, numbers_along, numbers_of, oldest_number, renewal_gap, rest_of, saved_items}
+use Rattle.session_swap.specs.Items.{AreFree, AreLoaded, AreNamed, HandsOut, HasGapRoom, HasNewContext, IsRenewed, IsSentOut, Item, KeepsSessions, Names, Rise, SessionsView, Stand, context_number, counter_of, full_flag, full_kept, gap_in, is_loaded_item, is_saved_item, item_at, item_of, item_session, loaded_items, missing, number_after, number_of_item, numbers_along, numbers_of, oldest_number, renewal_gap, rest_of, saved_items}
 use Rattle.session_swap.specs.Records.{AreRecords, IsContext, ListsIn, OrderView, items_of, order_evicted, order_filled, order_freed, order_in, view_of}
 
 -- ---- the state after each
@@ -62,8 +62,8 @@ pub record MaySave (slots : SlotState) : Type 0 where
   pub below : slots.counter < CONTEXT_LIMIT
   pub narrow : gap_of slots < slots.numbers.gap
 
-abbrev pub HasNumber : Option SlotState → Type 0
-HasNumber state = IfSome state MaySave
+abbrev pub MaySaveIf : Option SlotState → Type 0
+MaySaveIf state = IfSome state MaySave
 
 -- a loaded session
 pub record IsIn (slots : SlotState) (handle : ℕ) : Type 0 where
@@ -130,7 +130,7 @@ pub record Loads (old_state new_state : Option SlotState) (items new_items : Lis
   pub counted : counter_of new_state ≡ counter_of old_state
 
 -- nothing moved
-pub record Stays (old_state new_state : Option SlotState) (items new_items : List (Option Item)) : Type 0 where
+pub record NothingMoves (old_state new_state : Option SlotState) (items new_items : List (Option Item)) : Type 0 where
   pub items_are : new_items ≡ items
   pub state_is : new_state ≡ old_state
 
@@ -139,8 +139,8 @@ pub record MaySaveAll (slots : SlotState) : Type 0 where
   pub below : slots.counter + NEEDED_MOST ≤ CONTEXT_LIMIT
   pub narrow : gap_of slots < renewal_gap slots.numbers
 
-abbrev pub HasContexts : Option SlotState → Type 0
-HasContexts state = IfSome state MaySaveAll
+abbrev pub MaySaveAllIf : Option SlotState → Type 0
+MaySaveAllIf state = IfSome state MaySaveAll
 
 -- a session of this handle is saved in these bytes, under this number, and they are the response's
 pub record SavesIn (contexts : ContextLimits) (old new : Seen) (handle number : ℕ) (context reply : List ℕ) : Type 0 where
@@ -194,9 +194,9 @@ pub record FreeingCounts {D : Type 0} (seen : D → Seen) (old new : D) (view : 
 -- the session of a number was renewed (`Renews` of `Items.antt`, of the records)
 pub record RenewsAt (contexts : ContextLimits) (old new : Seen) (items new_items : List (Option Item)) (number : ℕ) : Type 0 where
   pub renewed : IfSome new.state (λ slots. IsRenewed slots new_items number)
-  pub fresh : IsFresh (counter_of old.state) items new_items number
+  pub fresh : HasNewContext (counter_of old.state) items new_items number
   pub sent : IsSomeAnd (item_at new_items number) (λ item. IsSentOut (asked_of new) (last_of new) item)
-  pub answered : IsAnswered contexts (asked_of new) (last_of new)
+  pub answered : IsOwnAnswered contexts (asked_of new) (last_of new)
   pub free : AreFree new.state 1
   pub saved : saved_items items ≤ saved_items new_items
   pub exact : IfSome new.state (λ slots. slots.counter ≡ counter_of old.state + full_flag old.state + 1)

@@ -128,7 +128,7 @@ pub record IsSoundView (view : SessionsView) : Type 0 where
   pub few : count_by is_some view.items ≤ view.numbers.active
 
 -- there is room for the number of each session, and no more are listed than there are
-pub record HasRoom (numbers : List ℕ) (capacity : ℕ) : Type 0 where
+pub record HasNumberRoom (numbers : List ℕ) (capacity : ℕ) : Type 0 where
   pub room : SESSION_NUMBERS ≤ capacity
   pub few : length numbers ≤ SESSION_NUMBERS
 

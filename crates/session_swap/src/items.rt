@@ -4,7 +4,8 @@ ghost use Rattle.tab_spec.specs.declared.numbers.Numbers.{Numbers};
 ghost use Rattle.device_spec.specs.ContextCommands.{context_load_command, context_save_command};
 ghost use Rattle.session_swap.specs.Items.{is_loaded_item, is_saved_item, item_at};
 ghost use Rattle.session_swap.specs.Records.{items_of};
-ghost use Rattle.session_swap.specs.Moves.{HasNumber, HasPlace, Loads, PutsOut, Ready, Stays};
+ghost use Rattle.session_swap.specs.Moves.{HasPlace, Loads, MaySaveIf, NothingMoves, PutsOut};
+ghost use Rattle.session_swap.specs.Moves.{Ready};
 ghost use Rattle.session_swap.specs.Moves.{Swaps};
 ghost use Rattle.device_port.specs.Own.{Asks};
 
@@ -24,14 +25,14 @@ pub fn put_out<D: Device>(
     requires loaded { is_loaded_item (item_at (items_of records.old) number) ≡ true }
     requires ready { (numbers : Numbers) × (others : List ℕ)
         × Ready D.CONTEXTS (D.seen device.old).state numbers records.old next.old others }
-    requires may { HasNumber (D.seen device.old).state }
+    requires may { MaySaveIf (D.seen device.old).state }
     ensures swaps { Swaps D.seen device.old device.new records.old records.new }
     ensures ready { (numbers : Numbers) (others : List ℕ)
         → Ready D.CONTEXTS (D.seen device.old).state numbers records.old next.old others
         → Ready D.CONTEXTS (D.seen device.new).state numbers records.new next.new others }
     ensures ok { OnOk result (PutsOut D.CONTEXTS (D.seen device.old) (D.seen device.new) scratch.new
         (items_of records.old) (items_of records.new) number next.new) }
-    ensures err { OnErr result (Stays (D.seen device.old).state (D.seen device.new).state
+    ensures err { OnErr result (NothingMoves (D.seen device.old).state (D.seen device.new).state
         (items_of records.old) (items_of records.new) × (next.new ≡ next.old)) }
     ensures asks { IsSomeAnd (item_at (items_of records.old) number) (λ item.
         Asks D.CONTEXTS D.seen device.old device.new (context_save_command item.handle) result) }
@@ -69,7 +70,7 @@ pub fn bring_in<D: Device>(
         → Ready D.CONTEXTS (D.seen device.new).state numbers records.new next [] }
     ensures ok { OnOk result (Loads (D.seen device.old).state (D.seen device.new).state
         (items_of records.old) (items_of records.new) number) }
-    ensures err { OnErr result (Stays (D.seen device.old).state (D.seen device.new).state
+    ensures err { OnErr result (NothingMoves (D.seen device.old).state (D.seen device.new).state
         (items_of records.old) (items_of records.new)) }
     ensures asks { IsSomeAnd (item_at (items_of records.old) number) (λ item. IsSomeAnd item.saved
         (λ saved. Asks D.CONTEXTS D.seen device.old device.new (context_load_command saved.context)

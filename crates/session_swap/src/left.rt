@@ -31,13 +31,13 @@ pub struct Left {
 
 impl Model for Left {
     ghost use Rattle.std.specs.Prelude.{ℕ, List, vec_capacity};
-    ghost use Rattle.session_swap.specs.Records.{HasRoom};
+    ghost use Rattle.session_swap.specs.Records.{HasNumberRoom};
 
     ghost Value = { List ℕ };
 
     ghost view = { λ l. l.numbers.items };
 
-    ghost invariant = { λ l. HasRoom l.numbers.items (vec_capacity l.numbers) };
+    ghost invariant = { λ l. HasNumberRoom l.numbers.items (vec_capacity l.numbers) };
 }
 
 impl Left {

@@ -5,7 +5,7 @@ ghost use Rattle.session_swap.specs.Items.{Names, counter_of, is_loaded_item, it
 ghost use Rattle.session_swap.specs.Items.{loaded_items, missing};
 ghost use Rattle.session_swap.specs.Records.{AreRecords, items_of, view_with};
 ghost use Rattle.session_swap.specs.Moves.{AllNeeded, Brings, CanClear, CanFill, Evicts, Fills};
-ghost use Rattle.session_swap.specs.Moves.{HasContexts, ReadyIn, Swaps, SwapsFor, handle_at};
+ghost use Rattle.session_swap.specs.Moves.{MaySaveAllIf, ReadyIn, Swaps, SwapsFor, handle_at};
 ghost use Rattle.device_port.specs.Own.{AsksSome};
 ghost use Rattle.device_port.specs.Use.{is_among};
 ghost use Rattle.tab_spec.specs.declared.numbers.Numbers.{Numbers};
@@ -88,7 +88,7 @@ fn clear_places<D: Device>(
     requires needed { CanClear records.old needed.now most }
     requires ready { (numbers : Numbers)
         × ReadyIn D.CONTEXTS (D.seen device.old).state numbers records.old next.old order.old }
-    requires may { HasContexts (D.seen device.old).state }
+    requires may { MaySaveAllIf (D.seen device.old).state }
     ensures swaps { Swaps D.seen device.old device.new records.old records.new }
     ensures ready { (numbers : Numbers)
         → ReadyIn D.CONTEXTS (D.seen device.old).state numbers records.old next.old order.old
@@ -186,7 +186,7 @@ pub fn swap_sessions<D: Device>(
     requires needed { AreNeeded needed.now new_places (items_of records.old) }
     requires ready { ReadyIn D.CONTEXTS (D.seen device.old).state numbers records.old next.old
         order.old }
-    requires may { HasContexts (D.seen device.old).state }
+    requires may { MaySaveAllIf (D.seen device.old).state }
     ensures swaps { SwapsFor D.seen device.old device.new records.old records.new needed.now }
     ensures ready { ReadyIn D.CONTEXTS (D.seen device.new).state numbers records.new next.new
         order.new }

@@ -4,7 +4,7 @@ use Rattle.std.specs.Prelude.{◌==◌}
 use Rattle.std.proofs.lemmas.Bool.{cases_lt, eq-eqb, ne_eqb}
 use Rattle.std.proofs.lemmas.Bool.Decides.{nat_tests}
 use Rattle.std.proofs.lemmas.List.{drop-drop, take-append-drop, take_rest}
-use Rattle.tab_spec.specs.Frame.{size_of, is_size, is_frame, Item, item_of, Ending, Frames, with_item, frames, is_bad}
+use Rattle.tab_spec.specs.Frame.{size_of, is_size, is_frame, StreamItem, item_of, StreamEnding, Frames, with_item, frames, is_bad}
 use Rattle.tab_laws.proofs.Cuts.{Stops, stops_short, stops_wrong, stops_begun, end_not_bad, size_before, frame_before}
 use Rattle.tab_frame.specs.declared.framer.Frame.TheVariants as gave
 use Rattle.tab_frame.specs.Framing.{GaveItem, Gave}
@@ -16,7 +16,7 @@ size_wrong : (size : ℕ) → (size < 10) ⊎ (4096 < size) → is_size size ≡
 size_wrong size wrong = grind (arith, nat_tests)
 
 -- not all of a frame is there
-nothing : (end : Ending) (kept out : List ℕ) → Stops kept end → is_bad end ≡ false → Gave gave.NotYet kept kept out
+nothing : (end : StreamEnding) (kept out : List ℕ) → Stops kept end → is_bad end ≡ false → Gave gave.NotYet kept kept out
 nothing end kept out stop good =
     let cut = stop.cut (length kept) (le_refl (length kept)) in
     (ap (λ (f : Frames). f.items) cut, ap (λ (f : Frames). is_bad f.ending) cut ∙ good, refl)
@@ -35,7 +35,7 @@ bad_size kept out size is wrong long =
     (rw is (stop.cut (length kept) (le_refl (length kept))), refl)
 
 -- a frame is a front of what is kept
-gave_front : (item : Item) (kept out : List ℕ) (size : ℕ) → size ≡ size_of kept → 10 ≤ size → size ≤ 4096 → size ≤ length kept → out ≡ take size kept → item_of out ≡ item
+gave_front : (item : StreamItem) (kept out : List ℕ) (size : ℕ) → size ≡ size_of kept → 10 ≤ size → size ≤ 4096 → size ≤ length kept → out ≡ take size kept → item_of out ≡ item
     → GaveItem item kept (drop size kept) out
 gave_front item kept out size is least most enough front is_item =
     let parts : kept ≡ out ++ drop size kept = rw front (sym (take-append-drop size kept)) in
@@ -46,7 +46,7 @@ gave_front item kept out size is least most enough front is_item =
       frame = frame;
       is_item = is_item;
       parts = parts;
-      first = ap frames parts ∙ frame_before out (drop size kept) frame ∙ ap (λ (i : Item). with_item i (frames (drop size kept))) is_item;
+      first = ap frames parts ∙ frame_before out (drop size kept) frame ∙ ap (λ (i : StreamItem). with_item i (frames (drop size kept))) is_item;
     }
 
 -- the bytes from a place on are those that are kept
@@ -69,7 +69,7 @@ kept_rest : (all kept : List ℕ) (at size : ℕ) → drop at all ≡ kept → d
 kept_rest all kept at size view = sym (drop-drop size at all) ∙ ap (drop size) view
 
 -- a frame is given out, and the bytes behind it are kept
-pub gave_frame : (item : Item) (all kept out : List ℕ) (at size : ℕ) → drop at all ≡ kept → size ≡ size_of kept → 10 ≤ size → size ≤ 4096 → size ≤ length kept → out ≡ take size kept
+pub gave_frame : (item : StreamItem) (all kept out : List ℕ) (at size : ℕ) → drop at all ≡ kept → size ≡ size_of kept → 10 ≤ size → size ≤ 4096 → size ≤ length kept → out ≡ take size kept
     → item_of out ≡ item → GaveItem item kept (drop (at + size) all) out
 gave_frame item all kept out at size view is least most enough front is_item =
     rw (kept_rest all kept at size view) (gave_front item kept out size is least most enough front is_item)

@@ -1,11 +1,11 @@
 -- What a framer gives out of the bytes that it keeps.
 use Rattle.std.specs.Prelude.{◌≡◌, ℕ, true, false, List, [], ◌++◌}
-use Rattle.tab_spec.specs.Frame.{Item, command, cancel, bad, is_frame, item_of, with_item, frames, meets_bad_size}
+use Rattle.tab_spec.specs.Frame.{StreamItem, command, cancel, bad, is_frame, item_of, with_item, frames, meets_bad_size}
 use Rattle.tab_frame.specs.declared.framer.Frame.{Frame}
 use Rattle.tab_frame.specs.declared.framer.Frame.TheVariants as gave
 
 -- the kept bytes begin with this frame, which is this item, and are otherwise kept
-pub record GaveItem (item : Item) (old new out : List ℕ) : Type 0 where
+pub record GaveItem (item : StreamItem) (old new out : List ℕ) : Type 0 where
   pub frame : is_frame out ≡ true
   pub is_item : item_of out ≡ item
   pub parts : old ≡ out ++ new

@@ -5,7 +5,7 @@ use Rattle.std.proofs.lemmas.Bool.{ltb-true, ltb-false, lt-ltb, le-ltb, eqb-true
 use Rattle.std.proofs.lemmas.Bool.Decides.{nat_tests}
 use Rattle.std.proofs.lemmas.List.{append-nil, take-append-le, drop-append-le, take_all, drop_all}
 use Rattle.std.specs.Int.{w32, from_be_bytes}
-use Rattle.tab_spec.specs.Frame.{size_of, is_size, is_frame, Item, command, cancel, item_of, commands_of, commands, Ending, whole, rest, bad, end_of, Frames, with_item, frames_within, frames, left_within, left_of, is_bad, meets_bad_size}
+use Rattle.tab_spec.specs.Frame.{size_of, is_size, is_frame, StreamItem, command, cancel, item_of, commands_of, commands, StreamEnding, whole, rest, bad, end_of, Frames, with_item, frames_within, frames, left_within, left_of, is_bad, meets_bad_size}
 
 -- ---- what a stream begins with
 
@@ -20,7 +20,7 @@ pub frame_long : (f : List ℕ) → is_frame f ≡ true → 10 ≤ length f
 frame_long f is = size_enough (length f) (and_parts (is_size (length f)) (size_of f == length f) is).0
 
 -- no frame comes first, in however many steps
-pub record Stops (a : List ℕ) (end : Ending) : Type 0 where
+pub record Stops (a : List ℕ) (end : StreamEnding) : Type 0 where
   pub cut : (n : ℕ) → length a ≤ n → frames_within n a ≡ record { items = []; ending = end }
   pub left : (n : ℕ) → left_within n a ≡ a
   pub few : is_bad end ≡ false → length a < 4096
@@ -33,7 +33,7 @@ record Starts (a : List ℕ) : Type 0 where
   enough : size_of a ≤ length a
 
 data Head (a : List ℕ) : Type 0 where
-  stops : (end : Ending) → Stops a end → Head a
+  stops : (end : StreamEnding) → Stops a end → Head a
   starts : Starts a → Head a
 
 end_none : (a : List ℕ) → end_of a ≡ whole → a ≡ []
@@ -228,7 +228,7 @@ left_few a good = (left_stops a).few good
 -- ---- a stream that goes on
 
 -- the frames of a stream behind items that were cut before it
-abbrev pub behind : List Item → Frames → Frames
+abbrev pub behind : List StreamItem → Frames → Frames
 behind items tail = record { items = items ++ tail.items; ending = tail.ending }
 
 go_on_by : (n m : ℕ) (a b : List ℕ) → Head a → length a ≤ n → length (a ++ b) ≤ m → frames_within m (a ++ b) ≡ behind (frames_within n a).items (frames (left_within n a ++ b))
@@ -303,7 +303,7 @@ one_frame f is =
 
 -- ---- a size that no frame has
 
-no_item : (item : Item) (tail : Frames) → (with_item item tail).items ≡ [] → ⊥
+no_item : (item : StreamItem) (tail : Frames) → (with_item item tail).items ≡ [] → ⊥
 no_item item tail e = cc e
 
 left_nothing_by : (a : List ℕ) → Head a → (frames a).items ≡ [] → left_of a ≡ a
@@ -347,7 +347,7 @@ bad_at_head a b none meets =
     there ∙ ap (λ (n : ℕ). record { items = []; ending = bad n }) size ∙ sym here
 
 whole_again : (cut : Frames) → behind cut.items (record { items = []; ending = cut.ending }) ≡ cut
-whole_again cut = ap (λ (items : List Item). record { items = items; ending = cut.ending }) (append-nil cut.items)
+whole_again cut = ap (λ (items : List StreamItem). record { items = items; ending = cut.ending }) (append-nil cut.items)
 
 -- behind it nothing more comes
 pub bad_stays : (a b : List ℕ) → meets_bad_size a ≡ true → frames (a ++ b) ≡ frames a
@@ -357,7 +357,7 @@ bad_stays a b meets =
 
 -- ---- how many commands there are
 
-one_command : (item : Item) (items : List Item) → length (commands_of (item ∷ items)) ≤ 1 + length (commands_of items)
+one_command : (item : StreamItem) (items : List StreamItem) → length (commands_of (item ∷ items)) ≤ 1 + length (commands_of items)
 one_command (command bytes) items = omega arith
 one_command cancel items = omega arith
 

@@ -19,7 +19,7 @@ use Rattle.tab_spec.specs.Contexts.{is_saved_object}
 use Rattle.tab_spec.specs.Shape.{are_of_kinds, count_in, cut_handle, handle_at, handle_bytes, handles_in, is_command_tag, is_of_kind, is_present, kind_code, known_row, loads_object, rest_of, row_in, shape_by, shape_from, shape_with, with_handles, wrong_handle}
 use Rattle.tab_spec.specs.Auths.{auths_of}
 use Rattle.tab_spec.specs.Admission.{Tables, admitted, admitted_auths, admitted_by, admitted_shape, client_admitted, missing_handle, missing_session, object_too_many, repeated_session, spare_auth, unless_fault, unless_startup}
-use Rattle.tab_laws.specs.OtherHandles.{absent_are_zero, admitted_handled, handled, AreHandlesOf, AreThere}
+use Rattle.tab_laws.specs.OtherHandles.{absent_are_zero, admitted_handled, handled, AreHandlesOf, HandlesAreThere}
 use Rattle.tab_laws.proofs.Admissions.{absent_takes_any, admitted_from, admitted_row, found_code, unless_ok}
 use Rattle.tab_laws.proofs.Behind.{Agree, auths_of_same, drop_behind}
 
@@ -402,7 +402,7 @@ all_pass a one two three four five first second third fourth fifth =
     λ i. unless_fault (first i) (unless_fault (second i) (unless_fault (third i) (unless_fault (fourth i) (unless_fault (fifth i) (Ok a)))))
 
 pub handled_admitted : (tables other : Tables) (bytes : List ℕ) (a : Admitted) (first second : ℕ) → admitted row_of tables bytes ≡ Ok a
-    → AreHandlesOf a.shape first second → AreThere other bytes a first second
+    → AreHandlesOf a.shape first second → HandlesAreThere other bytes a first second
     → admitted row_of other (with_handles bytes a.shape (first ∷ second ∷ [])) ≡ Ok (admitted_handled a first second)
 unfolding admitted
 handled_admitted tables other bytes a first second e are there =

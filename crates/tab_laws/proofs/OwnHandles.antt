@@ -14,7 +14,7 @@ use Rattle.tab_spec.specs.Frame.{code_of}
 use Rattle.tab_spec.specs.Shape.{are_of_kinds, count_in, cut_handle, handle_at, handle_bytes, handles_in, is_of_kind, is_present, with_handles}
 use Rattle.tab_spec.specs.Values.{AreBytes}
 use Rattle.tab_spec.specs.Admission.{Tables, admitted, missing_handle, repeated_session}
-use Rattle.tab_laws.specs.OtherHandles.{absent_are_zero, AreHandlesOf, AreThere}
+use Rattle.tab_laws.specs.OtherHandles.{absent_are_zero, AreHandlesOf, HandlesAreThere}
 use Rattle.tab_laws.proofs.Admissions.{kinds_hold}
 use Rattle.tab_laws.proofs.OneSpelling.{byte_at, bytes_back, bytes_front}
 use Rattle.tab_laws.proofs.Sessions.{number_small}
@@ -106,7 +106,8 @@ own_by (one ∷ two ∷ []) bytes least order whole =
 pub record OwnHandles (tables : Tables) (bytes : List ℕ) (a : Admitted) : Type 0 where
   pub two : a.shape.handles ≡ get_or a.shape.handles 0 0 ∷ get_or a.shape.handles 1 0 ∷ []
   pub are : AreBytes bytes → AreHandlesOf a.shape (get_or a.shape.handles 0 0) (get_or a.shape.handles 1 0)
-  pub there : AreThere tables bytes a (get_or a.shape.handles 0 0) (get_or a.shape.handles 1 0)
+  pub there : HandlesAreThere tables bytes a (get_or a.shape.handles 0 0)
+      (get_or a.shape.handles 1 0)
   pub same : AreBytes bytes → with_handles bytes a.shape a.shape.handles ≡ bytes
 
 pub own_handles : (tables : Tables) (bytes : List ℕ) (a : Admitted) → admitted row_of tables bytes ≡ Ok a → OwnHandles tables bytes a

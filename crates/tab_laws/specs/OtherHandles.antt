@@ -35,7 +35,7 @@ pub record AreHandlesOf (shape : Shape) (first second : ℕ) : Type 0 where
   pub absent : absent_are_zero shape.row.handles (first ∷ second ∷ []) ≡ true
 
 -- these handles and the sessions of the command are there, each session is named once, and there is room for its object
-pub record AreThere (tables : Tables) (bytes : List ℕ) (a : Admitted) (first second : ℕ) : Type 0 where
+pub record HandlesAreThere (tables : Tables) (bytes : List ℕ) (a : Admitted) (first second : ℕ) : Type 0 where
   pub handles : missing_handle tables 0 (first ∷ second ∷ []) ≡ None
   pub sessions : missing_session tables 0 (take a.auths.count a.auths.auths) ≡ None
   pub once : repeated_session (first ∷ second ∷ []) 1 (take a.auths.count a.auths.auths) ≡ None

@@ -13,7 +13,7 @@ ghost use Rattle.tab_spec.specs.Values.{AreBytes};
 ghost use Rattle.tab_spec.specs.Admission.{Tables, admitted, client_admitted, is_session_handle};
 ghost use Rattle.tab_spec.specs.Admission.{missing_session, repeated_session};
 ghost use Rattle.tab_laws.specs.OtherHandles.{admitted_handled, AreHandlesOf, ArePasswords};
-ghost use Rattle.tab_laws.specs.OtherHandles.{AreThere};
+ghost use Rattle.tab_laws.specs.OtherHandles.{HandlesAreThere};
 
 /// A command that is admitted stays so with other handles of its kinds, over any tables in which
 /// these and its sessions are there, each session is named once, and there is room for what it
@@ -22,7 +22,7 @@ ghost use Rattle.tab_laws.specs.OtherHandles.{AreThere};
 pub fn handles_may_be_others()
     ensures admitted { (tables other : Tables) (bytes : List ℕ) (a : Admitted) (first second : ℕ)
         → admitted row_of tables bytes ≡ Ok a → AreHandlesOf a.shape first second
-        → AreThere other bytes a first second
+        → HandlesAreThere other bytes a first second
         → admitted row_of other (with_handles bytes a.shape (first ∷ second ∷ []))
         ≡ Ok (admitted_handled a first second) }
     ensures frame { (tables : Tables) (bytes : List ℕ) (a : Admitted) (first second : ℕ)
@@ -66,7 +66,7 @@ pub fn commands_have_their_handles()
         → AreHandlesOf a.shape (get_or a.shape.handles 0 0) (get_or a.shape.handles 1 0) }
     ensures there { (tables : Tables) (bytes : List ℕ) (a : Admitted)
         → admitted row_of tables bytes ≡ Ok a
-        → AreThere tables bytes a (get_or a.shape.handles 0 0) (get_or a.shape.handles 1 0) }
+        → HandlesAreThere tables bytes a (get_or a.shape.handles 0 0) (get_or a.shape.handles 1 0) }
     ensures same { (tables : Tables) (bytes : List ℕ) (a : Admitted)
         → admitted row_of tables bytes ≡ Ok a → AreBytes bytes
         → with_handles bytes a.shape a.shape.handles ≡ bytes }

@@ -1,6 +1,6 @@
 ghost use Rattle.std.specs.Prelude.{◌≡◌, ℕ, true, false, List, [], ◌∷◌, ◌++◌, ◌<◌, ◌≤◌, length, Ok};
 ghost use Rattle.tab_spec.specs.declared.TheConstants.{MOST_BYTES};
-ghost use Rattle.tab_spec.specs.Frame.{Item, frames, is_frame, item_of, with_item, left_of};
+ghost use Rattle.tab_spec.specs.Frame.{StreamItem, frames, is_frame, item_of, with_item, left_of};
 ghost use Rattle.tab_spec.specs.Frame.{meets_bad_size, whole};
 ghost use Rattle.tab_spec.specs.Object.{object_of, object_bytes, IsObject, Object};
 ghost use Rattle.tab_spec.specs.Session.{Session, session_of, session_bytes, IsSession};
@@ -31,7 +31,7 @@ pub fn a_rest_has_no_frame()
 /// The items of a stream are the first of those of the stream when it goes on, whatever comes.
 pub fn items_are_a_front()
     ensures { (a b : List ℕ)
-        → (more : List Item) × ((frames (a ++ b)).items ≡ (frames a).items ++ more) }
+        → (more : List StreamItem) × ((frames (a ++ b)).items ≡ (frames a).items ++ more) }
 {}
 
 /// A frame is the first item of the stream that it begins.

@@ -18,22 +18,23 @@ use Rattle.tab_server.specs.declared.cause.Cause.TheVariants as causes
 use Rattle.script_player.specs.Ends.{Makes}
 use Rattle.script_player.proofs.Ending.{if_given}
 use Rattle.script_player.proofs.Writing.{with_more-append}
-use Rattle.tab_server.specs.Status.{EndsAs, Faults, HasCause, IsPulled, detail_of, status_of}
+use Rattle.tab_server.specs.Status.{Faults, HasStatusCause, IsPulledByStatus, IsToldByStatus}
+use Rattle.tab_server.specs.Status.{detail_of, status_of}
 use Rattle.tab_server.specs.Endings.{WroteBehind}
-use Rattle.tab_server.specs.Run.{After, Before, Ended, IsSound, Leaves, whole, part, read, full, answered, limits}
+use Rattle.tab_server.specs.Run.{After, Before, Ended, IsSoundRun, Leaves, whole, part, read, full, answered, limits}
 
 -- what was written in the end, and how often the output had failed then
 abbrev pub ended_with : After → Option (List ℕ) → ℕ → After
 ended_with after written faults = record after { written = written; faults = record after.faults { output = faults } }
 
 -- a run is sound whatever was written in the end
-pub sound_on : {before : Before} {after : After} {status : ℕ} {journal : Option (List Entry)} (written : Option (List ℕ)) (faults : ℕ) → IsSound before after status journal
-    → IsSound before (ended_with after written faults) status journal
+pub sound_on : {before : Before} {after : After} {status : ℕ} {journal : Option (List Entry)} (written : Option (List ℕ)) (faults : ℕ) → IsSoundRun before after status journal
+    → IsSoundRun before (ended_with after written faults) status journal
 sound_on written faults was = record { legal = was.legal; faulted = was.faulted; replies = was.replies; right = was.right; begun = was.begun; base = was.base; held = was.held }
 
 -- and at status 4
-pub sound_at_4 : {before : Before} {after : After} {status : ℕ} {journal : Option (List Entry)} (written : Option (List ℕ)) (faults : ℕ) → IsSound before after status journal
-    → IsSound before (ended_with after written faults) 4 journal
+pub sound_at_4 : {before : Before} {after : After} {status : ℕ} {journal : Option (List Entry)} (written : Option (List ℕ)) (faults : ℕ) → IsSoundRun before after status journal
+    → IsSoundRun before (ended_with after written faults) 4 journal
 sound_at_4 written faults was = record {
   legal = was.legal;
   faulted = was.faulted;
@@ -53,8 +54,8 @@ makes_text : {limit : Limits} {done : List Call} {written lines lines_new : Opti
     → Makes limit true done written lines_new history
 makes_text made wrote = record { output = made.output; written_is = text_behind _ _ _ made.output _ made.written_is wrote; plays = made.plays }
 
-cause_after : {contexts : ContextLimits} {status detail : ℕ} {before after : Faults} {asked : List ℕ} {last : Option (List ℕ)} {state : Option SlotState} (faults : ℕ) → HasCause contexts status detail before after asked last state → (status ≡ 4 → ⊥)
-    → faults ≡ after.output → HasCause contexts status detail before (record after { output = faults }) asked last state
+cause_after : {contexts : ContextLimits} {status detail : ℕ} {before after : Faults} {asked : List ℕ} {last : Option (List ℕ)} {state : Option SlotState} (faults : ℕ) → HasStatusCause contexts status detail before after asked last state → (status ≡ 4 → ⊥)
+    → faults ≡ after.output → HasStatusCause contexts status detail before (record after { output = faults }) asked last state
 cause_after faults was not_4 same = record {
   known = was.known;
   plain = was.plain;
@@ -99,8 +100,8 @@ ended (causes.Input n) limit before after history written faults left not_4 = re
 ended (causes.Answer n) limit before after history written faults left not_4 =
     let wrong = left.cause.answer refl in answered n wrong.0 wrong.1 (left.cause.input_quiet (λ is. absurd (omega arith)) not_4) (left.answered refl)
 
-cause_cut : {contexts : ContextLimits} {status detail : ℕ} {before after : Faults} {asked : List ℕ} {last : Option (List ℕ)} {state : Option SlotState} (faults : ℕ) → HasCause contexts status detail before after asked last state → (status ≡ 4 → ⊥)
-    → Rose after.output faults → HasCause contexts 4 faults before (record after { output = faults }) asked last state
+cause_cut : {contexts : ContextLimits} {status detail : ℕ} {before after : Faults} {asked : List ℕ} {last : Option (List ℕ)} {state : Option SlotState} (faults : ℕ) → HasStatusCause contexts status detail before after asked last state → (status ≡ 4 → ⊥)
+    → Rose after.output faults → HasStatusCause contexts 4 faults before (record after { output = faults }) asked last state
 cause_cut faults was not_4 rose = record {
   known = refl;
   plain = λ is. elim is [ inl zero ↦ absurd (omega arith) | inr five ↦ absurd (omega arith) ];
@@ -113,16 +114,16 @@ cause_cut faults was not_4 rose = record {
   input = λ is. absurd (omega arith);
 }
 
-pulled_at_4 : (status : ℕ) (given left : Option (List ℕ)) → IsPulled status given left → IsPulled 4 given left
+pulled_at_4 : (status : ℕ) (given left : Option (List ℕ)) → IsPulledByStatus status given left → IsPulledByStatus 4 given left
 pulled_at_4 status given left pulled all rest is_given is_left =
     elim (eqb status 9) as (λ b. length all ≤ length rest + cond b SCRIPT_BYTES (SCRIPT_BYTES + 1) → length all ≤ length rest + (SCRIPT_BYTES + 1)) [
       | true ↦ λ le. omega (arith, le)
       | false ↦ λ le. le
     ] (pulled all rest is_given is_left)
 
-ends_at_4 : (given : Option (List ℕ)) (detail : ℕ) → IfSome given (λ all. EndsAs (script all).ending 4 detail)
+ends_at_4 : (given : Option (List ℕ)) (detail : ℕ) → IfSome given (λ all. IsToldByStatus (script all).ending 4 detail)
 ends_at_4 given detail =
-    if_given given (λ all. EndsAs (script all).ending 4 detail) (λ all is_given. record { at_the_end = λ is. absurd (omega arith); at_a_bad_line = λ is. absurd (omega arith) })
+    if_given given (λ all. IsToldByStatus (script all).ending 4 detail) (λ all is_given. record { at_the_end = λ is. absurd (omega arith); at_a_bad_line = λ is. absurd (omega arith) })
 
 pub text_cut : (why : Cause) (limit : ℕ) (before : Before) (after : After) (history : List Entry) (written : Option (List ℕ)) (faults : ℕ) → Leaves limit false before after (status_of why) (detail_of why) (Some history) → (status_of why ≡ 4 → ⊥)
     → WroteFrontOf (audit_text history) after.written written → Rose after.faults.output faults → Leaves limit true before (ended_with after written faults) 4 faults (Some history)

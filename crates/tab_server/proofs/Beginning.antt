@@ -10,10 +10,10 @@ use Rattle.device_spec.specs.Answers.{IsWrongAnswer, profile_takes as takes, val
 use Rattle.device_spec.specs.Numbers.{number_command, number_properties}
 use Rattle.device_spec.specs.Slots.{SlotState}
 use Rattle.device_port.specs.Device.{Seen, Transmission, asked_of, last_of, newest_command, newest_response}
-use Rattle.device_start.specs.Start.{HoldsNoMoreIf, StopsAtNumber, Tells, answered}
+use Rattle.device_start.specs.Start.{HoldsNoMoreIf, StopsAtNumber, TellsProperties, answered}
 use Rattle.broker_lock.specs.Known.{origin_of}
 use Rattle.broker_core.specs.Broker.{LackedMemory, told_origin}
-use Rattle.tab_server.specs.Status.{EndsStart, HasCause, IsNumberOut}
+use Rattle.tab_server.specs.Status.{EndsStart, HasStatusCause, IsNumberOut}
 use Rattle.tab_server.specs.Run.{After, Before, Leaves, after_of, before_of}
 use Rattle.tab_server.proofs.Leaving.{unsaid}
 
@@ -55,7 +55,7 @@ out_still (Some slots) state_new tells few out =
 -- ---- the number that is out of range
 
 -- the last command asked for the last of these values, and the response tells it
-last_told : (properties before : List ℕ) (value : ℕ) (old new : List Transmission) → Tells properties (before ++ value ∷ []) old new
+last_told : (properties before : List ℕ) (value : ℕ) (old new : List Transmission) → TellsProperties properties (before ++ value ∷ []) old new
     → (newest_command new ≡ number_command (get_or properties (length before) 0))
     × IsSomeAnd (newest_response new) (λ response. (takes true true (number_command (get_or properties (length before) 0)) response ≡ true) × (value_told response ≡ value))
 last_told [] [] value old new told = absurd told
@@ -104,7 +104,7 @@ module _ (contexts : ContextLimits) (limit : ℕ) (audit : Bool) (old new : Seen
   now = after_of new left input written output
 
   -- such a status comes of a start alone
-  unplayed : (status detail : ℕ) → told_origin new.base new.state ≡ told_origin old.base old.state → HasCause contexts status detail then.faults now.faults (asked_of new) (last_of new) new.state
+  unplayed : (status detail : ℕ) → told_origin new.base new.state ≡ told_origin old.base old.state → HasStatusCause contexts status detail then.faults now.faults (asked_of new) (last_of new) new.state
       → (status ≡ 0 → ⊥) → (status ≡ 4 → ⊥) → (status ≡ 8 → ⊥) → (status ≡ 9 → ⊥) → (status ≡ 10 → ⊥) → Leaves limit audit then now status detail None
   unplayed status detail same cause not_0 not_4 not_8 not_9 not_10 = record {
     sound = record { legal = tt; faulted = tt; replies = tt; right = λ is. tt; begun = λ is. refl; base = same; held = tt };

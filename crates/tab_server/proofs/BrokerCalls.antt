@@ -9,7 +9,7 @@ use Rattle.broker_lock.specs.declared.calls.Told.{Told}
 use Rattle.broker_lock.specs.declared.calls.Told.TheVariants as tolds
 use Rattle.broker_lock.specs.Known.{Fixed, Origin}
 use Rattle.broker_lock.specs.Serves as lock
-use Rattle.broker_core.specs.Broker.{BrokerView, IsCarriedOut, IsFaulted, IsRefused, Tells, TellsCanceled}
+use Rattle.broker_core.specs.Broker.{BrokerTells, BrokerTellsCanceled, BrokerView, IsCarriedOut, IsFaulted, IsRefused}
 
 pub not_wrong : (wrong : Bool) → wrong ≡ false → IsTrue wrong → ⊥
 not_wrong true is some = absurd (let no : true ≡ false = is in cc)
@@ -34,7 +34,7 @@ fixed_of contexts base b = record { base = base; limit = b.limit; began = b.bega
 
 pub tells : (contexts : ContextLimits) {D : Type 0} (seen : D → Seen) (base : Option Origin) (told : Told) (old new : BrokerView D) (client number : ℕ) (bytes reply : List ℕ)
     → old.began ≤ (seen old.device).faults → (told ≡ tolds.Answer → base ≡ None)
-    → Tells contexts seen told old new client number bytes reply → lock.Tells (fixed_of contexts base old) old.journal new.journal client number bytes reply told
+    → BrokerTells contexts seen told old new client number bytes reply → lock.Tells (fixed_of contexts base old) old.journal new.journal client number bytes reply told
 tells contexts {D = D} seen base tolds.Entered old new client number bytes reply low none is =
     record { e = is.e; entered = is.entered; cause = caused seen old new client number bytes is.e low is.cause; reply_is = is.reply_is; room = is.room }
 tells contexts {D = D} seen base tolds.Memory old new client number bytes reply low none is = (ap (λ (b : BrokerView D). b.journal) is.0, is.1, is.2)
@@ -43,7 +43,7 @@ tells contexts {D = D} seen base (tolds.JournalFull count limit) old new client 
 tells contexts {D = D} seen base tolds.Answer old new client number bytes reply low none is = (is.0, is.1, none refl)
 
 pub tells_canceled : (contexts : ContextLimits) {D : Type 0} (base : Option Origin) (told : Told) (old new : BrokerView D) (client number upto : ℕ) (bytes reply : List ℕ) → (told ≡ tolds.Answer → ⊥)
-    → TellsCanceled told old new client number upto bytes reply → lock.TellsCanceled (fixed_of contexts base old) old.journal new.journal client number upto bytes reply told
+    → BrokerTellsCanceled told old new client number upto bytes reply → lock.TellsCanceled (fixed_of contexts base old) old.journal new.journal client number upto bytes reply told
 tells_canceled contexts {D = D} base tolds.Entered old new client number upto bytes reply not is =
     record { entered = ap (λ (b : BrokerView D). b.journal) is.same; reply_is = is.reply_is; room = is.room }
 tells_canceled contexts {D = D} base tolds.Memory old new client number upto bytes reply not is = absurd is

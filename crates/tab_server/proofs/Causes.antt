@@ -12,12 +12,13 @@ use Rattle.history_spec.specs.Entry.{Entry}
 use Rattle.world_spec.specs.World.{world_of}
 use Rattle.world_spec.specs.Legal.{Legal}
 use Rattle.broker_lock.specs.Known.{Origin, origin_of}
-use Rattle.broker_core.specs.Broker.{BrokerView, HoldsLeft, StandsFor, told_origin}
+use Rattle.broker_core.specs.Broker.{BrokerView, HoldsLeft, StandsAfterIf, told_origin}
 use Rattle.script_player.specs.declared.stop.Stop.{Stop}
 use Rattle.script_player.specs.declared.stop.Stop.TheVariants as stops
 use Rattle.script_player.specs.Play.{IsPulledUpTo, most_pulled}
 use Rattle.script_player.specs.Ends.{IsCaused}
-use Rattle.tab_server.specs.Status.{Faults, HasCause, IsPulled, cause_of, detail_of, status_of}
+use Rattle.tab_server.specs.Status.{Faults, HasStatusCause, IsPulledByStatus, cause_of, detail_of}
+use Rattle.tab_server.specs.Status.{status_of}
 use Rattle.tab_server.specs.Run.{HoldsLeftOf, IsHistoryOf}
 
 -- a device that gave a wrong answer tells no state
@@ -30,7 +31,7 @@ module _ (contexts : ContextLimits) (before after : Faults) (asked : List ℕ) (
   -- nothing went wrong
   quiet_cause : (status detail : ℕ) → ((status ≡ 0) ⊎ (status ≡ 5) → detail ≡ 0)
       → IsTrue (list_any (λ n. n == status) (0 ∷ 4 ∷ 5 ∷ 6 ∷ 7 ∷ 8 ∷ 9 ∷ 10 ∷ 11 ∷ [])) → (status ≡ 4 → ⊥) → (status ≡ 6 → ⊥) → (status ≡ 7 → ⊥) → (status ≡ 9 → ⊥) → (status ≡ 11 → ⊥)
-      → after.output ≡ before.output → after.input ≡ before.input → HasCause contexts status detail before after asked last state
+      → after.output ≡ before.output → after.input ≡ before.input → HasStatusCause contexts status detail before after asked last state
   quiet_cause status detail plain known not_4 not_6 not_7 not_9 not_11 output input = record {
     known = known;
     plain = plain;
@@ -44,7 +45,7 @@ module _ (contexts : ContextLimits) (before after : Faults) (asked : List ℕ) (
   }
 
   -- the device gave a wrong answer
-  wrong_cause : (code : ℕ) → IsWrongAnswer contexts asked last code → state ≡ None → after.output ≡ before.output → after.input ≡ before.input → HasCause contexts 7 code before after asked last state
+  wrong_cause : (code : ℕ) → IsWrongAnswer contexts asked last code → state ≡ None → after.output ≡ before.output → after.input ≡ before.input → HasStatusCause contexts 7 code before after asked last state
   wrong_cause code answer none output input = record {
     known = refl;
     plain = λ is. elim is [ inl zero ↦ absurd (omega arith) | inr five ↦ absurd (omega arith) ];
@@ -58,7 +59,7 @@ module _ (contexts : ContextLimits) (before after : Faults) (asked : List ℕ) (
   }
 
   pub has_cause : (stop : Stop) (wrong : Option ℕ) → IsCaused stop before.input after.input before.output after.output (is_some wrong)
-      → IfSome wrong (IsWrongAnswer contexts asked last) → (IsSome state → wrong ≡ None) → HasCause contexts (status_of (cause_of stop wrong)) (detail_of (cause_of stop wrong)) before after asked last state
+      → IfSome wrong (IsWrongAnswer contexts asked last) → (IsSome state → wrong ≡ None) → HasStatusCause contexts (status_of (cause_of stop wrong)) (detail_of (cause_of stop wrong)) before after asked last state
   has_cause stops.End None caused answer taken =
       quiet_cause 0 0 (λ is. refl) refl (λ is. omega arith) (λ is. omega arith) (λ is. omega arith) (λ is. omega arith) (λ is. omega arith) caused.cause.0 caused.cause.2
   has_cause stops.End (Some code) caused answer taken = wrong_cause code answer (untold state (Some code) taken refl) caused.cause.0 caused.cause.2
@@ -96,7 +97,7 @@ module _ (contexts : ContextLimits) (before after : Faults) (asked : List ℕ) (
   has_cause stops.Answer (Some code) caused answer taken = wrong_cause code answer (untold state (Some code) taken refl) caused.cause.1 caused.cause.2
 
 -- how much was read at most
-pub pulled : (stop : Stop) (wrong : Option ℕ) (given left : Option (List ℕ)) → IsPulledUpTo (most_pulled stop) given left → IsPulled (status_of (cause_of stop wrong)) given left
+pub pulled : (stop : Stop) (wrong : Option ℕ) (given left : Option (List ℕ)) → IsPulledUpTo (most_pulled stop) given left → IsPulledByStatus (status_of (cause_of stop wrong)) given left
 pulled stops.End None given left is = is
 pulled stops.End (Some code) given left is = is
 pulled (stops.BadLine n) wrong given left is = is
@@ -139,7 +140,7 @@ origin_is (Some b) numbers o is =
     let same : record { persist = b; numbers = numbers } ≡ o = cc in
     (ap (λ (x : Origin). Some x.persist) same, sym (ap (λ (x : Origin). x.numbers) same))
 
-pub is_history : (base : Option Persist) (state : Option SlotState) (history : List Entry) {D : Type 0} (broker : BrokerView D) → StandsFor base state history broker.tables broker.held
+pub is_history : (base : Option Persist) (state : Option SlotState) (history : List Entry) {D : Type 0} (broker : BrokerView D) → StandsAfterIf base state history broker.tables broker.held
     → IsHistoryOf (origin_of base broker.held.sessions.numbers) state history
 is_history base state history broker stands o slots is_origin is_state =
     let origin = origin_is base broker.held.sessions.numbers o is_origin in
@@ -154,7 +155,7 @@ is_history base state history broker stands o slots is_origin is_state =
     }
 
 -- what it holds, by the world of the journal: the sessions that are left there are those that the broker lists
-pub holds_left : (began : ℕ) (seen : Seen) (history : List Entry) {D : Type 0} (broker : BrokerView D) → StandsFor seen.base seen.state history broker.tables broker.held
+pub holds_left : (began : ℕ) (seen : Seen) (history : List Entry) {D : Type 0} (broker : BrokerView D) → StandsAfterIf seen.base seen.state history broker.tables broker.held
     → IfSome seen.state (λ slots. HoldsLeft began seen.faults history slots broker.held.sessions.left)
     → HoldsLeftOf (origin_of seen.base broker.held.sessions.numbers) began seen history
 holds_left began seen history broker stands holds o slots is_origin is_state =
@@ -166,7 +167,7 @@ holds_left began seen history broker stands holds o slots is_origin is_state =
     (subst (λ (s : Option SlotState). IfSome s (λ slots. HoldsLeft began seen.faults history slots broker.held.sessions.left)) is_state holds))
 
 -- the device tells what the history begins from
-pub origin_told : (base : Option Persist) (state : Option SlotState) (history : List Entry) {D : Type 0} (broker : BrokerView D) → is_some state ≡ is_some base → StandsFor base state history broker.tables broker.held
+pub origin_told : (base : Option Persist) (state : Option SlotState) (history : List Entry) {D : Type 0} (broker : BrokerView D) → is_some state ≡ is_some base → StandsAfterIf base state history broker.tables broker.held
     → told_origin base state ≡ origin_of base broker.held.sessions.numbers
 origin_told None None history broker same stands = refl
 origin_told None (Some slots) history broker same stands = refl

@@ -15,7 +15,7 @@ use Rattle.link_pool.specs.Endings.{lacks_memory}
 use Rattle.link_pool.specs.Services.{AreServedOnce, IsEnough}
 use Rattle.tab_server.specs.Status.{IsOfStart}
 use Rattle.tab_server.specs.Run.{After, Before, IsEnded, Leaves, after_of, before_of}
-use Rattle.tab_server.specs.Serving.{IsIdle, LeavesPool, LeavesServe, LeavesServed, ServeCause, TellsEnd, WroteEnd, WroteOr, end_text, serve_detail, serve_status}
+use Rattle.tab_server.specs.Serving.{AcceptedNobody, LeavesPool, LeavesServe, LeavesServed, ServeCause, TellsEnd, WroteEnd, WroteOr, end_text, serve_detail, serve_status}
 
 -- whether the acceptor failed, with its fault count then
 abbrev pub AcceptOr : Option ℕ → (faults faults_new : ℕ) → Type 0
@@ -167,7 +167,7 @@ module _ {L M : Type 0} (are_served : List Entry → List M → Type 0) (ending_
   pub leaves_idle : (history : List Entry) (links : List M)
       → IsEnded before.contexts before.base before.faults.device after.seen None history
       → are_served history links
-      → IsIdle before after coming coming_new history links → accepted_new ≡ accepted → (after.left ≡ before.left) × (after.faults.input ≡ before.faults.input)
+      → AcceptedNobody before after coming coming_new history links → accepted_new ≡ accepted → (after.left ≡ before.left) × (after.faults.input ≡ before.faults.input)
       → LeavesServed are_served ending_of audit most before after coming coming_new accepted accepted_new 5 0 (Some history) links
   leaves_idle history links ended served idle same unread = record {
     sound = record {

@@ -10,17 +10,17 @@ use Rattle.broker_lock.specs.Known.{Origin}
 use Rattle.command_line.specs.declared.words.Verb.{Verb}
 use Rattle.command_line.specs.declared.words.Verb.TheVariants.{Run, Workload, Serve}
 use Rattle.command_line.specs.declared.words.Plan.{Plan}
-use Rattle.tab_server.specs.Status.{HasCause}
-use Rattle.tab_server.specs.Run.{After, Before, IsSound}
-use Rattle.tab_server.specs.Done.{LeavesBy, LeavesPlan}
+use Rattle.tab_server.specs.Status.{HasStatusCause}
+use Rattle.tab_server.specs.Run.{After, Before, IsSoundRun}
+use Rattle.tab_server.specs.Done.{LeavesByVerb, LeavesPlan}
 
-pub cause_by : (job : Verb) (plan : Plan) (before : Before) (after : After) (status detail : ℕ) (journal : Option (List Entry)) → LeavesBy job plan before after status detail journal
-    → HasCause before.contexts status detail before.faults after.faults (asked_of after.seen) (last_of after.seen) after.seen.state
+pub cause_by : (job : Verb) (plan : Plan) (before : Before) (after : After) (status detail : ℕ) (journal : Option (List Entry)) → LeavesByVerb job plan before after status detail journal
+    → HasStatusCause before.contexts status detail before.faults after.faults (asked_of after.seen) (last_of after.seen) after.seen.state
 cause_by Run plan before after status detail journal left = left.cause
 cause_by Workload plan before after status detail journal left = left.cause
 cause_by Serve plan before after status detail journal left = absurd left
 
-pub sound_by : (job : Verb) (plan : Plan) (before : Before) (after : After) (status detail : ℕ) (journal : Option (List Entry)) → LeavesBy job plan before after status detail journal → IsSound before after status journal
+pub sound_by : (job : Verb) (plan : Plan) (before : Before) (after : After) (status detail : ℕ) (journal : Option (List Entry)) → LeavesByVerb job plan before after status detail journal → IsSoundRun before after status journal
 sound_by Run plan before after status detail journal left = left.sound
 sound_by Workload plan before after status detail journal left = left.sound
 sound_by Serve plan before after status detail journal left = absurd left

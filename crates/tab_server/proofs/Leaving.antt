@@ -14,11 +14,12 @@ use Rattle.script_spec.specs.Calls.{calls_from}
 use Rattle.script_player.specs.declared.stop.Stop.{Stop}
 use Rattle.script_player.specs.declared.stop.Stop.TheVariants as stops
 use Rattle.script_player.specs.Play.{IsPulledUpTo, most_pulled}
-use Rattle.script_player.specs.Stops.{AreFirst}
+use Rattle.script_player.specs.Stops.{AreFirstCalls}
 use Rattle.script_player.specs.Ends.{IsCaused, LeavesBy, LeavesCut, LeavesEarly, LeavesWhole}
 use Rattle.script_player.proofs.Ending.{if_given}
-use Rattle.tab_server.specs.Status.{EndsAs, HasCause, IsPulled, cause_of, detail_of, status_of}
-use Rattle.tab_server.specs.Run.{After, Before, IsEnded, IsSound, Leaves, LeavesAnswered, LeavesFront, limits}
+use Rattle.tab_server.specs.Status.{HasStatusCause, IsPulledByStatus, IsToldByStatus, cause_of}
+use Rattle.tab_server.specs.Status.{detail_of, status_of}
+use Rattle.tab_server.specs.Run.{After, Before, IsEnded, IsSoundRun, Leaves, LeavesAnswered, LeavesFront, limits}
 use Rattle.tab_server.proofs.Causes.{has_cause, no_wrong, not_start, pulled, untold}
 
 if_some_more : {A : Type 0} (o : Option A) (P Q : A → Type 0) → ((x : A) → P x → Q x) → IfSome o P → IfSome o Q
@@ -26,9 +27,9 @@ if_some_more None P Q more is = tt
 if_some_more (Some x) P Q more is = more x is
 
 -- neither status that tells the ending
-pub unsaid : (given : Option (List ℕ)) (status detail : ℕ) → (status ≡ 0 → ⊥) → (status ≡ 8 → ⊥) → IfSome given (λ all. EndsAs (script all).ending status detail)
+pub unsaid : (given : Option (List ℕ)) (status detail : ℕ) → (status ≡ 0 → ⊥) → (status ≡ 8 → ⊥) → IfSome given (λ all. IsToldByStatus (script all).ending status detail)
 unsaid given status detail not_0 not_8 =
-    if_given given (λ all. EndsAs (script all).ending status detail) (λ all is. record { at_the_end = λ zero. absurd (not_0 zero); at_a_bad_line = λ eight. absurd (not_8 eight) })
+    if_given given (λ all. IsToldByStatus (script all).ending status detail) (λ all is. record { at_the_end = λ zero. absurd (not_0 zero); at_a_bad_line = λ eight. absurd (not_8 eight) })
 
 -- the calls were all those of the script, and the device gave a wrong answer in the closes behind them
 whole_answered : (limit : Limits) (given written written_new : Option (List ℕ)) (history : List Entry) → LeavesWhole limit false given written written_new history → LeavesAnswered limit false given written written_new history
@@ -37,7 +38,7 @@ whole_answered limit given written written_new history left =
       left.0,
       None,
       (λ none. inr left.1),
-      if_some_more given (λ all. calls_from [] (script all).items ≡ left.0) (λ all. AreFirst left.0 None all) (λ all is. ([], is ∙ sym (append-nil (left.0 ++ []) ∙ append-nil left.0))) left.1,
+      if_some_more given (λ all. calls_from [] (script all).items ≡ left.0) (λ all. AreFirstCalls left.0 None all) (λ all is. ([], is ∙ sym (append-nil (left.0 ++ []) ∙ append-nil left.0))) left.1,
       record { output = made.output; written = made.written_is ∙ ap (with_more written) (sym (append-nil made.output)); plays = made.plays },
     )
 
@@ -60,11 +61,11 @@ front_cut limit wrong asked response state given written written_new history ans
 
 -- all of it. A wrong answer comes only over a device that tells no state
 module _ (limit : ℕ) (before : Before) (after : After) (history : List Entry) where
-  pub leaves : (stop : Stop) (wrong : Option ℕ) → IsSound before after (status_of (cause_of stop wrong)) (Some history)
+  pub leaves : (stop : Stop) (wrong : Option ℕ) → IsSoundRun before after (status_of (cause_of stop wrong)) (Some history)
       → LeavesBy stop (limits before.contexts limit) (is_some wrong) before.left after.left before.written after.written history
       → IsCaused stop before.faults.input after.faults.input before.faults.output after.faults.output (is_some wrong)
-      → IsPulled (status_of (cause_of stop wrong)) before.left after.left → IfSome wrong (IsWrongAnswer before.contexts (asked_of after.seen) (last_of after.seen)) → (IsSome after.seen.state → wrong ≡ None)
-      → HasCause before.contexts (status_of (cause_of stop wrong)) (detail_of (cause_of stop wrong)) before.faults after.faults (asked_of after.seen) (last_of after.seen) after.seen.state
+      → IsPulledByStatus (status_of (cause_of stop wrong)) before.left after.left → IfSome wrong (IsWrongAnswer before.contexts (asked_of after.seen) (last_of after.seen)) → (IsSome after.seen.state → wrong ≡ None)
+      → HasStatusCause before.contexts (status_of (cause_of stop wrong)) (detail_of (cause_of stop wrong)) before.faults after.faults (asked_of after.seen) (last_of after.seen) after.seen.state
       → Leaves limit false before after (status_of (cause_of stop wrong)) (detail_of (cause_of stop wrong)) (Some history)
   leaves stops.End None sound left caused pulled answer taken cause = record {
     sound = sound;
@@ -175,7 +176,7 @@ leaves_ended_broker limit before after history entries stop wrong code same_entr
     let left_by = subst (λ (h : List Entry). LeavesBy stop (limits before.contexts limit) (is_some wrong) before.left after.left before.written after.written h) same_entries
     (subst (λ (c : Option ℕ). LeavesBy stop (limits before.contexts limit) (is_some c) before.left after.left before.written after.written entries) (sym same_code) left) in
     let caused_by = subst (λ (c : Option ℕ). IsCaused stop before.faults.input after.faults.input before.faults.output after.faults.output (is_some c)) (sym same_code) caused in
-    let sound : IsSound before after (status_of (cause_of stop wrong)) (Some history) = record {
+    let sound : IsSoundRun before after (status_of (cause_of stop wrong)) (Some history) = record {
       legal = ended.legal;
       faulted = ended.faulted;
       replies = ended.replies;

@@ -31,7 +31,7 @@ use Rattle.script_player.proofs.Writing.{with_more-append}
 use Rattle.tab_server.specs.Status.{detail_of, status_of}
 use Rattle.tab_server.specs.Run.{After, Before, Leaves, limits}
 use Rattle.tab_server.specs.Endings.{StandsToEnd, WroteBehind}
-use Rattle.tab_server.specs.Workload.{LeavesWorkload, PlayedFull, PlayedPart, PlayedToAnswer, PlayedWhole, Tells, TellsOf, WorkloadEnded, workload_calls, whole, part, full, answered}
+use Rattle.tab_server.specs.Workload.{LeavesWorkload, PlayedFull, PlayedPart, PlayedToAnswer, PlayedWhole, TellsCalls, TellsSome, WorkloadEnded, workload_calls, whole, part, full, answered}
 
 -- ---- a text behind another
 
@@ -92,7 +92,7 @@ told_of limit calls output history plays bytes = calls_are_told limit calls at_s
 plays_of : (limit : Limits) (calls : List Call) (output output_new : List ℕ) (history : List Entry) → output ≡ output_new → Plays history limit calls output → Plays history limit calls output_new
 plays_of limit calls output output_new history is plays = subst (λ (out : List ℕ). Plays history limit calls out) is plays
 
-pub tells_of : (limit : Limits) (done : List Call) (output : List ℕ) (history : List Entry) → Plays history limit (with_closes done) output → HasBytes history → TellsOf limit done history
+pub tells_of : (limit : Limits) (done : List Call) (output : List ℕ) (history : List Entry) → Plays history limit (with_closes done) output → HasBytes history → TellsSome limit done history
 tells_of limit done output history plays bytes =
     let told = told_of limit (with_closes done) output history plays bytes in (
       told.replies,
@@ -113,7 +113,7 @@ few_replies start lines few =
 -- what a tally of a script has that was played whole
 pub record IsToldWhole (limit : Limits) (start lines : ℕ) (history : List Entry) (tally : List ℕ) : Type 0 where
   pub told : List Reply
-  pub tells : Tells limit (workload_calls start lines) told history
+  pub tells : TellsCalls limit (workload_calls start lines) told history
   pub tally_is : tally ≡ reply_lines told
   pub few : length told < 2 ^ 64
 

@@ -13,11 +13,11 @@ abbrev pub IsServe : Verb → Type 0
 IsServe job = IsTrue (is_serve job)
 
 -- of a command that serves none; what those leave is `LeavesServe`
-abbrev pub LeavesBy : Verb → Plan → Before → After → (status detail : ℕ) → Option (List Entry) → Type 0
-LeavesBy Run plan before after status detail journal = Leaves plan.limit plan.audit before after status detail journal
-LeavesBy Workload plan before after status detail journal =
+abbrev pub LeavesByVerb : Verb → Plan → Before → After → (status detail : ℕ) → Option (List Entry) → Type 0
+LeavesByVerb Run plan before after status detail journal = Leaves plan.limit plan.audit before after status detail journal
+LeavesByVerb Workload plan before after status detail journal =
     LeavesWorkload plan.limit plan.audit plan.start plan.lines before after status detail journal
-LeavesBy Serve plan before after status detail journal = ⊥
+LeavesByVerb Serve plan before after status detail journal = ⊥
 
 abbrev pub LeavesPlan : Plan → Before → After → (status detail : ℕ) → Option (List Entry) → Type 0
-LeavesPlan plan before after status detail journal = LeavesBy plan.job plan before after status detail journal
+LeavesPlan plan before after status detail journal = LeavesByVerb plan.job plan before after status detail journal

@@ -16,9 +16,9 @@ use Rattle.device_port.specs.Device.{Seen, asked_of, last_of}
 use Rattle.broker_lock.specs.Known.{Origin, origin_of}
 use Rattle.broker_core.specs.Broker.{AreWhole, BrokerView, FaultsCounted, HoldsLeft, LegalOver, told_origin}
 use Rattle.script_player.specs.Ends.{LeavesFull, LeavesPart, LeavesRead, LeavesWhole, MakesUpTo, with_audit}
-use Rattle.script_player.specs.Stops.{AreFirst, EndsInClose, Unanswered, WroteFront}
+use Rattle.script_player.specs.Stops.{AreFirstCalls, CutsLastLine, EndsInClose, Unanswered}
 use Rattle.tab_server.specs.declared.status.TheConstants.{BAD_LINE, DONE, INPUT_FAILED, JOURNAL_FULL, NO_MEMORY, OUTPUT_FAILED, OUT_OF_RANGE, START_FAILED, WRONG_ANSWER}
-use Rattle.tab_server.specs.Status.{EndsAs, Faults, HasCause, IsPulled}
+use Rattle.tab_server.specs.Status.{Faults, HasStatusCause, IsPulledByStatus, IsToldByStatus}
 
 -- what a client may be answered with a journal of so many bytes, over a device with these contexts
 abbrev pub limits : ContextLimits → ℕ → Limits
@@ -118,7 +118,7 @@ pub record IsEnded (contexts : ContextLimits) (base : Option Origin) (began : �
 abbrev pub LeavesAnswered : Limits → Bool → Option (List ℕ) → Option (List ℕ) → Option (List ℕ) → List Entry → Type 0
 LeavesAnswered limit audit given written written_new history = (done : List Call) × (last : Option Unanswered)
     × (last ≡ None → EndsInClose done ⊎ IfSome given (λ all. calls_from [] (script all).items ≡ done))
-    × IfSome given (λ all. AreFirst done last all)
+    × IfSome given (λ all. AreFirstCalls done last all)
     × MakesUpTo limit done last (λ all. written_new ≡ with_more written (with_audit audit history all)) history
 
 -- a run that a failed write stopped: the journal is what the first of the script's calls make, and the output lacks a part
@@ -127,8 +127,8 @@ LeavesAnswered limit audit given written written_new history = (done : List Call
 abbrev pub LeavesFront : Limits → List ℕ → Option (List ℕ) → Option SlotState → Option (List ℕ) → Option (List ℕ) → Option (List ℕ) → List Entry → Type 0
 LeavesFront limit asked response state given written written_new history = (done : List Call) × (last : Option Unanswered)
     × (IsSome last → (state ≡ None) × (wrong limit.contexts asked response ≡ true))
-    × IfSome given (λ all. AreFirst done last all)
-    × MakesUpTo limit done last (λ all. WroteFront all written written_new) history
+    × IfSome given (λ all. AreFirstCalls done last all)
+    × MakesUpTo limit done last (λ all. CutsLastLine all written written_new) history
 
 -- no read of the input failed
 abbrev pub NoReadFailed : Before → After → Type 0
@@ -151,7 +151,7 @@ pub record LeavesText (limit : Limits) (before : Before) (after : After) (histor
   pub text : WroteFrontOf (audit_text history) lines after.written
 
 -- what a run leaves of its journal, if the broker began, and of its device
-pub record IsSound (before : Before) (after : After) (status : ℕ) (journal : Option (List Entry)) : Type 0 where
+pub record IsSoundRun (before : Before) (after : After) (status : ℕ) (journal : Option (List Entry)) : Type 0 where
   -- The journal is one legal history of the plain machine, and the device keeps what its world keeps. It has no more failed
   -- commands than the device had failures, each reply in it is one whole frame, and no wrong answer was taken for an answer.
   pub legal : IfSome journal (λ history. IsHistoryOf before.base after.seen.state history)
@@ -167,7 +167,7 @@ pub record IsSound (before : Before) (after : After) (status : ℕ) (journal : O
 
 -- what a run of words that aren't refused leaves, with a journal if the broker began
 pub record Leaves (limit : ℕ) (audit : Bool) (before : Before) (after : After) (status detail : ℕ) (journal : Option (List Entry)) : Type 0 where
-  pub sound : IsSound before after status journal
+  pub sound : IsSoundRun before after status journal
   -- The journal and the output are what the script's calls make, each once and in order, as far as each status says. Where it
   -- is asked for, the audit text of the journal follows. After a failed write nothing more is written. It is the write of a
   -- reply line, and no read failed before it, or that of the audit text, behind a run that ended in its own way.
@@ -180,6 +180,6 @@ pub record Leaves (limit : ℕ) (audit : Bool) (before : Before) (after : After)
       (NoReadFailed before after × LeavesFront (limits before.contexts limit) (asked_of after.seen) (last_of after.seen) after.seen.state before.left before.written after.written history)
       ⊎ (IsTrue audit × LeavesText (limits before.contexts limit) before after history))
   -- When each status comes, and how much is read at most.
-  pub pulled : IsPulled status before.left after.left
-  pub ending : IfSome before.left (λ all. EndsAs (script all).ending status detail)
-  pub cause : HasCause before.contexts status detail before.faults after.faults (asked_of after.seen) (last_of after.seen) after.seen.state
+  pub pulled : IsPulledByStatus status before.left after.left
+  pub ending : IfSome before.left (λ all. IsToldByStatus (script all).ending status detail)
+  pub cause : HasStatusCause before.contexts status detail before.faults after.faults (asked_of after.seen) (last_of after.seen) after.seen.state

@@ -16,7 +16,7 @@ use Rattle.link_pool.specs.Services.{AreServedOnce}
 use Rattle.tab_server.specs.declared.status.TheConstants.{ACCEPTOR_FAILED, DONE, NO_MEMORY, OUTPUT_FAILED, OUT_OF_RANGE, START_FAILED, WRONG_ANSWER}
 use Rattle.tab_server.specs.Counts.{counts_line}
 use Rattle.tab_server.specs.Status.{IsNumberOut}
-use Rattle.tab_server.specs.Run.{After, Before, IsSound}
+use Rattle.tab_server.specs.Run.{After, Before, IsSoundRun}
 
 -- ---- the text at the end
 
@@ -31,7 +31,7 @@ WroteOr (Some count) text written written_new faults faults_new =
     WroteFrontOf text written written_new × Rose faults faults_new × (count ≡ faults_new)
 
 -- memory lacked before the first connection: none was accepted, and nothing was run or written
-pub record IsIdle {L M : Type 0} (before : Before) (after : After) (coming coming_new : Option (List L)) (history : List Entry) (links : List M) : Type 0 where
+pub record AcceptedNobody {L M : Type 0} (before : Before) (after : After) (coming coming_new : Option (List L)) (history : List Entry) (links : List M) : Type 0 where
   pub nothing : history ≡ []
   pub nobody : links ≡ []
   pub same : coming_new ≡ coming
@@ -93,10 +93,10 @@ pub record LeavesLinks {L M : Type 0} (are_served : List Entry → List M → Ty
   pub served : are_served history links
   -- As many were accepted as were asked for, or all that came.
   pub enough : (status ≡ DONE) ⊎ (status ≡ OUTPUT_FAILED) → AreEnough most coming_new links
-  pub text : WroteEnd (end_text audit (length links) history) (IsIdle before after coming coming_new history links) before after status
+  pub text : WroteEnd (end_text audit (length links) history) (AcceptedNobody before after coming coming_new history links) before after status
   -- A connection that lacked memory is told, and 5 comes where there was one, or where nobody was accepted.
   pub memory : status ≡ DONE → list_any (λ link. lacks_memory (ending_of link)) links ≡ false
-  pub lacked : status ≡ NO_MEMORY → IsIdle before after coming coming_new history links
+  pub lacked : status ≡ NO_MEMORY → AcceptedNobody before after coming coming_new history links
       ⊎ ((list_any (λ link. lacks_memory (ending_of link)) links ≡ true) × AreEnough most coming_new links)
   -- No wrong answer was taken for an answer.
   pub right : (status ≡ WRONG_ANSWER → ⊥) → IsRight before.contexts (asked_of after.seen) (last_of after.seen)
@@ -113,7 +113,7 @@ pub record IsUnserved {L M : Type 0} (before : Before) (after : After) (coming c
 -- What `serve` leaves: its connections, and the journal if the broker began.
 pub record LeavesServed {L M : Type 0} (are_served : List Entry → List M → Type 0) (ending_of : M → Ending) (audit : Bool) (most : ℕ)
     (before : Before) (after : After) (coming coming_new : Option (List L)) (accept accept_new status detail : ℕ) (journal : Option (List Entry)) (links : List M) : Type 0 where
-  pub sound : IsSound before after status journal
+  pub sound : IsSoundRun before after status journal
   pub links_are : MatchOption journal (IsUnserved before after coming coming_new accept accept_new status links)
       (λ history. LeavesLinks are_served ending_of audit most before after coming coming_new status history links)
   pub cause : ServeCause before after accept accept_new status detail

@@ -11,7 +11,7 @@ use Rattle.device_port.specs.Device.{Seen, last_of}
 use Rattle.device_start.specs.Start.{HoldsNoMoreIf, StopsAtNumber, StopsUnanswered}
 use Rattle.broker_core.specs.Broker.{LackedMemory}
 use Rattle.script_spec.specs.declared.TheConstants.{SCRIPT_BYTES}
-use Rattle.script_spec.specs.Script.{Ending, end, bad_line}
+use Rattle.script_spec.specs.Script.{ScriptEnding, end, bad_line}
 use Rattle.script_player.specs.declared.stop.Stop.{Stop}
 use Rattle.script_player.specs.declared.stop.Stop.TheVariants as stops
 use Rattle.script_player.specs.Play.{IsPulledUpTo}
@@ -63,11 +63,11 @@ IsOfStart status = IsTrue (list_any (λ n. n == status) (REFUSED ∷ NO_MEMORY �
 abbrev pub pulled_at : ℕ → ℕ
 pulled_at status = if status == INPUT_FAILED then SCRIPT_BYTES else SCRIPT_BYTES + 1
 
-abbrev pub IsPulled : ℕ → Option (List ℕ) → Option (List ℕ) → Type 0
-IsPulled status given left = IsPulledUpTo (pulled_at status) given left
+abbrev pub IsPulledByStatus : ℕ → Option (List ℕ) → Option (List ℕ) → Type 0
+IsPulledByStatus status given left = IsPulledUpTo (pulled_at status) given left
 
 -- how the script ended, by the status
-pub record EndsAs (ending : Ending) (status detail : ℕ) : Type 0 where
+pub record IsToldByStatus (ending : ScriptEnding) (status detail : ℕ) : Type 0 where
   pub at_the_end : status ≡ DONE → ending ≡ end
   pub at_a_bad_line : status ≡ BAD_LINE → ending ≡ bad_line detail
 
@@ -88,7 +88,7 @@ pub record IsNumberOut (property : ℕ) (asked : List ℕ) (last : Option (List 
 
 -- each status that comes of a fault, a wrong answer or a number comes only where there was one, and there is no other status than these.
 -- Where the audit text can't be written, status 4 comes in place of any other: what a run leaves says whether a read failed then
-pub record HasCause (contexts : ContextLimits) (status detail : ℕ) (before after : Faults) (asked : List ℕ) (last : Option (List ℕ)) (state : Option SlotState) : Type 0 where
+pub record HasStatusCause (contexts : ContextLimits) (status detail : ℕ) (before after : Faults) (asked : List ℕ) (last : Option (List ℕ)) (state : Option SlotState) : Type 0 where
   pub known : IsTrue (list_any (λ n. n == status)
       (DONE ∷ OUTPUT_FAILED ∷ NO_MEMORY ∷ START_FAILED ∷ WRONG_ANSWER ∷ BAD_LINE ∷ INPUT_FAILED ∷ JOURNAL_FULL ∷ OUT_OF_RANGE ∷ []))
   pub plain : (status ≡ DONE) ⊎ (status ≡ NO_MEMORY) → detail ≡ 0

@@ -23,28 +23,28 @@ abbrev pub is_frame : List ℕ → Bool
 is_frame bytes = is_size (length bytes) && size_of bytes == length bytes
 
 -- what a stream spells: commands and cancels
-pub data Item : Type 0 where
-  command : List ℕ → Item
-  cancel : Item
+pub data StreamItem : Type 0 where
+  command : List ℕ → StreamItem
+  cancel : StreamItem
 
 -- where it ends: after a frame, within one, or before a size that no frame has
-pub data Ending : Type 0 where
-  whole : Ending
-  rest : Ending
-  bad : ℕ → Ending
+pub data StreamEnding : Type 0 where
+  whole : StreamEnding
+  rest : StreamEnding
+  bad : ℕ → StreamEnding
 
 pub record Frames : Type 0 where
-  pub items : List Item
-  pub ending : Ending
+  pub items : List StreamItem
+  pub ending : StreamEnding
 
-abbrev pub item_of : List ℕ → Item
+abbrev pub item_of : List ℕ → StreamItem
 item_of frame = if tag_of frame == ST_NO_SESSIONS && size_of frame == HEADER_BYTES && code_of frame == CC_CANCEL then cancel else command frame
 
-abbrev pub end_of : List ℕ → Ending
+abbrev pub end_of : List ℕ → StreamEnding
 end_of [] = whole
 end_of (byte ∷ bytes) = rest
 
-abbrev pub with_item : Item → Frames → Frames
+abbrev pub with_item : StreamItem → Frames → Frames
 with_item item frames = record { items = item ∷ frames.items; ending = frames.ending }
 
 -- the frames of a stream, at most so many
@@ -60,7 +60,7 @@ frames_within (suc most) bytes =
 abbrev pub frames : List ℕ → Frames
 frames bytes = frames_within (length bytes) bytes
 
-abbrev pub commands_of : List Item → List (List ℕ)
+abbrev pub commands_of : List StreamItem → List (List ℕ)
 commands_of [] = []
 commands_of (command bytes ∷ items) = bytes ∷ commands_of items
 commands_of (cancel ∷ items) = commands_of items
@@ -84,7 +84,7 @@ left_within (suc most) bytes =
 abbrev pub left_of : List ℕ → List ℕ
 left_of bytes = left_within (length bytes) bytes
 
-abbrev pub is_bad : Ending → Bool
+abbrev pub is_bad : StreamEnding → Bool
 is_bad whole = false
 is_bad rest = false
 is_bad (bad size) = true

@@ -9,9 +9,9 @@ use Rattle.broker_lock.specs.Known.{Fixed}
 use Rattle.broker_core.specs.Broker.{told_origin}
 use Rattle.device_port.specs.Device.{Seen}
 use Rattle.device_link.specs.Carried.{HasCarried}
-use Rattle.device_link.specs.Link.{Ends as LinkEnds}
+use Rattle.device_link.specs.Link.{DeviceEnds as LinkEnds}
 use Rattle.device_link.specs.declared.fault.LinkFault.{LinkFault}
-use Rattle.accept_loop.specs.Connections.{Ends}
+use Rattle.accept_loop.specs.Connections.{ConnectionEnds}
 use Rattle.accept_loop.specs.declared.serving.LinkDone.{LinkDone}
 use Rattle.link_pool.specs.Services.{IsServed, client_of, given_of}
 use Rattle.link_pool.specs.declared.done.Service.{Service}
@@ -41,7 +41,7 @@ start_told contexts seen status detail old new it = record {
 }
 
 -- where a call leaves its arguments, what is told around the device stays
-around_stays : {A I O L : Type 0} (ends : I → O → Ends) (coming : A
+around_stays : {A I O L : Type 0} (ends : I → O → ConnectionEnds) (coming : A
     → Option (List L)) (accept : A → ℕ) (acceptor acceptor' : A) (input input' : I)
     (output output' : O)
     → acceptor' ≡ acceptor → input' ≡ input → output' ≡ output
@@ -59,7 +59,7 @@ if_none f (Some x) to p = tt
 pub none_told : {J D A I O L : Type 0} (Q : Type 0) (entries : J
     → List Entry) (journal : Option J) (contexts : ContextLimits) (seen : D
     → Seen) (status detail : ℕ) (device device' : D)
-    (ends : I → O → Ends) (coming : A → Option (List L)) (accept : A
+    (ends : I → O → ConnectionEnds) (coming : A → Option (List L)) (accept : A
     → ℕ) (acceptor acceptor' : A) (input input' : I) (output output' : O)
     → IfNone journal (EndsStart contexts seen status detail device device' ×
     (acceptor' ≡ acceptor) × (input' ≡ input) × (output' ≡ output) × Q)
@@ -94,7 +94,7 @@ is_over : {S K In Out A : Type 0} (Q R : Type 0) (plans : Option Plan) (target :
     (left : In → Option (List ℕ)) (written : Out → Option (List ℕ))
     (source_faults : In → ℕ) (sink_faults : Out → ℕ) (coming : A
     → Option (List (In × Out))) (accept : A
-    → ℕ) (acceptor acceptor' : A) (ends ends' : Ends) (link : S → K → LinkEnds)
+    → ℕ) (acceptor acceptor' : A) (ends ends' : ConnectionEnds) (link : S → K → LinkEnds)
     (status detail : ℕ) (back : Option (S × K)) (first seen : Seen)
     (journal : Option (List Entry)) (links : List (LinkDone In Out))
     (served : List (Service In Out))
@@ -168,7 +168,8 @@ is_over _ _ (Some plan) target left written source_faults sink_faults coming acc
 pub handed : {S K In Out A : Type 0} (Q R : Type 0) (plans : Option Plan)
     (target found : Target S K) (left : In → Option (List ℕ)) (written : Out → Option (List ℕ))
     (source_faults : In → ℕ) (sink_faults : Out → ℕ) (coming : A
-    → Option (List (In × Out))) (accept : A → ℕ) (acceptor acceptor' : A) (ends ends' : Ends)
+    → Option (List (In × Out))) (accept : A
+    → ℕ) (acceptor acceptor' : A) (ends ends' : ConnectionEnds)
     (link : S → K → LinkEnds) (status detail : ℕ) (back : Option (S × K)) (finished : Finished S K)
     (first seen : Seen) (journal : Option (List Entry)) (links : List (LinkDone In Out))
     (served : List (Service In Out))

@@ -3,9 +3,9 @@ use Rattle.std.specs.Prelude.{◌≡◌, ◌≤◌, ◌<◌, ℕ, List, Option, 
 use Rattle.history_spec.specs.Entry.{Entry}
 use Rattle.device_port.specs.Device.{Seen}
 use Rattle.device_link.specs.Carried.{HasCarried}
-use Rattle.device_link.specs.Link.{Ends as LinkEnds}
+use Rattle.device_link.specs.Link.{DeviceEnds as LinkEnds}
 use Rattle.device_link.specs.declared.fault.LinkFault.{LinkFault}
-use Rattle.accept_loop.specs.Connections.{Ends}
+use Rattle.accept_loop.specs.Connections.{ConnectionEnds}
 use Rattle.accept_loop.specs.declared.serving.LinkDone.{LinkDone}
 use Rattle.link_pool.specs.Services.{IsServed, client_of, given_of}
 use Rattle.link_pool.specs.declared.done.Service.{Service}
@@ -24,11 +24,12 @@ use Rattle.tabrmd.specs.Found.{contexts_of, origin_at, seen_at}
 -- what is told around the device: by the input and the output, and by the acceptor, the connections
 -- that are still to come and how often it has failed
 pub record Around (L : Type 0) : Type 0 where
-  pub ends : Ends
+  pub ends : ConnectionEnds
   pub coming : Option (List L)
   pub accept : ℕ
 
-abbrev pub around : {A I O L : Type 0} → (ends : I → O → Ends) → (coming : A → Option (List L))
+abbrev pub around : {A I O L : Type 0} → (ends : I → O → ConnectionEnds)
+    → (coming : A → Option (List L))
     → (accept : A → ℕ) → A → I → O → Around L
 around ends coming accept acceptor input output = record {
   ends = ends input output;

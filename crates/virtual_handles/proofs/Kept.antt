@@ -7,11 +7,11 @@ use Rattle.std.proofs.lemmas.Bool.{cases_eq, cases_lt}
 use Rattle.std.proofs.lemmas.Bool.Decides.{nat_tests}
 use Rattle.history_spec.specs.Table.{least_free, put_least, count_held, is_full, held_under, number_of_object}
 use Rattle.tab_spec.specs.declared.TheConstants.{TRANSIENT_FIRST}
-use Rattle.virtual_handles.specs.Blocks.{held_in_block, Counted}
+use Rattle.virtual_handles.specs.Blocks.{held_in_block, PlacesAreCounted}
 use Rattle.virtual_handles.proofs.Walks.{least_le_count, count_put, length_put}
 use Rattle.virtual_handles.proofs.Counts.{one_if, held_le_block, held_in_nothing, put_here, put_elsewhere, set_here, set_elsewhere}
 
-pub counted_nothing : Counted [] (replicate 64 0) 0
+pub counted_nothing : PlacesAreCounted [] (replicate 64 0) 0
 counted_nothing = record {
   most = omega arith;
   blocks = λ block low. get_or-replicate 64 block 0 0 low ∙ sym (held_in_nothing ℕ block);
@@ -19,15 +19,15 @@ counted_nothing = record {
 }
 
 -- each number is below 4,096 where a client has fewer objects than it may
-pub room_for_one : (places : List (Option ℕ)) (taken : List ℕ) (held : ℕ) → Counted places taken held → held < 4096 → least_free places < 4096
+pub room_for_one : (places : List (Option ℕ)) (taken : List ℕ) (held : ℕ) → PlacesAreCounted places taken held → held < 4096 → least_free places < 4096
 room_for_one places taken held counted few = omega (arith, least_le_count places, counted.all)
 
 -- a count of a block is at most 64
-pub count_most : (places : List (Option ℕ)) (taken : List ℕ) (held block : ℕ) → Counted places taken held → block < length taken → get_or taken block 0 ≤ 64
+pub count_most : (places : List (Option ℕ)) (taken : List ℕ) (held block : ℕ) → PlacesAreCounted places taken held → block < length taken → get_or taken block 0 ≤ 64
 count_most places taken held block counted low = omega (arith, counted.blocks block low, held_le_block block places)
 
-pub counted_put : (x : ℕ) (places : List (Option ℕ)) (taken : List ℕ) (held : ℕ) → Counted places taken held → length taken ≡ 64 → held < 4096
-    → Counted (put_least x places) (set taken (least_free places / 64) (get_or taken (least_free places / 64) 0 + 1)) (held + 1)
+pub counted_put : (x : ℕ) (places : List (Option ℕ)) (taken : List ℕ) (held : ℕ) → PlacesAreCounted places taken held → length taken ≡ 64 → held < 4096
+    → PlacesAreCounted (put_least x places) (set taken (least_free places / 64) (get_or taken (least_free places / 64) 0 + 1)) (held + 1)
 counted_put x places taken held counted blocks few =
     let number : ℕ = least_free places in
     let low : number < 4096 = room_for_one places taken held counted few in
@@ -61,7 +61,7 @@ taken_one : (place : Option ℕ) → is_some place ≡ true → one_if place ≡
 taken_one None taken = cc
 taken_one (Some x) taken = refl
 
-pub is_taken : (places : List (Option ℕ)) (taken : List ℕ) (held number : ℕ) → Counted places taken held → length taken ≡ 64 → number < length places
+pub is_taken : (places : List (Option ℕ)) (taken : List ℕ) (held number : ℕ) → PlacesAreCounted places taken held → length taken ≡ 64 → number < length places
     → is_some (get_or places number None) ≡ true → Taken places taken held number
 is_taken places taken held number counted blocks within there =
     let inside : number / 64 < length taken = omega (arith, counted.most) in
@@ -76,9 +76,9 @@ is_taken places taken held number counted blocks within there =
       one = omega (arith, counted.all, one, sums);
     }
 
-pub counted_removed : (places : List (Option ℕ)) (taken : List ℕ) (held number : ℕ) → Counted places taken held → length taken ≡ 64 → number < length places
+pub counted_removed : (places : List (Option ℕ)) (taken : List ℕ) (held number : ℕ) → PlacesAreCounted places taken held → length taken ≡ 64 → number < length places
     → is_some (get_or places number None) ≡ true
-    → Counted (set places number None) (set taken (number / 64) (get_or taken (number / 64) 0 - 1)) (held - 1)
+    → PlacesAreCounted (set places number None) (set taken (number / 64) (get_or taken (number / 64) 0 - 1)) (held - 1)
 counted_removed places taken held number counted blocks within there =
     let inside : number / 64 < length taken = omega (arith, counted.most) in
     let one : one_if (get_or places number None) ≡ 1 = taken_one (get_or places number None) there in
@@ -108,7 +108,7 @@ counted_removed places taken held number counted blocks within there =
 
 -- ---- what the contracts say
 
-pub few_held : (places : List (Option ℕ)) (taken : List ℕ) (held : ℕ) → Counted places taken held → is_full places ≡ false → held < 4096
+pub few_held : (places : List (Option ℕ)) (taken : List ℕ) (held : ℕ) → PlacesAreCounted places taken held → is_full places ≡ false → held < 4096
 few_held places taken held counted open_still =
     let few : count_held places < 4096 = grind (arith, nat_tests) in
     omega (arith, counted.all)

@@ -12,7 +12,7 @@ abbrev pub CountsBlocks : List (Option ℕ) → List ℕ → Type 0
 CountsBlocks places taken = (block : ℕ) → block < length taken → get_or taken block 0 ≡ held_in_block block places
 
 -- there are no more places than a client may have objects, and what is counted is so
-pub record Counted (places : List (Option ℕ)) (taken : List ℕ) (held : ℕ) : Type 0 where
+pub record PlacesAreCounted (places : List (Option ℕ)) (taken : List ℕ) (held : ℕ) : Type 0 where
   pub most : length places ≤ CLIENT_OBJECTS
   pub blocks : CountsBlocks places taken
   pub all : held ≡ count_held places

@@ -30,7 +30,7 @@ pub struct ClientTable {
 impl Model for ClientTable {
     ghost use Rattle.std.specs.Prelude.{◌-◌, vec_len, vec_capacity};
     ghost use Rattle.virtual_handles.specs.View.{TableView};
-    ghost use Rattle.virtual_handles.specs.Blocks.{Counted};
+    ghost use Rattle.virtual_handles.specs.Blocks.{PlacesAreCounted};
 
     ghost Value = { TableView };
 
@@ -39,7 +39,7 @@ impl Model for ClientTable {
       spare = vec_capacity t.places - vec_len t.places;
     } };
 
-    ghost invariant = { λ t. Counted t.places.items t.taken t.held };
+    ghost invariant = { λ t. PlacesAreCounted t.places.items t.taken t.held };
 }
 
 impl ClientTable {

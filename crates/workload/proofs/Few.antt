@@ -7,7 +7,7 @@ use Rattle.std.proofs.lemmas.List.Sums.{sum_by-append, sum_by-cons}
 use Rattle.tab_spec.specs.Frame.{command, cancel, commands_of, frames, frames_within, is_size, meets_bad_size, size_of}
 use Rattle.tab_spec.specs.Frame as frame
 use Rattle.history_spec.specs.Cancels.{canceled_up_to, cover}
-use Rattle.script_spec.specs.Script.{Item, close, piece}
+use Rattle.script_spec.specs.Script.{ScriptItem, close, piece}
 use Rattle.script_spec.specs.Calls.{Call, Stream, after_item, after_piece, bytes_of, calls, calls_from, close_calls, closing, ending_calls, fed, item_calls, item_commands, labels_from, new_items, numbered, opening, piece_calls, so_far, stream_calls, with_closes, without_stream}
 use Rattle.script_spec.specs.Calls as call
 use Rattle.script_spec.specs.Summary.{is_answered, replies_to}
@@ -58,7 +58,7 @@ frames_few (suc most) bytes =
     (one_few (suc most) (not (is_size size)) bad _ (omega arith)
     (one_few (suc most) (ltb (length bytes) size) within more (omega arith) (omega (arith, few))))
 
-commands_few : (items : List frame.Item) → length (commands_of items) ≤ length items
+commands_few : (items : List frame.StreamItem) → length (commands_of items) ≤ length items
 commands_few [] = omega arith
 commands_few (command b ∷ items) = omega (arith, commands_few items)
 commands_few (cancel ∷ items) = omega (arith, commands_few items)
@@ -69,7 +69,7 @@ stream_few label before bytes =
     let old : ℕ = length (frames before).items in
     let items = (frames all).items in
     let count : ℕ = length (frame.commands before) in
-    let new : List frame.Item = new_items before bytes in
+    let new : List frame.StreamItem = new_items before bytes in
     let last : List Call = ending_calls label (meets_bad_size all) in
     omega (
       arith,
@@ -121,11 +121,11 @@ fed_small most label bytes (s ∷ streams) small =
 
 -- ---- items
 
-abbrev pub size_of_item : Item → ℕ
+abbrev pub size_of_item : ScriptItem → ℕ
 size_of_item (piece label bytes) = length bytes
 size_of_item (close label) = 0
 
-after_small : (most : ℕ) (item : Item) (streams : List Stream) → AreSmall most streams → AreSmall (most + size_of_item item) (after_item streams item)
+after_small : (most : ℕ) (item : ScriptItem) (streams : List Stream) → AreSmall most streams → AreSmall (most + size_of_item item) (after_item streams item)
 after_small most (piece label bytes) streams small =
     let more : ℕ = most + length bytes in
     let below : most ≤ more = omega arith in
@@ -143,16 +143,16 @@ close_few : (known : Option (List ℕ)) (label : ℕ) → replies_to (close_call
 close_few None label = refl
 close_few (Some before) label = refl
 
-item_few : (most : ℕ) (item : Item) (streams : List Stream) → AreSmall most streams → replies_to (item_calls streams item) ≤ most + size_of_item item + 1
+item_few : (most : ℕ) (item : ScriptItem) (streams : List Stream) → AreSmall most streams → replies_to (item_calls streams item) ≤ most + size_of_item item + 1
 item_few most (piece label bytes) streams small = omega (arith, piece_few (bytes_of streams label) label bytes, bytes_small most streams label small)
 item_few most (close label) streams small = omega (arith, close_few (bytes_of streams label) label)
 
 -- the bytes of all pieces
-abbrev pub bytes_in : List Item → ℕ
+abbrev pub bytes_in : List ScriptItem → ℕ
 bytes_in [] = 0
 bytes_in (item ∷ items) = size_of_item item + bytes_in items
 
-items_few : (items : List Item) (streams : List Stream) (most : ℕ) → AreSmall most streams → most + bytes_in items ≤ 6500000
+items_few : (items : List ScriptItem) (streams : List Stream) (most : ℕ) → AreSmall most streams → most + bytes_in items ≤ 6500000
     → replies_to (calls_from streams items) ≤ 6500001 * length items
 items_few [] streams most small few = omega arith
 items_few (item ∷ items) streams most small few =
@@ -161,7 +161,7 @@ items_few (item ∷ items) streams most small few =
     let rest = items_few items next more (after_small most item streams small) (omega (arith, few)) in
     omega (arith, replies-append (item_calls streams item) (calls_from next items), item_few most item streams small, rest, few)
 
-pub calls_few : (items : List Item) → bytes_in items ≤ 6500000 → replies_to (calls items) ≤ 6500001 * length items
+pub calls_few : (items : List ScriptItem) → bytes_in items ≤ 6500000 → replies_to (calls items) ≤ 6500001 * length items
 calls_few items few =
     let made : List Call = calls_from [] items in
     let labels : List ℕ = labels_from [] made in

@@ -9,7 +9,7 @@ use Rattle.hex.specs.Hex.{decode_of, encode_lower, encode_with, lower_digits}
 use Rattle.hex.proofs.HexLemmas.{decode_of-encode_lower, length-encode_with}
 use Rattle.tab_spec.specs.Values.{AreBytes}
 use Rattle.script_spec.specs.declared.TheConstants.{LINE_BYTES}
-use Rattle.script_spec.specs.Script.{Item, Script, after_item, bad_line, close, end, is_newline, item_in, item_of, lines_of, onto_first, piece, piece_in, script_from, text_of, with_item}
+use Rattle.script_spec.specs.Script.{Script, ScriptItem, after_item, bad_line, close, end, is_newline, item_in, item_of, lines_of, onto_first, piece, piece_in, script_from, text_of, with_item}
 use Rattle.script_spec.specs.Workload.{line_at, line_of_words, lines_from, word_of, workload_command, workload_action}
 use Rattle.workload.proofs.CommandBytes.{is_command}
 use Rattle.workload.proofs.Few.{bytes_in, size_of_item}
@@ -46,7 +46,7 @@ text_back (c ∷ text) none =
 -- ---- what stands behind the label
 
 record IsAction (label : ℕ) (word : List ℕ) : Type 0 where
-  pub item : Item
+  pub item : ScriptItem
   pub is : item_in (Some label) word ≡ Some item
   pub small : size_of_item item ≤ 65
   pub none : NoNewline word
@@ -97,7 +97,7 @@ record IsGood (line : List ℕ) : Type 0 where
   pub text : List ℕ
   pub is : line ≡ text ++ 10 ∷ []
   pub none : NoNewline text
-  pub item : Item
+  pub item : ScriptItem
   pub item_is : item_of text ≡ Some item
   pub small : size_of_item item ≤ 65
   pub few : length text ≤ 132
@@ -128,7 +128,7 @@ pub record IsWhole (count : ℕ) (script : Script) : Type 0 where
   pub items : length script.items ≡ count
   pub bytes : bytes_in script.items ≤ 65 * count
 
-with_one : (count : ℕ) (item : Item) (script : Script) → size_of_item item ≤ 65 → IsWhole count script → IsWhole (suc count) (with_item item script)
+with_one : (count : ℕ) (item : ScriptItem) (script : Script) → size_of_item item ≤ 65 → IsWhole count script → IsWhole (suc count) (with_item item script)
 with_one count item script small whole = record {
   ending = whole.ending;
   items = ap suc whole.items;
@@ -152,7 +152,7 @@ lines_are_good (suc count) key place number room fits =
     let same : script_from number room (lines_of (line_at key place ++ rest)) ≡ with_item good.item next =
     ap (λ (ls : List (List ℕ)). script_from number room ls) split
     ∙ ap (λ (b : Bool). cond b bad (after_item number (item_of (text_of line)) next)) fit
-    ∙ ap (λ (o : Option Item). after_item number o next) item in
+    ∙ ap (λ (o : Option ScriptItem). after_item number o next) item in
     subst (IsWhole (suc count)) (sym same) (with_one count good.item next good.small (lines_are_good count key (place + 3) (number + 1) (room - length line) (omega (arith, fits, size))))
 
 pub lines_are_short : (count : ℕ) (key : List ℕ) (place : ℕ) → length (lines_from key place count) ≤ 133 * count

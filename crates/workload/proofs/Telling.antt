@@ -8,7 +8,7 @@ use Rattle.tab_spec.specs.declared.TheConstants.{RC_COMMAND_SIZE, RC_JOURNAL_FUL
 use Rattle.tab_spec.specs.Reply.{error_reply}
 use Rattle.tab_spec.specs.Values.{AreBytes}
 use Rattle.history_spec.specs.Entry.{Entry, own, part_before}
-use Rattle.history_spec.specs.Told.{Told, ToldBy, entry_of, Limits}
+use Rattle.history_spec.specs.Told.{MayBeTold, ToldBy, entry_of, Limits}
 use Rattle.script_spec.specs.Calls.{Call, bad_size, closing, command, opening}
 use Rattle.script_spec.specs.Plays.{MayAddEntry, Plays1, PlaysTo, Stage, reply_line}
 use Rattle.script_spec.specs.Summary.{AreTold, is_answered, replies_to, reply_lines}
@@ -46,7 +46,7 @@ bytes_by (Some e) limit before bytes reply known told = subst AreBytes told.repl
 bytes_by None limit before bytes reply known (inl memory) = subst AreBytes (sym memory.reply_is) (listed_bytes (error_reply RC_MEMORY) refl)
 bytes_by None limit before bytes reply known (inr full) = subst AreBytes (sym full.reply_is) (listed_bytes (error_reply RC_JOURNAL_FULL) refl)
 
-bytes_told : (history : List Entry) (limit : Limits) (client number : ℕ) (bytes reply : List ℕ) → HaveBytes history → Told history limit client number bytes reply → AreBytes reply
+bytes_told : (history : List Entry) (limit : Limits) (client number : ℕ) (bytes reply : List ℕ) → HaveBytes history → MayBeTold history limit client number bytes reply → AreBytes reply
 bytes_told history limit client number bytes reply all told =
     bytes_by (entry_of history client number) limit (part_before client number history) bytes reply
     (bytes_found (λ e. eqb e.number number) (own history client) (bytes_filtered (λ e. eqb e.client client) history all)) told

@@ -28,7 +28,7 @@ pub struct Workload {
 
 impl Model for Workload {
     ghost use Rattle.std.specs.Prelude.{◌++◌, List, ℕ, drop, length};
-    ghost use Rattle.workload.specs.Ready.{IsReady};
+    ghost use Rattle.workload.specs.Ready.{IsLineGiven};
     ghost use Rattle.script_spec.specs.Workload.{lines_from};
 
     ghost Value = { List ℕ };
@@ -36,7 +36,7 @@ impl Model for Workload {
     ghost view = { λ w. drop w.given w.line ++ lines_from w.words.key w.words.word_pos w.lines };
 
     ghost invariant = { λ w.
-        IsReady (length w.line) w.given w.words.stream w.words.word_pos w.lines };
+        IsLineGiven (length w.line) w.given w.words.stream w.words.word_pos w.lines };
 }
 
 impl Workload {

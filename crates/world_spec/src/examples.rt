@@ -17,7 +17,7 @@ ghost use Rattle.world_spec.specs.World.{made_step, new_client, plain_step, worl
 ghost use Rattle.effect_spec.specs.Operands.{new_object};
 ghost use Rattle.history_spec.specs.Table.{is_full};
 ghost use Rattle.world_spec.specs.Legal.{Legal};
-ghost use Rattle.history_spec.specs.Told.{Told};
+ghost use Rattle.history_spec.specs.Told.{MayBeTold};
 ghost use Rattle.history_spec.specs.Examples.{get_random, full_reply, zero_persist, eight_reply};
 ghost use Rattle.history_spec.specs.Examples.{six_reply, four_reply, canceled_reply};
 ghost use Rattle.history_spec.specs.Examples.{canceled_before, canceled_first, plain_entry};
@@ -177,7 +177,7 @@ fn commands_are_canceled()
     ensures legal { Legal (zero_persist 4) 64 canceled_first }
     ensures world { world_of (zero_persist 4) 64 (take 2 canceled_first)
         ≡ world_with (zero_persist 4) 1 (new_client 0 ∷ []) }
-    ensures told { Told canceled_first (limit_of 8192) 0 1 (get_random 8) canceled_reply }
+    ensures told { MayBeTold canceled_first (limit_of 8192) 0 1 (get_random 8) canceled_reply }
     ensures above { Legal (zero_persist 0) 64 (open_entry 0 ∷ canceled_before 1 2 ∷ []) }
     ensures below { Legal (zero_persist 0) 64 (open_entry 0 ∷ canceled_before 2 1 ∷ []) → ⊥ }
     ensures other_reply { Legal (zero_persist 0) 64

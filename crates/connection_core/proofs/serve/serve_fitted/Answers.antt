@@ -1,7 +1,7 @@
 use Rattle.std.proofs.Common.{ℕ, Option, Some, refl, sym, subst}
 use Rattle.std.specs.Prelude.{IfSome}
 use Rattle.connection_core.specs.Keeps.{start_of}
-use Rattle.connection_core.specs.Links.{IsClosed}
+use Rattle.connection_core.specs.Links.{IsClosedLink}
 use Rattle.connection_core.proofs.Leaving.{not_none}
 use Rattle.connection_core.proofs.Taking.{keeps_first}
 use Rattle.connection_core.proofs.serve.serve_fitted.Goals as goal
@@ -33,7 +33,7 @@ returns g c =
     record {
       goes_on = served.goes_on;
       closed = subst (λ (o : Option ℕ). IfSome o
-          (λ client. IsClosed g.B.Recorded.legal end.ending end.pass client end.done
+          (λ client. IsClosedLink g.B.Recorded.legal end.ending end.pass client end.done
           (g.S.Source.left c.args.source) (g.S.Source.left end.source)
           (g.K.Sink.written c.args.sink) (g.K.Sink.written end.sink)
           (Some c.serve_open-end.result.1)))

@@ -16,7 +16,7 @@ returns-then-put_own-clause-told g c =
       λ persist.
           read_next (capabilities.asked_of c.args.params.now) asked
           (list_of (client_limits c.args.most) all_commands persist (g.H.Holdings.objects held) (g.H.Holdings.sessions held) c.args.active) c.in-Ok.ensures
-          ∙ ap (λ (l : capabilities.Limits). list_of l all_commands persist (g.H.Holdings.objects held) (g.H.Holdings.sessions held) c.args.active asked) (sym limits)
+          ∙ ap (λ (l : capabilities.CapabilityLimits). list_of l all_commands persist (g.H.Holdings.objects held) (g.H.Holdings.sessions held) c.args.active asked) (sym limits)
           ∙ row.1 persist,
       row.2,
     )

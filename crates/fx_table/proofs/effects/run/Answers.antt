@@ -1,7 +1,7 @@
 use Rattle.std.proofs.Common.{refl, sym, subst}
 use Rattle.std.proofs.lemmas.Result.{err_from_is_err_and}
 use Rattle.effect_spec.specs.Effect.{Effect}
-use Rattle.fx_table.specs.Views.{EndsAs, operands_of}
+use Rattle.fx_table.specs.Views.{LeavesEffect, operands_of}
 use Rattle.fx_table.proofs.Ends.{passes_by, undefined_by, unauthorized_by}
 use Rattle.fx_table.proofs.effects.run.Goals as goal
 
@@ -27,7 +27,7 @@ returns-in_err-check_authorization c =
 
 pub returns-then-shape : goal.returns-then-shape
 returns-then-shape c =
-    subst (λ (e : Effect). EndsAs c.run_with_sessions.result c.args.shape.now e c.args.persist.now c.run_with_sessions.new.persist (operands_of c.args.ops.now) (operands_of c.run_with_sessions.new.ops)
+    subst (λ (e : Effect). LeavesEffect c.run_with_sessions.result c.args.shape.now e c.args.persist.now c.run_with_sessions.new.persist (operands_of c.args.ops.now) (operands_of c.run_with_sessions.new.ops)
     c.run_with_sessions.new.reply)
     (sym (passes_by c.args.persist.now (operands_of c.args.ops.now) c.args.shape.now c.args.auths.now c.args.bytes.now c.handle.result c.handle-2.result (c.handle.ensures)
     (c.handle-2.ensures) c.in_ok-indexes_are_there.ensures c.in_ok-check_authorization.ensures))
@@ -35,7 +35,7 @@ returns-then-shape c =
 
 pub returns : goal.returns
 returns c =
-    subst (λ (e : Effect). EndsAs c.run_without_sessions.result c.args.shape.now e c.args.persist.now c.run_without_sessions.new.persist (operands_of c.args.ops.now) (operands_of c.run_without_sessions.new.ops) c.run_without_sessions.new.reply)
+    subst (λ (e : Effect). LeavesEffect c.run_without_sessions.result c.args.shape.now e c.args.persist.now c.run_without_sessions.new.persist (operands_of c.args.ops.now) (operands_of c.run_without_sessions.new.ops) c.run_without_sessions.new.reply)
     (sym (passes_by c.args.persist.now (operands_of c.args.ops.now) c.args.shape.now c.args.auths.now c.args.bytes.now c.handle.result c.handle-2.result (c.handle.ensures)
     (c.handle-2.ensures) c.in_ok-indexes_are_there.ensures c.in_ok-check_authorization.ensures))
     c.run_without_sessions.ensures

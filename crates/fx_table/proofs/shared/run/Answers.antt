@@ -2,7 +2,7 @@ use Rattle.std.proofs.Common.{refl, sym, subst, ◌∙◌}
 use Rattle.std.proofs.lemmas.Result.{err_from_is_err_and}
 use Rattle.effect_spec.specs.Effect.{Effect}
 use Rattle.effect_spec.specs.Operands.{plain_operands}
-use Rattle.fx_table.specs.Views.{EndsAlone}
+use Rattle.fx_table.specs.Views.{LeavesEffectAlone}
 use Rattle.fx_table.proofs.Ends.{passes_by, undefined_by, unauthorized_by}
 use Rattle.fx_table.proofs.PlainRows.{row_of_shared}
 use Rattle.fx_table.proofs.shared.run.Goals as goal
@@ -27,7 +27,7 @@ returns-in_err-check_password c =
 
 pub returns-then-shape : goal.returns-then-shape
 returns-then-shape c =
-    subst (λ (e : Effect). EndsAlone c.run_with_password.result c.args.shape.now e c.args.persist.now c.run_with_password.new.persist (plain_operands c.args.shape.now) c.run_with_password.new.reply)
+    subst (λ (e : Effect). LeavesEffectAlone c.run_with_password.result c.args.shape.now e c.args.persist.now c.run_with_password.new.persist (plain_operands c.args.shape.now) c.run_with_password.new.reply)
     (sym (passes_by c.args.persist.now (plain_operands c.args.shape.now) c.args.shape.now c.args.auths.now c.args.bytes.now c.plain_handle-first.result c.plain_handle-second.result
     c.plain_handle-first.ensures c.plain_handle-second.ensures c.in_ok-indexes_are_there.ensures c.in_ok-check_password.ensures
     ∙ row_of_shared c.args.persist.now c.args.shape.now c.args.auths.now c.args.bytes.now c.plain_handle-first.result c.plain_handle-second.result
@@ -36,7 +36,7 @@ returns-then-shape c =
 
 pub returns : goal.returns
 returns c =
-    subst (λ (e : Effect). EndsAlone c.run_without_password.result c.args.shape.now e c.args.persist.now c.run_without_password.new.persist (plain_operands c.args.shape.now) c.run_without_password.new.reply)
+    subst (λ (e : Effect). LeavesEffectAlone c.run_without_password.result c.args.shape.now e c.args.persist.now c.run_without_password.new.persist (plain_operands c.args.shape.now) c.run_without_password.new.reply)
     (sym (passes_by c.args.persist.now (plain_operands c.args.shape.now) c.args.shape.now c.args.auths.now c.args.bytes.now c.plain_handle-first.result c.plain_handle-second.result
     c.plain_handle-first.ensures c.plain_handle-second.ensures c.in_ok-indexes_are_there.ensures c.in_ok-check_password.ensures
     ∙ row_of_shared c.args.persist.now c.args.shape.now c.args.auths.now c.args.bytes.now c.plain_handle-first.result c.plain_handle-second.result

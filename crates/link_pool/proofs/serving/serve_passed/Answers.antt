@@ -2,7 +2,7 @@ use Rattle.std.proofs.Common.{ap, arith, refl, ◌∙◌}
 use Rattle.broker_lock.specs.Pass.{PassView}
 use Rattle.crossbeam_channel.specs.Claims.{view}
 use Rattle.link_pool.specs.Hands.{HandView}
-use Rattle.link_pool.specs.Starts.{Start}
+use Rattle.link_pool.specs.Starts.{PoolStart}
 use Rattle.link_pool.proofs.Coming.{keeps_first, left_within}
 use Rattle.link_pool.proofs.Finishing.{never_memory, serves_all, serves_nobody}
 use Rattle.link_pool.proofs.Parting.{server_first}
@@ -71,7 +71,7 @@ close-value-requires-clause-parts g c =
     omega (arith, c.end_all-ended.ensures.ended.parts, c.serve_as_needed-server.ensures.leaves.parts, ap (λ (p : PassView). p.parts) c.in-Ok-new.ensures.ok)
 
 pub returns-clause-name : goal.returns-clause-name
-returns-clause-name g c = c.end_all-ended.ensures.kept.same ∙ ap (λ (s : Start _). s.name) c.requires.begun
+returns-clause-name g c = c.end_all-ended.ensures.kept.same ∙ ap (λ (s : PoolStart _). s.name) c.requires.begun
 
 pub returns-clause-serves : goal.returns-clause-serves
 returns-clause-serves g c = record {

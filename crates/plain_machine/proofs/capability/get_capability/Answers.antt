@@ -2,7 +2,7 @@ use Rattle.std.proofs.Common.{◌≡◌, ◌∙◌, ℕ, List, Option, Ok, ap, s
 use Rattle.tab_spec.specs.declared.TheConstants.{RC_SUCCESS, ST_NO_SESSIONS, TRANSIENT_FIRST}
 use Rattle.tab_spec.specs.Commands.{all_commands}
 use Rattle.tab_laws.proofs.Responses.{response_ended}
-use Rattle.effect_spec.specs.Capabilities.{Limits, capability_of, transient_from}
+use Rattle.effect_spec.specs.Capabilities.{CapabilityLimits, capability_of, transient_from}
 use Rattle.fx_capability.specs.Views.{limits_of}
 use Rattle.world_spec.specs.World.{ClientState, active, client_capability, listed_sessions}
 use Rattle.plain_machine.specs.declared.sessions.Owned.{Owned}
@@ -24,7 +24,7 @@ returns-in-Ok-clause-ran c =
     c.active_count-active.ensures.count
     ∙ ap (λ (places : List (Option Owned)). active (owners_of places)) c.deref-2.ensures.value in
     let row : client_capability client state bytes ≡ Ok params =
-    ap (λ (l : Limits).
+    ap (λ (l : CapabilityLimits).
     capability_of l all_commands state.persist handles
     (listed_sessions client 0 state.sessions) (active state.sessions) bytes)
     (sym c.of_a_client-limits.ensures)

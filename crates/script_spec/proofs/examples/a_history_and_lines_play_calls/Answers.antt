@@ -2,18 +2,18 @@ use Rattle.std.proofs.Common.{◌≡◌, ◌+◌, ◌≤◌, ◌++◌, ℕ, cond
 use Rattle.std.specs.Fmt.{digits, decimal}
 use Rattle.hex.specs.Hex.{encode_lower}
 use Rattle.hex.proofs.OnLiterals.{hex_on_literals}
-use Rattle.script_spec.specs.Plays.{Holder, Stage, IsAnswered, reply_line}
+use Rattle.script_spec.specs.Plays.{LabelHolder, Stage, IsLabelAnswered, reply_line}
 use Rattle.history_spec.specs.Examples.{two_clients, eight_reply, six_reply, four_reply, get_random, plain_entry, limit_of}
 use Rattle.script_spec.proofs.examples.a_history_and_lines_play_calls.Goals as goal
 
-abbrev holders_0 : List Holder
+abbrev holders_0 : List LabelHolder
 holders_0 = record { label = 0; client = 0 } ∷ []
 
-abbrev holders_7 : List Holder
+abbrev holders_7 : List LabelHolder
 holders_7 = record { label = 7; client = 1 } ∷ []
 
 -- the first entries, and the lines of as many of the replies
-abbrev stage : ℕ → List Holder → List ℕ → Stage
+abbrev stage : ℕ → List LabelHolder → List ℕ → Stage
 stage entries holders output = record { history = take entries two_clients; holders = holders; output = output }
 
 pub returns-clause-whole : goal.returns-clause-whole
@@ -22,8 +22,8 @@ returns-clause-whole c =
     let line_1 : List ℕ = reply_line 0 eight_reply in
     let line_2 : List ℕ = line_1 ++ reply_line 7 six_reply in
     let line_3 : List ℕ = line_2 ++ reply_line 0 four_reply in
-    let both : List Holder = holders_0 ++ holders_7 in
-    let first : IsAnswered (limit_of 4618) (stage 1 holders_0 []) 0 1 (get_random 8) None (stage 2 holders_0 line_1) = record {
+    let both : List LabelHolder = holders_0 ++ holders_7 in
+    let first : IsLabelAnswered (limit_of 4618) (stage 1 holders_0 []) 0 1 (get_random 8) None (stage 2 holders_0 line_1) = record {
       client = 0;
       reply = eight_reply;
       known = refl;
@@ -32,7 +32,7 @@ returns-clause-whole c =
       output = refl;
       holders = refl;
     } in
-    let second : IsAnswered (limit_of 4618) (stage 3 both line_1) 7 1 (get_random 6) None (stage 4 both line_2) = record {
+    let second : IsLabelAnswered (limit_of 4618) (stage 3 both line_1) 7 1 (get_random 6) None (stage 4 both line_2) = record {
       client = 1;
       reply = six_reply;
       known = refl;
@@ -41,7 +41,7 @@ returns-clause-whole c =
       output = refl;
       holders = refl;
     } in
-    let third : IsAnswered (limit_of 4618) (stage 4 both line_2) 0 2 (get_random 4) None (stage 5 both line_3) = record {
+    let third : IsLabelAnswered (limit_of 4618) (stage 4 both line_2) 0 2 (get_random 4) None (stage 5 both line_3) = record {
       client = 0;
       reply = four_reply;
       known = refl;

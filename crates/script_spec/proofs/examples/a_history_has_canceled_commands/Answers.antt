@@ -1,7 +1,7 @@
 use Rattle.std.proofs.Common.{◌≡◌, ◌+◌, ◌++◌, ℕ, cond, eqb, List, [], ◌∷◌, take, Option, Some, None, refl, ap, ◌∙◌, arith, inl, inr}
 use Rattle.std.specs.Fmt.{digits}
 use Rattle.hex.proofs.OnLiterals.{hex_on_literals}
-use Rattle.script_spec.specs.Plays.{Holder, Stage, IsAnswered, IsCommandKind, IsKindOf, MayAddEntry, reply_line}
+use Rattle.script_spec.specs.Plays.{LabelHolder, Stage, IsLabelAnswered, IsCommandKind, IsKindOf, MayAddEntry, reply_line}
 use Rattle.history_spec.specs.declared.EntryKind.{EntryKind}
 use Rattle.history_spec.specs.declared.EntryKind.TheVariants.{Open, Command, Canceled, Fault, Close}
 use Rattle.history_spec.specs.Entry.{Entry, close_entry}
@@ -11,11 +11,11 @@ use Rattle.script_spec.proofs.examples.a_history_has_canceled_commands.Goals as 
 abbrev history : List Entry
 history = canceled_first ++ close_entry 0 ∷ []
 
-abbrev holders_0 : List Holder
+abbrev holders_0 : List LabelHolder
 holders_0 = record { label = 0; client = 0 } ∷ []
 
 -- the first entries, and the lines of as many of the replies
-abbrev stage : ℕ → List Holder → List ℕ → Stage
+abbrev stage : ℕ → List LabelHolder → List ℕ → Stage
 stage entries holders output = record { history = take entries history; holders = holders; output = output }
 
 pub returns-clause-whole : goal.returns-clause-whole
@@ -23,7 +23,7 @@ unfolding hex_on_literals digits
 returns-clause-whole c =
     let line_1 : List ℕ = reply_line 0 canceled_reply in
     let line_2 : List ℕ = line_1 ++ reply_line 0 four_reply in
-    let first : IsAnswered (limit_of 8192) (stage 1 holders_0 []) 0 1 (get_random 8) (Some 1) (stage 2 holders_0 line_1) = record {
+    let first : IsLabelAnswered (limit_of 8192) (stage 1 holders_0 []) 0 1 (get_random 8) (Some 1) (stage 2 holders_0 line_1) = record {
       client = 0;
       reply = canceled_reply;
       known = refl;
@@ -32,7 +32,7 @@ returns-clause-whole c =
       output = refl;
       holders = refl;
     } in
-    let second : IsAnswered (limit_of 8192) (stage 2 holders_0 line_1) 0 2 (get_random 4) None (stage 3 holders_0 line_2) = record {
+    let second : IsLabelAnswered (limit_of 8192) (stage 2 holders_0 line_1) 0 2 (get_random 4) None (stage 3 holders_0 line_2) = record {
       client = 0;
       reply = four_reply;
       known = refl;

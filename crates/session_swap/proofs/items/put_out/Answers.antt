@@ -5,7 +5,7 @@ use Rattle.session_swap.specs.declared.record.Place.TheVariants as places
 use Rattle.session_swap.specs.declared.record.Record.{Record}
 use Rattle.device_spec.specs.ContextCommands.{context_save_command}
 use Rattle.session_swap.specs.Items.{item_at}
-use Rattle.session_swap.specs.Moves.{Stays}
+use Rattle.session_swap.specs.Moves.{NothingMoves}
 use Rattle.session_swap.specs.Records.{handed_of, items_of, view_of}
 use Rattle.session_swap.proofs.Moved.{IsLike, items_loaded, keeps_by, keeps_reply, keeps_same, last_context, loaded_at, next_is, place_freed, records_loaded, records_set, replies_of, items_set, saved_keeps, saves, sent_out, swaps_from, unsaved_item}
 use Rattle.device_port.proofs.Sending.{asks_failed, asks_ok}
@@ -51,7 +51,7 @@ returns-in_err-context-clause-err g c =
     let like : IsLike n r = record { client = refl; handle = refl; place = refl; handed = refl } in
     let at = loaded_at records c.args.number c.index-records-number.result c.requires.ready.2.sound c.requires.loaded in
     let left = c.in_err-context.ensures in
-    let stays : Stays (g.D.Device.seen c.args.device.now).state (g.D.Device.seen c.save.new.device).state (items_of records)
+    let stays : NothingMoves (g.D.Device.seen c.args.device.now).state (g.D.Device.seen c.save.new.device).state (items_of records)
     (items_of (set records c.args.number n)) =
     record { items_are = items_loaded records c.args.number n r at like; state_is = left.asks.err } in
     on_err_whole c.from_residual.result _ (stays, refl)

@@ -144,21 +144,21 @@ returns-in-Ok-clause-closes g c = record {
 pub returns-in-Err-clause-closes : goal.returns-in-Err-clause-closes
 returns-in-Err-clause-closes g c =
     let sent = c.in-Err.ensures.drops.disowns.sent in record {
-  closed = (
-    c.enter_close.ensures.entered ∙ ap (λ (v : BrokerView g.row.D.Denot). v.journal ++ close_entry c.args.client ∷ []) c.self.view_is,
-    c.close-list.ensures.items ∙ ap (λ (v : BrokerView g.row.D.Denot). set v.tables c.args.client []) c.self.view_is,
-  );
-  answer = search rules;
-  unsent = search rules;
-  left = search rules;
-  more = search rules;
-  sessions = record {
-    others = search rules;
-    left = λ told. absurd (told refl);
-    behind = behind_from _ c.self.view_is (leaves_them g.D.Device.CONTEXTS sent.sent _ _ sent.flushed);
-  };
-  keeps = search rules;
-  costs = search rules;
-  sent = sent_from c.self.view_is c.in-Err.ensures.drops.disowns.sent;
-  fixed = search rules;
-}
+      closed = (
+        c.enter_close.ensures.entered ∙ ap (λ (v : BrokerView g.row.D.Denot). v.journal ++ close_entry c.args.client ∷ []) c.self.view_is,
+        c.close-list.ensures.items ∙ ap (λ (v : BrokerView g.row.D.Denot). set v.tables c.args.client []) c.self.view_is,
+      );
+      answer = search rules;
+      unsent = search rules;
+      left = search rules;
+      more = search rules;
+      sessions = record {
+        others = search rules;
+        left = λ told. absurd (told refl);
+        behind = behind_from _ c.self.view_is (leaves_them g.D.Device.CONTEXTS sent.sent _ _ sent.flushed);
+      };
+      keeps = search rules;
+      costs = search rules;
+      sent = sent_from c.self.view_is c.in-Err.ensures.drops.disowns.sent;
+      fixed = search rules;
+    }

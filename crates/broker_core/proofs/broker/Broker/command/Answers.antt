@@ -15,7 +15,7 @@ use Rattle.device_port.specs.Own.{HasCause}
 use Rattle.history_spec.specs.declared.Pick.TheVariants.{Nothing}
 use Rattle.history_spec.specs.Entry.{Entry, HasRoom, command_entry, fault_entry, IsOpen, IsNextNumber}
 use Rattle.broker_core.specs.Broker.{BrokerView, Holds, IsAdmitted, TellsNoRoom}
-use Rattle.client_machine.specs.Moves.{FailsAtLast, MayMove, pick_of}
+use Rattle.client_machine.specs.Moves.{FailsAtLast, MayBegin, pick_of}
 use Rattle.client_machine.specs.Settled.{orphan_count}
 use Rattle.client_machine.specs.Tables.{owned_handles, tables_seen}
 use Rattle.broker_core.proofs.Entering.{costs_admitted, entered_carried, entered_faulted, entered_refused, entered_seen, context_now, left_more, long_now, made_by, owners_more, told_unentered, view_entered, admitted_read}
@@ -150,7 +150,7 @@ answer-requires-clause-may g c = record {
   moves =
       let are = are_more _ _ c.reserve.ensures.items in
       let is_held = with_items_is c.self.inside.machine.held c.reserve.new.self.held c.reserve.ensures.same.1 c.reserve.ensures.same.2 in
-      subst (λ (d : _). MayMove 2000 g.D.Device.CONTEXTS g.D.Device.seen d c.reserve.new.self.held) (sym c.reserve.ensures.same.0)
+      subst (λ (d : _). MayBegin 2000 g.D.Device.CONTEXTS g.D.Device.seen d c.reserve.new.self.held) (sym c.reserve.ensures.same.0)
       (moves_now g.D.Device.seen c.self.inside.machine.device c.reserve.new.self.held.objects.items (g.met.D.Device.told_together c.self.inside.machine.device) c.self.invariant.0 are is_held);
 }
 

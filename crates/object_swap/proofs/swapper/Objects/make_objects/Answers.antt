@@ -5,7 +5,7 @@ use Rattle.tab_spec.specs.declared.contexts.ContextLimits.{ContextLimits}
 use Rattle.device_spec.specs.Slots.{slot_of}
 use Rattle.object_swap.specs.declared.record.Record.{Record}
 use Rattle.object_swap.specs.Items.{AreThere, Item, KeepsSlots, MakesRoom, ObjectsView, Stand, owners, pending_of, residents}
-use Rattle.object_swap.specs.Records.{AreRecords, Holds, ListsResidents, items_of, view_with}
+use Rattle.object_swap.specs.Records.{AreRecords, ListsResidents, ObjectsHold, items_of, view_with}
 use Rattle.object_swap.proofs.Owned.{owned_again}
 use Rattle.object_swap.proofs.Costs.{on_ok_with}
 use Rattle.object_swap.proofs.Missing.{listed_residents}
@@ -66,7 +66,7 @@ invariant_of-self g c =
     let whole = written_back records c.deref_mut.result.now new inside.records.len old (omega arith) same in
     let again = same ∙ ap (λ (l : List Record). owners (items_of l)) old in
     let none = no_handles inside.left.items (ap (λ (v : ObjectsView). v.left) c.self.view_is ∙ c.requires.nobodys) in
-    subst (λ (l : List Record). Holds inside.contexts l inside.lists inside.owners.owners inside.vacant c.swap_objects.new.loaded.items inside.left.items
+    subst (λ (l : List Record). ObjectsHold inside.contexts l inside.lists inside.owners.owners inside.vacant c.swap_objects.new.loaded.items inside.left.items
     (vec_capacity c.swap_objects.new.loaded) (vec_capacity inside.left) inside.slots) (sym whole)
     (record {
       owned = owned_again (items_of records) inside.lists inside.owners.owners inside.vacant c.self.invariant.owned (items_of new) again

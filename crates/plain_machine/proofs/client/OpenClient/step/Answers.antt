@@ -3,7 +3,7 @@ use Rattle.std.specs.Prelude.{Err, Ok}
 use Rattle.tab_spec.specs.Admission.{Tables, client_admitted}
 use Rattle.world_spec.specs.World.{Client, ClientState, ClientStep, client_step, refused_step, tables_of}
 use Rattle.plain_machine.specs.Owners.{owners_of}
-use Rattle.plain_machine.specs.Views.{Ran, objects_of, state_of}
+use Rattle.plain_machine.specs.Views.{StepRan, objects_of, state_of}
 use Rattle.plain_machine.proofs.Admitted.{bare, has_room, seen_tables}
 use Rattle.plain_machine.proofs.Loading.{room_to_load}
 use Rattle.plain_machine.proofs.Running.{admitted_runs, nothing_refused, refused_runs}
@@ -44,8 +44,8 @@ returns-in-Ok-clause-ran c =
     let is : client_admitted (tables_of client state) command ≡ Ok c.in-Ok.admitted =
     ap (λ (t : Tables). client_admitted t command) tables ∙ sym c.in-Ok.ensures.value in
     let after : ClientStep = (state_of c.run.new.shared (objects_of c.run.new.places.items), c.run.new.reply) in
-    subst (λ (v : Client). Ran c.run.result (client_step v.number (state_of c.args.shared.now v.objects) command c.args.pick) after) c.self.view_is
-    (subst (λ (step : Option ClientStep). Ran c.run.result step after)
+    subst (λ (v : Client). StepRan c.run.result (client_step v.number (state_of c.args.shared.now v.objects) command c.args.pick) after) c.self.view_is
+    (subst (λ (step : Option ClientStep). StepRan c.run.result step after)
     (sym (admitted_runs client state command c.in-Ok.admitted c.args.pick is)) c.run.ensures.ran)
 
 pub run-requires-clause-loads : goal.run-requires-clause-loads

@@ -4,7 +4,7 @@ use Rattle.world_spec.specs.World.{ClientState, World, plain_step}
 use Rattle.plain_machine.specs.declared.step_error.StepError.TheVariants.{PickRefused}
 use Rattle.plain_machine.specs.Clients.{is_open_in, place_in}
 use Rattle.plain_machine.specs.Owners.{owners_of}
-use Rattle.plain_machine.specs.Views.{Ran, state_of}
+use Rattle.plain_machine.specs.Views.{StepRan, state_of}
 use Rattle.plain_machine.proofs.OpenClients.{open_within, ran_of, same_open, told_ok, told_refused, world_left}
 use Rattle.plain_machine.proofs.world.World.step.Goals as goal
 
@@ -42,7 +42,7 @@ returns-clause-ok c =
     } in
     let left : ClientState = state_of c.step.new.shared (c.step.new.self).objects in
     let after : World × List ℕ = (world_left before left (set clients place c.step.new.self), c.step.new.reply) in
-    let ran : Ran c.step.result (plain_step before client command c.args.pick) after =
+    let ran : StepRan c.step.result (plain_step before client command c.args.pick) after =
     ran_of c.step.result before client place command c.args.pick left c.index_mut.result.now c.step.new.self c.step.new.reply
     there at c.index_mut.ensures.value c.step.ensures.number refl c.step.ensures.ran in
     subst (λ (w : World). OnOk c.step.result (plain_step w client command c.args.pick ≡ Some after)) c.self.view_is
@@ -71,7 +71,7 @@ returns-clause-refused c =
     } in
     let left : ClientState = state_of c.step.new.shared (c.step.new.self).objects in
     let after : World × List ℕ = (world_left before left (set clients place c.step.new.self), c.step.new.reply) in
-    let ran : Ran c.step.result (plain_step before client command c.args.pick) after =
+    let ran : StepRan c.step.result (plain_step before client command c.args.pick) after =
     ran_of c.step.result before client place command c.args.pick left c.index_mut.result.now c.step.new.self c.step.new.reply
     there at c.index_mut.ensures.value c.step.ensures.number refl c.step.ensures.ran in
     subst (λ (w : World). (c.step.result ≡ Err PickRefused) ↔ (plain_step w client command c.args.pick ≡ None)) c.self.view_is

@@ -9,7 +9,7 @@ use Rattle.script_spec.specs.Calls.{bad_size, closing}
 use Rattle.script_spec.specs.Plays.{reply_line}
 use Rattle.script_lines.specs.Labels.{LabelsView}
 use Rattle.script_player.specs.declared.stop.Stop.{Stop}
-use Rattle.script_player.specs.Stops.{WroteFront, StoppedIn}
+use Rattle.script_player.specs.Stops.{CutsLastLine, StoppedIn}
 use Rattle.script_player.proofs.Relabeling.{is_label}
 use Rattle.script_player.proofs.Playing.{leads_on, leads_bad}
 use Rattle.tab_laws.proofs.Outcomes.{if_err_weaker}
@@ -25,7 +25,7 @@ returns-in_err-write_reply-clause-stopped g c =
     let labels = c.args.self.now.labels.present in
     let history = (g.B.Recorded.history c.args.self.now.value) in
     let wrong = (g.B.Recorded.wrong c.args.self.now.value) in
-    let front = subst (λ (reply : List ℕ). WroteFront (reply_line c.args.label reply) written written_new) c.error_reply.ensures c.in_err-write_reply.ensures.front in
+    let front = subst (λ (reply : List ℕ). CutsLastLine (reply_line c.args.label reply) written written_new) c.error_reply.ensures c.in_err-write_reply.ensures.front in
     let stopped = stopped_bad (limits_of (g.B.Recorded.fixed c.args.self.now.value)) (g.O.Sink.faults c.write_reply.new.output) labels history c.args.label found.0 written written_new wrong found.1 front in
     rw failed.1 (rw (c.write_reply.ensures.labels, c.write_reply.ensures.value)
     (subst (λ (stop : Stop). StoppedIn (limits_of (g.B.Recorded.fixed c.args.self.now.value)) stop (bad_size c.args.label ∷ closing c.args.label ∷ []) labels history labels history written written_new wrong) (sym (failed.2 ∙ c.in_err-write_reply.ensures.err.0)) stopped))

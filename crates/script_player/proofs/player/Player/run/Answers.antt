@@ -8,7 +8,7 @@ use Rattle.script_spec.specs.Plays.{reply_line}
 use Rattle.script_lines.specs.Labels.{counted, replaced}
 use Rattle.script_player.specs.declared.stop.Stop.{Stop}
 use Rattle.script_player.specs.declared.stop.Stop.TheVariants as stops
-use Rattle.script_player.specs.Stops.{WroteFront, StoppedIn}
+use Rattle.script_player.specs.Stops.{CutsLastLine, StoppedIn}
 use Rattle.tab_laws.proofs.Outcomes.{if_err_weaker}
 use Rattle.script_player.proofs.Relabeling.{some_label, found_by_name, is_found}
 use Rattle.script_player.proofs.Entries.{told_of_label}
@@ -72,7 +72,7 @@ returns-in_err-write_reply-clause-stopped g c =
     let count = c.count-client.ensures x found in
     let name = (is_found c.args.self.now.labels.present c.args.label x found).label_is in
     let told = told_of_label (g.B.Recorded.fixed c.args.self.now.value) c.answer-told.result (g.B.Recorded.history c.args.self.now.value) (g.B.Recorded.history c.answer-told.new.self.value) c.count-client.result x.client (x.commands + 1) c.args.upto c.cover-covered.result c.args.self.now.frame c.answer-told.new.self.reply count.0 c.cover-covered.ensures c.answer-told.ensures.run c.answer-told.ensures.told in
-    let front = subst (λ (l : ℕ). WroteFront (reply_line l c.answer-told.new.self.reply) written written_new) (sym name) c.in_err-write_reply.ensures.front in
+    let front = subst (λ (l : ℕ). CutsLastLine (reply_line l c.answer-told.new.self.reply) written written_new) (sym name) c.in_err-write_reply.ensures.front in
     let stopped = stopped_told (limits_of (g.B.Recorded.fixed c.args.self.now.value)) c.answer-told.result (stops.Output (g.O.Sink.faults c.write_reply.new.output)) c.args.self.now.labels (g.B.Recorded.history c.args.self.now.value) (g.B.Recorded.history c.answer-told.new.self.value) x c.args.self.now.frame (cover c.args.upto (x.commands + 1)) c.answer-told.new.self.reply
     written written_new (g.B.Recorded.wrong c.answer-told.new.self.value) told c.answer-told.ensures.wrong c.requires.ready.fits (found_by_name _ _ _ found) (λ last some is. some) (λ none is. absurd cc) front in
     let of_label = subst (λ (l : ℕ). StoppedIn (limits_of (g.B.Recorded.fixed c.args.self.now.value)) (stops.Output (g.O.Sink.faults c.write_reply.new.output)) (run_command l (x.commands + 1) c.args.self.now.frame (cover c.args.upto (x.commands + 1)) ∷ []) c.args.self.now.labels.present (g.B.Recorded.history c.args.self.now.value)

@@ -3,7 +3,7 @@ use Rattle.std.proofs.Common.{◌≡◌, ◌+◌, ◌≤◌, ◌<◌, ◌/◌, �
 use Rattle.std.specs.Prelude.{set, get_or}
 use Rattle.history_spec.specs.Table.{is_full, least_free, put_least}
 use Rattle.virtual_handles.specs.View.{TableView}
-use Rattle.virtual_handles.specs.Blocks.{Counted}
+use Rattle.virtual_handles.specs.Blocks.{PlacesAreCounted}
 use Rattle.virtual_handles.proofs.Kept.{few_held, room_for_one, count_most, counted_put}
 use Rattle.virtual_handles.proofs.table.ClientTable.add.Goals as goal
 
@@ -38,8 +38,8 @@ invariant_of-self c =
     let open_still : is_full c.self.inside.places.items ≡ false = subst (λ (v : TableView). is_full v.items ≡ false) (sym c.self.view_is) c.requires.open in
     let number : c.first_free-number.result ≡ least_free c.self.inside.places.items = c.first_free-number.ensures.least ∙ ap least_free c.deref.ensures.value in
     let taken_after : ℕ → List ℕ = λ n. set c.self.inside.taken (n / 64) (get_or c.self.inside.taken (n / 64) 0 + 1) in
-    subst (λ (places : List (Option ℕ)). Counted places (taken_after c.first_free-number.result) (c.self.inside.held + 1)) (sym c.put.ensures.items)
-    (subst (λ (n : ℕ). Counted (put_least c.args.item c.self.inside.places.items) (taken_after n) (c.self.inside.held + 1)) (sym number)
+    subst (λ (places : List (Option ℕ)). PlacesAreCounted places (taken_after c.first_free-number.result) (c.self.inside.held + 1)) (sym c.put.ensures.items)
+    (subst (λ (n : ℕ). PlacesAreCounted (put_least c.args.item c.self.inside.places.items) (taken_after n) (c.self.inside.held + 1)) (sym number)
     (counted_put c.args.item c.self.inside.places.items c.self.inside.taken c.self.inside.held c.self.invariant c.self.told
     (few_held c.self.inside.places.items c.self.inside.taken c.self.inside.held c.self.invariant open_still)))
 
