@@ -1,18 +1,18 @@
 //! Worked examples: what the definitions of `broker_core` make of them, and what they refuse.
 
 ghost use Rattle.std.specs.Prelude.{◌≡◌, [], ◌∷◌, true, false, Some, None, Ok, Err, replicate, set};
-ghost use Rattle.tab_spec.specs.Examples.{bytes_of, frame};
+ghost use Rattle.tab_examples.specs.Examples.{bytes_of, frame};
 ghost use Rattle.tab_spec.specs.declared.contexts.TheConstants.{PROFILE_CONTEXTS};
-ghost use Rattle.device_spec.specs.Examples.{device_at};
+ghost use Rattle.device_examples.specs.Examples.{device_at};
 ghost use Rattle.device_spec.specs.Slots.{with_slot};
 ghost use Rattle.history_spec.specs.Examples.{two_clients, zero_persist};
-ghost use Rattle.world_spec.specs.Examples.{a_key, begun_policy, first_context};
+ghost use Rattle.world_examples.specs.Examples.{a_key, begun_policy, first_context};
 ghost use Rattle.world_spec.specs.World.{load_parameters, world_of};
-ghost use Rattle.broker_core.specs.Examples.{asked, first_table, handed_session, handed_sessions};
-ghost use Rattle.broker_core.specs.Examples.{held_beside, held_with, left_sessions};
-ghost use Rattle.broker_core.specs.Examples.{nobodys_session};
-ghost use Rattle.broker_core.specs.Examples.{one_session_world, second_table, three_items};
-ghost use Rattle.broker_core.specs.Examples.{two_session_device, two_sessions};
+ghost use Rattle.broker_tests.specs.Examples.{asked, first_table, handed_session, handed_sessions};
+ghost use Rattle.broker_tests.specs.Examples.{held_beside, held_with, left_sessions};
+ghost use Rattle.broker_tests.specs.Examples.{nobodys_session};
+ghost use Rattle.broker_tests.specs.Examples.{one_session_world, second_table, three_items};
+ghost use Rattle.broker_tests.specs.Examples.{two_session_device, two_sessions};
 ghost use Rattle.client_machine.specs.Listing.{sessions_had};
 ghost use Rattle.client_machine.specs.Moves.{told_sequence};
 ghost use Rattle.client_machine.specs.Replies.{given_back, own_capability, with_given};

@@ -4,7 +4,6 @@
 #![tactic(auto)]
 
 mod contexts;
-mod examples;
 mod laws;
 mod sessions;
 

@@ -19,7 +19,7 @@ use tab_spec::{
     RC_JOURNAL_FULL, RC_MEMORY, RC_OBJECT_MEMORY, RC_REFERENCE_H0, RC_REFERENCE_S0,
     RC_SESSION_MEMORY, RC_SUCCESS, SESSION_NUMBERS, ST_NO_SESSIONS, ST_SESSIONS,
 };
-use tab_values::{read_context, read_sized};
+use tab_fields::{read_context, read_sized};
 use tab_wire::{code_of, is_saved_object, is_session_handle, octet_of, row_of, tag_of};
 
 /// Whether a broker takes a response as the answer to the command that it sent to a device with

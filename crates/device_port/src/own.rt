@@ -15,7 +15,7 @@ use crate::answers::takes;
 use crate::device::{Device, DeviceFailed};
 use tab_bytes::Buffer;
 use tab_spec::{CC_CONTEXT_LOAD, HEADER_BYTES, ST_NO_SESSIONS};
-use tab_values::SmallBytes;
+use tab_fields::SmallBytes;
 
 /// Why a call over the device failed.
 #[derive(Clone, Copy)]

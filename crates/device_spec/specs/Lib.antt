@@ -3,4 +3,3 @@ pub mod Numbers
 pub mod Answers
 pub mod ContextCommands
 pub mod Remains
-pub mod Examples

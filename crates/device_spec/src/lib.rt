@@ -13,5 +13,3 @@ pub const PT_ACTIVE_SESSIONS_MAX: u32 = 0x111;
 
 /// How far apart the numbers of session contexts may be.
 pub const PT_CONTEXT_GAP_MAX: u32 = 0x114;
-
-mod examples;

@@ -10,5 +10,3 @@ pub mod SessionAuths
 pub mod Rows
 pub mod Effect
 pub mod Capabilities
-pub mod Examples
-pub mod SessionExamples

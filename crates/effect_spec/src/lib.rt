@@ -2,8 +2,6 @@
 //! name, and in which bytes they answer. Definitions alone, which contracts cite.
 #![tactic(auto)]
 
-mod examples;
-
 /// The most bytes of parameters that the row of a command appends to a response (the project's own
 /// bound: NV_Read has the most, a TPM2B of 2,048 bytes).
 pub const MOST_PARAMETER_BYTES: u32 = 2060;

@@ -4,7 +4,7 @@ ghost use Rattle.std.specs.Fmt.{decimal};
 ghost use Rattle.tab_server.specs.Counts.{counts_line};
 
 use audit_journal::Journal;
-use tab_values::SmallBytes;
+use tab_fields::SmallBytes;
 
 // The line of counts: connections, entries of the journal, commands that were answered, commands
 // that were canceled, and commands that failed.

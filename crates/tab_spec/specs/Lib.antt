@@ -14,5 +14,3 @@ pub mod Object
 pub mod Session
 pub mod NvIndex
 pub mod Persist
-pub mod Examples
-pub mod SessionExamples

@@ -4,7 +4,6 @@
 #![tactic(auto)]
 
 mod contexts;
-mod examples;
 mod numbers;
 
 pub use contexts::{ContextLimits, PROFILE_CONTEXTS, TPM_CONTEXTS};

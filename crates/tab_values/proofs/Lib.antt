@@ -1,4 +1,3 @@
-mod Trimming
 mod Writing
 mod Places
 mod Stream

@@ -1,10 +1,9 @@
 -- Which value a struct is.
-use Rattle.std.specs.Prelude.{◌≡◌, ℕ, List, Result, Ok, Err}
 use Rattle.tab_spec.specs.Values as values
-use Rattle.tab_spec.specs.Values.{Reading}
 use Rattle.tab_spec.specs.NvIndex as nv_index
 use Rattle.tab_spec.specs.Object as object
 use Rattle.tab_spec.specs.Session as session
+pub use Rattle.tab_fields.specs.Taking.{TookValue}
 use Rattle.tab_values.specs.declared.public.Public.{Public}
 use Rattle.tab_values.specs.declared.public.NvPublic.{NvPublic}
 use Rattle.tab_values.specs.declared.public.Sensitive.{Sensitive}
@@ -40,8 +39,3 @@ sensitive_of s = record { auth = s.auth; content = s.content }
 
 abbrev pub selection_of : PcrSelection → values.PcrSelection
 selection_of s = record { bits = s.bits }
-
--- what was read is this value, and what is left; of a fault the code alone
-abbrev pub TookValue : {X Y : Type 0} → (X → Y) → Result X ℕ → List ℕ → Reading Y → Type 0
-TookValue shown (Ok value) left reading = reading ≡ Ok (shown value, left)
-TookValue shown (Err code) left reading = reading ≡ Err code

@@ -1,8 +1,8 @@
 //! Values of TPM 2.0 as this profile has them: public areas, secrets, NV indexes, selections of
-//! PCRs, objects, sessions, the fields of their contexts, and what a device keeps.
+//! PCRs, objects, sessions, and what a device keeps. The fields of these, and of their contexts,
+//! are those of `tab_fields`.
 #![tactic(auto)]
 
-mod context;
 mod digest;
 mod fields;
 mod nv_index;
@@ -12,14 +12,11 @@ mod persist;
 mod public;
 mod selection;
 mod session;
-mod small_bytes;
 
-pub use context::{Context, read_context};
 pub use digest::selected_digest;
-pub use fields::{add_sized, put_sized, read_auth, read_sized, read_sized_exactly, without_zeros};
 pub use nv_index::NvIndex;
 pub use object::{Object, object_octets, read_object};
-pub use parameters::{Parameters, end_parameters, in_handle, in_parameter};
+pub use parameters::Parameters;
 pub use persist::{Persist, draw};
 pub use public::{
     NvPublic, Public, Sensitive, makes_secret, nv_public_octets, public_octets, signs,
@@ -27,5 +24,8 @@ pub use public::{
 };
 pub use selection::{PcrSelection, is_selected, selection_octets, write_selection};
 pub use session::{Session, is_set_to_another, read_session, session_octets};
-pub use small_bytes::SmallBytes;
+pub use tab_fields::{
+    Context, SmallBytes, add_sized, end_parameters, in_handle, in_parameter, put_sized, read_auth,
+    read_context, read_sized, read_sized_exactly, without_zeros,
+};
 pub use tab_spec::{AuthNeeded, OBJECT_USER_WITH_AUTH as USER_WITH_AUTH, SessionKind};

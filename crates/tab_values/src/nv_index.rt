@@ -3,7 +3,7 @@ ghost use Rattle.tab_spec.specs.NvIndex as nv_index;
 ghost use Rattle.tab_values.specs.Views.{nv_index_of};
 
 use crate::public::NvPublic;
-use crate::small_bytes::SmallBytes;
+use tab_fields::SmallBytes;
 use tab_spec::{NV_COUNTER, NV_TYPE, NV_WRITTEN};
 
 /// An NV index (Part 1, "NV Memory"): its public area, its auth value, and its bytes, at most

@@ -1,14 +1,13 @@
 ghost use Rattle.std.specs.Prelude.{◌≡◌, ◌<◌, bytes_eq, IfErr};
 ghost use Rattle.tab_spec.specs.Object.{object_of, object_bytes};
 ghost use Rattle.tab_spec.specs.Values.{sized_within, require, without_zeros};
+ghost use Rattle.tab_fields.specs.Taking.{Took, TookValue};
 ghost use Rattle.tab_values.specs.Views as shown;
-ghost use Rattle.tab_values.specs.Views.{TookValue};
-ghost use Rattle.tab_values.specs.Taking.{Took};
 
-use crate::fields::{add_sized, read_sized_exactly, sized_within, without_zeros};
+use crate::fields::sized_within;
 use crate::public::{Public, public_octets, read_sized_public};
-use crate::small_bytes::SmallBytes;
 use tab_bytes::Reader;
+use tab_fields::{SmallBytes, add_sized, read_sized_exactly, without_zeros};
 use tab_spec::RC_SIZE;
 
 /// An object as a device holds it (Part 1, "Object Structure Elements"): its public area, its auth

@@ -3,49 +3,18 @@ ghost use Rattle.std.specs.Prelude.{IfOk, IfErr, MatchResult};
 ghost use Rattle.tab_spec.specs.Values.{number8, number16, number32, sized, require, enclosed};
 ghost use Rattle.tab_spec.specs.Values.{auth_of, public_of, nv_public_of, sensitive_of};
 ghost use Rattle.tab_spec.specs.Values.{selection_of, is_policy, is_nv_size};
+ghost use Rattle.tab_spec.specs.declared.TheConstants.{RC_P, RC_1};
 ghost use Rattle.tab_values.specs.Taking.{TookParameter};
 ghost use Rattle.tab_values.specs.Views as shown;
 
-use crate::fields::read_auth;
 use crate::public::{
     NvPublic, Public, Sensitive, read_sized_nv_public, read_sized_public, read_sized_sensitive,
 };
 use crate::selection::{PcrSelection, read_selection};
-use crate::small_bytes::SmallBytes;
 use std::marker::Model;
 use tab_bytes::Reader;
-use tab_spec::{RC_1, RC_INSUFFICIENT, RC_P, RC_SIZE};
-
-/// The response code of a fault of the parameter with this number, from 1, by its bare code (Part
-/// 2, "Format-One Response Codes").
-pub fn in_parameter(number: u32, code: u32) -> u32
-    requires number { number ≤ 7 }
-    requires bare { code < 256 }
-    ensures { result ≡ code + RC_P + RC_1 * number }
-{
-    code + RC_P + RC_1 * number
-}
-
-/// The response code of a fault of the handle with this number, from 1, by its bare code (Part 2,
-/// "Format-One Response Codes").
-pub fn in_handle(number: u32, code: u32) -> u32
-    requires number { number ≤ 7 }
-    requires bare { code < 256 }
-    ensures { result ≡ code + RC_1 * number }
-{
-    code + RC_1 * number
-}
-
-/// Tests that nothing follows the last parameter. The error is SIZE, of no parameter.
-pub fn end_parameters(r: &Reader) -> Result<(), u32>
-    ensures { MatchResult result (λ u. length r.now ≡ 0)
-        (λ code. (length r.now ≢ 0) × (code ≡ RC_SIZE)) }
-{
-    if r.rest().is_empty() {
-        return Ok(());
-    }
-    Err(RC_SIZE)
-}
+use tab_fields::{SmallBytes, end_parameters, in_parameter, read_auth};
+use tab_spec::{RC_INSUFFICIENT, RC_SIZE};
 
 /// The parameters of a command, read one after the other (Part 3, "Command Tables"). It numbers
 /// them itself, from 1, so each error is the response code with the number of its parameter:

@@ -8,12 +8,12 @@ ghost use Rattle.tab_spec.specs.Persist.{fresh_persist, drawn, with_pcr};
 ghost use Rattle.tab_values.specs.Views.{nv_index_of};
 
 use crate::nv_index::NvIndex;
-use crate::small_bytes::SmallBytes;
 use rand_chacha::ChaCha20Rng;
 use rand_core::SeedableRng;
 use rand_core::utils::fill_bytes_via_u32;
 use std::alloc::{AllocError, Global};
 use std::marker::Model;
+use tab_fields::SmallBytes;
 use tab_spec::{LAST_PLACE, NV_INDEXES, PCRS, RC_FAILURE};
 
 /// What a device keeps, whatever is loaded: the seed of its random stream and the place in it, the

@@ -4,15 +4,12 @@ ghost use Rattle.tab_spec.specs.Values.{makes_secret, public_of, public_bytes, e
 ghost use Rattle.tab_spec.specs.Values.{sized_bytes, nv_public_of, nv_public_bytes, sensitive_of};
 ghost use Rattle.tab_spec.specs.Values.{word_bytes, are_attributes, are_nv_attributes, is_nv_size};
 ghost use Rattle.tab_spec.specs.Values.{is_policy, signs, words, parameter_words};
+ghost use Rattle.tab_fields.specs.Taking.{TookValue};
 ghost use Rattle.tab_values.specs.Views as shown;
-ghost use Rattle.tab_values.specs.Views.{TookValue};
 
-use crate::fields::{
-    add_sized, number16, number32, policy, read_auth, read_sized, sized_within, word,
-};
-use crate::parameters::end_parameters;
-use crate::small_bytes::SmallBytes;
+use crate::fields::{number16, number32, policy, sized_within, word};
 use tab_bytes::{Buffer, Full, Reader};
+use tab_fields::{SmallBytes, add_sized, end_parameters, read_auth, read_sized};
 use tab_spec::{
     ALG_HMAC, ALG_KEYEDHASH, ALG_NULL, ALG_SHA256, ALG_SYMCIPHER, HT_NV_INDEX, MOST_NV_BYTES,
     NV_COUNTER, NV_KNOWN, NV_READERS, NV_TYPE, NV_WRITERS, OBJECT_DECRYPT, OBJECT_FIXED,

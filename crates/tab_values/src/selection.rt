@@ -1,12 +1,12 @@
 ghost use Rattle.std.specs.Prelude.{◌≡◌, ◌<◌, ◌≤◌, ◌+◌, ◌++◌, length, Some, IfErr, IsOk, OnOk};
 ghost use Rattle.std.specs.Prelude.{OnErr};
 ghost use Rattle.tab_spec.specs.Values.{is_selected, selection_of, selection_bytes, selected_bytes};
+ghost use Rattle.tab_fields.specs.Taking.{TookValue};
 ghost use Rattle.tab_values.specs.Views as shown;
-ghost use Rattle.tab_values.specs.Views.{TookValue};
 
 use crate::fields::{number8, number16, number32};
-use crate::small_bytes::SmallBytes;
 use tab_bytes::{Buffer, Full, Reader};
+use tab_fields::SmallBytes;
 use tab_spec::{ALG_SHA256, PCRS, RC_HASH, RC_INSUFFICIENT, RC_SIZE, RC_VALUE};
 
 /// A list of at most one selection of PCRs (Part 2, "TPML_PCR_SELECTION"): bit i of byte j is PCR 8

@@ -4,13 +4,12 @@ ghost use Rattle.tab_spec.specs.Session.{is_kind_number, needed_of, needed_flags
 ghost use Rattle.tab_spec.specs.Session.{are_flags, or_0, unless_0, is_nonce, is_set_to_another};
 ghost use Rattle.tab_spec.specs.Session.{restarted, updates_fit};
 ghost use Rattle.tab_spec.specs.Values.{fixed_bytes, sized, require};
+ghost use Rattle.tab_fields.specs.Taking.{Took, TookValue};
 ghost use Rattle.tab_values.specs.Views as shown;
-ghost use Rattle.tab_values.specs.Views.{TookValue};
-ghost use Rattle.tab_values.specs.Taking.{Took};
 
-use crate::fields::{add_sized, number8, number32, read_sized};
-use crate::small_bytes::SmallBytes;
+use crate::fields::{number8, number32};
 use tab_bytes::Reader;
+use tab_fields::{SmallBytes, add_sized, read_sized};
 use tab_spec::{AuthNeeded, RC_SIZE, SessionKind};
 
 /// A session as a device holds it (Part 1, "Session-Based Authorizations").

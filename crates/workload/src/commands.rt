@@ -12,7 +12,7 @@ use tab_spec::{
     CC_POLICY_GET_DIGEST, CC_READ_PUBLIC, CC_START_AUTH_SESSION, HEADER_BYTES, RH_NULL, RH_OWNER,
     RS_PW, ST_NO_SESSIONS, ST_SESSIONS, TRANSIENT_FIRST,
 };
-use tab_values::SmallBytes;
+use tab_fields::SmallBytes;
 
 // The parameters of CreatePrimary for an HMAC key: an empty auth value and no data, a keyed hash
 // that signs by HMAC with SHA-256, no outside information and no PCR.

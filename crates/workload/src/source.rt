@@ -11,7 +11,7 @@ use rand_chacha::ChaCha8Rng;
 use rand_core::SeedableRng;
 use rand_core::utils::NextWord;
 use std::marker::Model;
-use tab_values::SmallBytes;
+use tab_fields::SmallBytes;
 
 /// The script of a workload, line by line as it is pulled. A line has at most 133 bytes, its
 /// newline included. It takes no memory, never fails, and is seen as the bytes that are still to

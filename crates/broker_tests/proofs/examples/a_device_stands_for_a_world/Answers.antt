@@ -8,7 +8,7 @@ use Rattle.effect_spec.specs.Effect.{effect_of}
 use Rattle.tab_spec.specs.Auths.{auths_of}
 use Rattle.tab_spec.specs.Admission.{admitted}
 use Rattle.device_laws.proofs.Replies.{new_is_slots}
-use Rattle.device_spec.specs.Examples.{device_at}
+use Rattle.device_examples.specs.Examples.{device_at}
 use Rattle.device_spec.specs.Slots.{IsSlots}
 use Rattle.world_spec.specs.World.{client_step, plain_step}
 use Rattle.broker_core.specs.Tables.{table_of}

@@ -8,7 +8,7 @@ use Rattle.device_laws.proofs.Replies.{new_is_slots}
 use Rattle.session_swap.specs.Items as sessions
 use Rattle.session_swap.specs.Items.{ItemStands, flag, item_at, place_at}
 use Rattle.world_spec.specs.World.{table_in}
-use Rattle.broker_core.specs.Examples.{held_with, one_session_world, two_session_device, two_sessions}
+use Rattle.broker_tests.specs.Examples.{held_with, one_session_world, two_session_device, two_sessions}
 use Rattle.client_machine.specs.Settled.{IsSettled}
 use Rattle.client_machine.specs.Tables.{objects_in}
 use Rattle.broker_core.specs.Tables.{table_of}

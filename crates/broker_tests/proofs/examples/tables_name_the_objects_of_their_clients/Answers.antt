@@ -1,6 +1,6 @@
 use Rattle.std.proofs.Common.{◌≡◌, ◌≤◌, ℕ, zero, suc, Option, None, Some, refl, arith}
 use Rattle.std.proofs.lemmas.Bool.Decides.{nat_tests}
-use Rattle.broker_core.specs.Examples.{first_table, three_items}
+use Rattle.broker_tests.specs.Examples.{first_table, three_items}
 use Rattle.object_swap.specs.Items.{item_at}
 use Rattle.client_machine.specs.Tables.{naming_in}
 use Rattle.broker_tests.proofs.examples.tables_name_the_objects_of_their_clients.Goals as goal

@@ -1,0 +1,2 @@
+mod Trimming
+mod Writing
