@@ -15,9 +15,10 @@ sys.path.insert(0, str(TOP / "tools"))
 
 import device_model as model
 import tpm_commands as tpm
+from built_programs import program
 from live_daemon import Daemon
 
-PROGRAM = os.environ.get("TABRMD_PROGRAM") or TOP / "crates/tabrmd/out/tabrmd"
+PROGRAM = program()
 LIMIT = ("--journal-bytes", "1073741824")
 GET_RANDOM = tpm.command("GetRandom", parameters=model.uint16(8))
 SECONDS = 120

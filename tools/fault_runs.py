@@ -1,19 +1,14 @@
 """The program crates/fault_runs, which plays scripts over a device in memory that fails at listed transmissions: what it
 is given, what it tells of each run, and what is wrong with a run."""
 
-import os
-import pathlib
+import functools
 import subprocess
-import sys
 from collections import namedtuple
 
 import audit_text
+from built_programs import program
 from other_tools import load_tool
 
-TOOLS = pathlib.Path(__file__).resolve().parent
-CRATES = TOOLS.parent / "crates"
-FOLDER = CRATES / "fault_runs"
-PROGRAM = pathlib.Path(os.environ.get("TABRMD_FAULT_RUNS") or FOLDER / "out" / "fault_runs")
 MOST_LABELS = 256
 LIMIT = 2 ** 30                         # of the journal of a run
 
@@ -34,28 +29,10 @@ judge_audit = load_tool("judge_audit")
 FAULT_REPLY = judge_audit.FAULT_REPLY
 
 
-# ---- the program
-
-def is_old():
-    """Whether the program isn't there, or a file that it is built from is newer."""
-    if not PROGRAM.exists():
-        return True
-    built = PROGRAM.stat().st_mtime
-    sources = [CRATES.parent / "crates.txt"]
-    for folder in ("src", "specs", "proofs"):
-        sources += CRATES.glob(f"*/{folder}/**/*")
-    return any(source.stat().st_mtime > built for source in sources)
-
-
-def build():
-    """Proves and builds the program where that is due. `rt run` also runs it, here on no lines."""
-    if os.environ.get("TABRMD_FAULT_RUNS") or not is_old():
-        return
-    ran = subprocess.run(["rt", "run"], cwd=FOLDER, stdin=subprocess.DEVNULL, stdout=subprocess.PIPE,
-                         stderr=subprocess.STDOUT, text=True, check=False)
-    if ran.returncode != 0:
-        sys.exit(f"{ran.stdout}the program fault_runs could not be built")
-    PROGRAM.touch()
+@functools.cache
+def player():
+    """The program, which is looked for once."""
+    return program("fault_runs")
 
 
 # ---- runs
@@ -79,7 +56,7 @@ class Script:
         """Plays the script once for each of these lists of transmissions that fail, in one process."""
         failings = list(failings)
         given = "".join(" ".join(map(str, [self.seed.hex(), *failing])) + "\n" + self.given for failing in failings)
-        ran = subprocess.run([PROGRAM], input=given.encode(), capture_output=True, check=False)
+        ran = subprocess.run([player()], input=given.encode(), capture_output=True, check=False)
         if ran.returncode != 0:
             raise Wrong(f"the program ended with status {ran.returncode}: {ran.stderr.decode()[:200]}")
         told = iter(ran.stdout.splitlines(True))

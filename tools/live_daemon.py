@@ -6,7 +6,9 @@ import socket
 import subprocess
 import time
 
-PROGRAM = os.environ.get("TABRMD_PROGRAM") or pathlib.Path(__file__).resolve().parent.parent / "tabrmd"
+from built_programs import program
+
+PROGRAM = program()
 SECONDS = 60
 
 

@@ -1,11 +1,11 @@
 """The program over a script that is made while it runs, so that what it answered can stand in a later line."""
 
-import os
-import pathlib
 import subprocess
 import sys
 
-PROGRAM = os.environ.get("TABRMD_PROGRAM") or pathlib.Path(__file__).resolve().parent.parent / "tabrmd"
+from built_programs import program
+
+PROGRAM = program()
 
 
 class LiveProgram:
