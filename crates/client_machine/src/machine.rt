@@ -34,11 +34,11 @@ use object_swap::Objects;
 use session_swap::Sessions;
 use std::alloc::AllocError;
 use tab_bytes::{Buffer, Reader};
+use tab_fields::{end_parameters, in_parameter};
 use tab_spec::{
     Admitted, CC_CONTEXT_LOAD, CC_FLUSH_CONTEXT, HEADER_BYTES, HT_TRANSIENT, RC_HANDLE,
     RC_INSUFFICIENT, RC_SUCCESS, RC_VALUE, ST_NO_SESSIONS,
 };
-use tab_fields::{end_parameters, in_parameter};
 use tab_wire::{Tables, error_reply, is_session_handle, octet_of, response_handle, start_response};
 use virtual_handles::ClientTable;
 

@@ -15,11 +15,11 @@ use crate::client_view::ClientView;
 use fx_capability::{Viewed, client_capability};
 use session_swap::Sessions;
 use tab_bytes::{Buffer, Reader};
+use tab_fields::{end_parameters, in_parameter, read_context};
 use tab_spec::{
     Admitted, CC_CONTEXT_LOAD, CC_CONTEXT_SAVE, CC_GET_CAPABILITY, ContextLimits, MOST_BLOB_BYTES,
     RC_SIZE, RC_SUCCESS, RC_VALUE, ST_NO_SESSIONS,
 };
-use tab_fields::{end_parameters, in_parameter, read_context};
 use tab_wire::{end_response, error_reply, is_session_handle, makes_object, start_response};
 use virtual_handles::ClientTable;
 

@@ -12,6 +12,7 @@ ghost use Rattle.effect_spec.specs.Contexts.{context_of};
 ghost use Rattle.device_spec.specs.Answers as answers;
 
 use tab_bytes::Reader;
+use tab_fields::{read_context, read_sized};
 use tab_spec::{
     CC_CONTEXT_LOAD, CC_CONTEXT_SAVE, CC_FLUSH_CONTEXT, CC_GET_CAPABILITY, CC_START_AUTH_SESSION,
     CC_STARTUP, ContextLimits, HEADER_BYTES, HT_HMAC_SESSION, HT_POLICY_SESSION, HT_TRANSIENT,
@@ -19,7 +20,6 @@ use tab_spec::{
     RC_JOURNAL_FULL, RC_MEMORY, RC_OBJECT_MEMORY, RC_REFERENCE_H0, RC_REFERENCE_S0,
     RC_SESSION_MEMORY, RC_SUCCESS, SESSION_NUMBERS, ST_NO_SESSIONS, ST_SESSIONS,
 };
-use tab_fields::{read_context, read_sized};
 use tab_wire::{code_of, is_saved_object, is_session_handle, octet_of, row_of, tag_of};
 
 /// Whether a broker takes a response as the answer to the command that it sent to a device with

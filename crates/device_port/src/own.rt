@@ -14,8 +14,8 @@ ghost use Rattle.device_port.specs.Own.{Asks, IsOwn, Succeeds};
 use crate::answers::takes;
 use crate::device::{Device, DeviceFailed};
 use tab_bytes::Buffer;
-use tab_spec::{CC_CONTEXT_LOAD, HEADER_BYTES, ST_NO_SESSIONS};
 use tab_fields::SmallBytes;
+use tab_spec::{CC_CONTEXT_LOAD, HEADER_BYTES, ST_NO_SESSIONS};
 
 /// Why a call over the device failed.
 #[derive(Clone, Copy)]

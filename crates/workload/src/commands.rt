@@ -7,12 +7,12 @@ ghost use Rattle.script_spec.specs.Workload.{objects_parameters, password_comman
 ghost use Rattle.script_spec.specs.Workload.{policy_session_parameters, workload_command};
 ghost use Rattle.script_spec.specs.Workload.{zeros_parameters};
 
+use tab_fields::SmallBytes;
 use tab_spec::{
     CC_CREATE_PRIMARY, CC_FLUSH_CONTEXT, CC_GET_CAPABILITY, CC_GET_RANDOM, CC_PCR_EXTEND,
     CC_POLICY_GET_DIGEST, CC_READ_PUBLIC, CC_START_AUTH_SESSION, HEADER_BYTES, RH_NULL, RH_OWNER,
     RS_PW, ST_NO_SESSIONS, ST_SESSIONS, TRANSIENT_FIRST,
 };
-use tab_fields::SmallBytes;
 
 // The parameters of CreatePrimary for an HMAC key: an empty auth value and no data, a keyed hash
 // that signs by HMAC with SHA-256, no outside information and no PCR.

@@ -11,8 +11,8 @@ use crate::part::{Part, byte_of};
 use crate::written::Written;
 use link_port::{Failed, Sink};
 use std::marker::Model;
-use tab_hash::Sum;
 use tab_fields::SmallBytes;
+use tab_hash::Sum;
 
 /// Counts the replies of a script as their lines are written to it, and hashes them. It keeps no
 /// line, takes no memory, never fails, and is seen as the bytes that were written. The counts stand
