@@ -1,5 +1,5 @@
 -- The grammar of the program's words: a command, and then its options in any order.
-use Rattle.std.specs.Prelude.{ℕ, ⊤, ◌-◌, ◌≤◌, ◌^◌, ◌==◌, ◌&&◌, not, nat_le, Bool, true, false, List, [], ◌∷◌, length, drop, codes, Option, Some, None, is_some, Result, Ok, Err, if◌then◌else◌}
+use Rattle.std.specs.Prelude.{ℕ, ⊤, IsTrue, ◌-◌, ◌≤◌, ◌^◌, ◌==◌, ◌&&◌, not, nat_le, Bool, true, false, List, [], ◌∷◌, length, drop, codes, Option, Some, None, is_some, Result, Ok, Err, if◌then◌else◌}
 use Rattle.std.specs.Cmp.Lexicographic.{pointwise}
 use Rattle.std.specs.List.{starts_with, list_any, list_all, before_first, after_first}
 use Rattle.std.specs.Map.{lookup}
@@ -165,6 +165,10 @@ abbrev pub is_serve : Verb → Bool
 is_serve Run = false
 is_serve Serve = true
 is_serve Workload = false
+
+-- whether connections are served
+abbrev pub IsServe : Verb → Type 0
+IsServe job = IsTrue (is_serve job)
 
 abbrev pub is_workload : Verb → Bool
 is_workload Run = false

@@ -1,16 +1,11 @@
 -- What a plan leaves that was carried out, by its command.
-use Rattle.std.specs.Prelude.{ℕ, IsTrue, List, Option}
+use Rattle.std.specs.Prelude.{ℕ, List, Option}
 use Rattle.history_spec.specs.Entry.{Entry}
 use Rattle.command_line.specs.declared.words.Verb.{Verb}
 use Rattle.command_line.specs.declared.words.Verb.TheVariants.{Run, Workload, Serve}
 use Rattle.command_line.specs.declared.words.Plan.{Plan}
-use Rattle.command_line.specs.Words.{is_serve}
 use Rattle.tab_server.specs.Run.{Before, After, Leaves}
 use Rattle.tab_server.specs.Workload.{LeavesWorkload}
-
--- whether connections are served
-abbrev pub IsServe : Verb → Type 0
-IsServe job = IsTrue (is_serve job)
 
 -- of a command that serves none; what those leave is `LeavesServe`
 abbrev pub LeavesByVerb : Verb → Plan → Before → After → (status detail : ℕ) → Option (List Entry) → Type 0

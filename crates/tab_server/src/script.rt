@@ -11,7 +11,8 @@ ghost use Rattle.tab_server.specs.Status.{EndsStart, status_of, detail_of};
 ghost use Rattle.tab_server.specs.Run.{Begins, Leaves, after, after_of, before, before_of, limits};
 ghost use Rattle.tab_server.specs.Endings.{StandsToEnd, WroteBehind, is_end};
 ghost use Rattle.tab_server.specs.Workload.{LeavesWorkload};
-ghost use Rattle.tab_server.specs.Done.{IsServe, LeavesPlan};
+ghost use Rattle.command_line.specs.Words.{IsServe};
+ghost use Rattle.tab_server.specs.Done.{LeavesPlan};
 
 use crate::cause::{Cause, cause_of, status};
 use crate::ended_broker::end_broker;

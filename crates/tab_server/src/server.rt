@@ -3,9 +3,9 @@ ghost use Rattle.std.specs.Option.{option_map};
 ghost use Rattle.std.specs.String.{string_bytes};
 ghost use Rattle.broker_core.specs.Broker.{IsAtBase, told_origin};
 ghost use Rattle.link_pool.specs.Services.{IsServed, client_of, given_of};
-ghost use Rattle.command_line.specs.Words.{accepted};
+ghost use Rattle.command_line.specs.Words.{IsServe, accepted};
 ghost use Rattle.tab_server.specs.Status.{EndsStart};
-ghost use Rattle.tab_server.specs.Done.{IsServe, LeavesPlan};
+ghost use Rattle.tab_server.specs.Done.{LeavesPlan};
 ghost use Rattle.tab_server.specs.Run.{after_of, before_of};
 ghost use Rattle.tab_server.specs.Serving.{IsLinkDone, LeavesPool, LeavesServe};
 

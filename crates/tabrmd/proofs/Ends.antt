@@ -9,7 +9,7 @@ use Rattle.broker_lock.specs.Known.{Origin}
 use Rattle.command_line.specs.declared.words.Verb.{Verb}
 use Rattle.command_line.specs.declared.words.Verb.TheVariants.{Run, Serve, Workload}
 use Rattle.command_line.specs.declared.words.Plan.{Plan}
-use Rattle.tab_server.specs.Done.{IsServe}
+use Rattle.command_line.specs.Words.{IsServe}
 use Rattle.tab_server.specs.Status.{IsNumberOut}
 use Rattle.tab_server.proofs.Doing.{numbers_kept}
 

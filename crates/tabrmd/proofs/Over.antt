@@ -15,14 +15,15 @@ use Rattle.accept_loop.specs.Connections.{ConnectionEnds}
 use Rattle.accept_loop.specs.declared.serving.LinkDone.{LinkDone}
 use Rattle.link_pool.specs.Services.{IsServed, client_of, given_of}
 use Rattle.link_pool.specs.declared.done.Service.{Service}
+use Rattle.command_line.specs.Words.{IsServe}
 use Rattle.command_line.specs.declared.words.Plan.{Plan}
-use Rattle.tab_server.specs.Done.{IsServe, LeavesPlan}
+use Rattle.tab_server.specs.Done.{LeavesPlan}
 use Rattle.tab_server.specs.Run.{Before, before_of}
 use Rattle.tab_server.specs.Serving.{IsLinkDone, LeavesPool, LeavesServe}
 use Rattle.tab_server.specs.Status.{EndsStart}
 use Rattle.tab_server.specs.declared.serving.TheConstants.{LINKS_MOST}
-use Rattle.tabrmd.specs.declared.finished.Finished.{Finished}
-use Rattle.tabrmd.specs.declared.target.Target.{Target}
+use Rattle.daemon_ends.specs.declared.finished.Finished.{Finished}
+use Rattle.daemon_ends.specs.declared.target.Target.{Target}
 use Rattle.tabrmd.specs.Found.{contexts_of, seen_at}
 use Rattle.tabrmd.specs.Over.{Around, IsCarriedSince, IsCarried, IsOver, after_at, around}
 

@@ -1,5 +1,5 @@
--- The device that the words name, as it was found.
-use Rattle.std.specs.Prelude.{◌≡◌, [], Option, None}
+-- What the device of a target tells at first.
+use Rattle.std.specs.Prelude.{[], Option, None}
 use Rattle.tab_spec.specs.Numbers.{profile_numbers}
 use Rattle.tab_spec.specs.declared.contexts.ContextLimits.{ContextLimits}
 use Rattle.tab_spec.specs.declared.contexts.TheConstants.{PROFILE_CONTEXTS, TPM_CONTEXTS}
@@ -7,24 +7,8 @@ use Rattle.device_port.specs.Device.{Seen}
 use Rattle.device_memory.specs.Memory.{fresh_device, told_by}
 use Rattle.broker_lock.specs.Known.{Origin}
 use Rattle.broker_core.specs.Broker.{told_origin}
-use Rattle.command_line.specs.declared.words.DeviceWord.{DeviceWord}
-use Rattle.command_line.specs.declared.words.DeviceWord.TheVariants as words
-use Rattle.tabrmd.specs.declared.target.Target.{Target}
-use Rattle.tabrmd.specs.declared.target.Target.TheVariants as targets
-
--- one in memory is the one of the seed that is named, and none in memory stands for one behind a
--- socket; one of the profile's stands
--- for no other TPM, and the other way round
-abbrev pub IsFound : {S K : Type 0} → DeviceWord → Target S K → Type 0
-IsFound (words.Memory seed) target = target ≡ targets.Memory seed
-IsFound (words.Unix path) (targets.Memory seed) = ⊥
-IsFound (words.Unix path) (targets.Link source sink) = Unit {0}
-IsFound (words.Unix path) (targets.Tpm source sink) = ⊥
-IsFound (words.Unix path) targets.Unreachable = Unit {0}
-IsFound (words.Tpm path) (targets.Memory seed) = ⊥
-IsFound (words.Tpm path) (targets.Link source sink) = ⊥
-IsFound (words.Tpm path) (targets.Tpm source sink) = Unit {0}
-IsFound (words.Tpm path) targets.Unreachable = Unit {0}
+use Rattle.daemon_ends.specs.declared.target.Target.{Target}
+use Rattle.daemon_ends.specs.declared.target.Target.TheVariants as targets
 
 -- what the contexts may be of the device that is run for it: those of the profile, and larger ones
 -- of a TPM that needn't be of the profile

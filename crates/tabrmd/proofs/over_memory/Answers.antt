@@ -7,8 +7,8 @@ use Rattle.tab_spec.specs.declared.contexts.TheConstants.{PROFILE_CONTEXTS}
 use Rattle.audit_journal.specs.Journal.{JournalView}
 use Rattle.device_memory.specs.Memory.{DeviceInMemory, told_by}
 use Rattle.link_pool.specs.Services.{IsServed, client_of, given_of}
-use Rattle.command_line.specs.Words.{accepted}
-use Rattle.tab_server.specs.Done.{IsServe, LeavesPlan}
+use Rattle.command_line.specs.Words.{IsServe, accepted}
+use Rattle.tab_server.specs.Done.{LeavesPlan}
 use Rattle.tab_server.specs.Run.{after_of, before_of}
 use Rattle.tab_server.specs.Status.{EndsStart}
 use Rattle.tab_server.specs.Serving.{IsLinkDone, LeavesPool, LeavesServe}

@@ -8,7 +8,7 @@ use Rattle.device_link.specs.Link.{ends_of as link_ends, told_by as told_at_link
 use Rattle.device_memory.specs.Memory.{fresh_device, told_by}
 use Rattle.accept_loop.specs.Connections.{ends_of}
 use Rattle.command_line.specs.Words.{accepted}
-use Rattle.tabrmd.specs.declared.target.Target.TheVariants as targets
+use Rattle.daemon_ends.specs.declared.target.Target.TheVariants as targets
 use Rattle.tabrmd.proofs.Over.{handed, none_told}
 use Rattle.tabrmd.proofs.run.Goals as goal
 

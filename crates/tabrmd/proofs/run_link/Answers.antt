@@ -7,7 +7,7 @@ use Rattle.device_link.specs.Link.{ends_of as link_ends, told_by as told_at_link
 use Rattle.device_link.specs.Watched.{WatchedAtLink}
 use Rattle.accept_loop.specs.Connections.{ends_of}
 use Rattle.command_line.specs.Words.{accepted}
-use Rattle.tabrmd.specs.declared.target.Target.TheVariants as targets
+use Rattle.daemon_ends.specs.declared.target.Target.TheVariants as targets
 use Rattle.tabrmd.specs.Found.{unseen}
 use Rattle.tabrmd.proofs.Over.{carried_since, handed, none_told}
 use Rattle.tabrmd.proofs.run_link.Goals as goal
