@@ -29,15 +29,17 @@ def is_listening(path):
 
 class Daemon:
     """A daemon of so many connections, over a device in memory of this seed, or over the one that a word names. It
-    listens when this is made, or it has ended. The end of a `with` kills it if it still runs."""
+    listens when this is made, or it has ended. `variables` are put into its environment. The end of a `with` kills it if
+    it still runs."""
 
     def __init__(self, path, connections, *words, seed="0" * 64, device=None, program=PROGRAM, output=subprocess.PIPE,
-                 umask=-1, preexec_fn=None):
+                 umask=-1, preexec_fn=None, variables=None):
         self.path = pathlib.Path(path)
         self.process = subprocess.Popen(
             [program, "serve", "--device", device or f"memory:{seed}", "--socket", str(path), "--connections",
              str(connections), *words],
-            stdin=subprocess.DEVNULL, stdout=output, stderr=subprocess.PIPE, umask=umask, preexec_fn=preexec_fn)
+            stdin=subprocess.DEVNULL, stdout=output, stderr=subprocess.PIPE, umask=umask, preexec_fn=preexec_fn,
+            env={**os.environ, **(variables or {})})
         until = time.monotonic() + SECONDS
         while not is_listening(self.path) and self.process.poll() is None:
             if time.monotonic() > until:
@@ -63,11 +65,23 @@ class Daemon:
         """How many descriptors the process has open."""
         return len(os.listdir(f"/proc/{self.process.pid}/fd"))
 
+    def threads(self):
+        """The numbers of its threads."""
+        return set(os.listdir(f"/proc/{self.process.pid}/task"))
+
     def connect(self):
         link = socket.socket(socket.AF_UNIX)
         link.settimeout(SECONDS)
         link.connect(str(self.path))
         return link
+
+    def refuses(self):
+        """Whether no client can connect any more. One that can is closed here."""
+        try:
+            self.connect().close()
+        except (ConnectionRefusedError, FileNotFoundError):
+            return True
+        return False
 
     def stop(self):
         """Asks it to end, and waits until it has; whether that was done."""
