@@ -1,6 +1,6 @@
 /* Refuses one allocation of the program that it is loaded into: the one with the number that REFUSED_ALLOCATION tells,
  * counted from 1. How many allocations there were stands in the first eight bytes of the file that COUNTED_ALLOCATIONS
- * names, at each moment, since a program may end without telling anybody. tools/refuse_memory builds and loads it. */
+ * names, at each moment, since a program may end without telling anybody. tools/preloaded.py builds it. */
 #define _GNU_SOURCE
 #include <dlfcn.h>
 #include <errno.h>
